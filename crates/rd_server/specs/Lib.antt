@@ -1,0 +1,4 @@
+pub mod Fields
+pub mod TraceLines
+pub mod Forms
+pub mod Reading

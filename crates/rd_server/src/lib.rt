@@ -1,0 +1,5 @@
+//! What the programs of the directory do: a trace replayed to its output.
+#![tactic(auto)]
+
+mod fields;
+mod lines;
