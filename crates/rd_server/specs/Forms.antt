@@ -1,5 +1,5 @@
 -- What the directory reads of a datagram so far (RFC 7252 section 3), and what it answers.
-use Rattle.std.specs.Prelude.{ℕ, ◌+◌, ◌-◌, ◌==◌, ◌&&◌, ◌||◌, Bool, true, false, nat_lt, nat_le, List, [], ◌∷◌, ◌++◌, length, take, drop, codes, decimal, Option, Some, None, option_map, option_and_then, if◌then◌else◌}
+use Rattle.std.specs.Prelude.{ℕ, ◌+◌, ◌-◌, ◌==◌, ◌&&◌, ◌||◌, Bool, true, false, not, nat_lt, nat_le, List, [], ◌∷◌, ◌++◌, length, take, drop, codes, decimal, Option, Some, None, option_map, option_and_then, if◌then◌else◌}
 use Rattle.std.specs.List.{list_all}
 use Rattle.rd_server.specs.Fields.{cut, behind, is_digit}
 use Rattle.rd_server.specs.TraceLines.{◌>>=◌}
@@ -34,7 +34,7 @@ is_plain b = (nat_le 65 b && nat_le b 90) || (nat_le 97 b && nat_le b 122) || is
 
 -- whether a text is a segment of a plain target: not empty, and plain octets alone
 abbrev pub is_segment : List ℕ → Bool
-is_segment text = nat_lt 0 (length text) && list_all is_plain text
+is_segment text = not (length text == 0) && list_all is_plain text
 
 abbrev pub is_path : Option (List ℕ) → Bool
 is_path None = false
@@ -66,7 +66,7 @@ is_name_octet b = nat_le 0x20 b && nat_lt b 0x7f
 
 -- an endpoint name of octets that may stand in one, and not empty
 abbrev pub is_name : List ℕ → Bool
-is_name text = nat_lt 0 (length text) && list_all is_name_octet text
+is_name text = not (length text == 0) && list_all is_name_octet text
 
 -- the value of a Uri-Query option of at most 12 octets that follows Content-Format, and what follows it
 unfoldable pub query_of : List ℕ → Option (List ℕ × List ℕ)
@@ -88,7 +88,7 @@ first_form_of text = do
   query ← query_of options
   name ← behind (codes "ep=") query.0
   document ← behind (0xff ∷ []) query.1
-  if is_name name && is_plain_document document then Some (name, document) else None
+  if is_name name then (if is_plain_document document then Some (name, document) else None) else None
 
 -- the code POST
 abbrev pub post : ℕ

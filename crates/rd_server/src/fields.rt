@@ -5,7 +5,8 @@ ghost use Rattle.rd_server.specs.Fields as fields;
 
 /// What stands before the first separator, and what stands after it.
 pub fn cut(separator: u8, text: &[u8]) -> Option<(&[u8], &[u8])>
-    ensures { option_map (λ p. (p.0.now, p.1.now)) result ≡ fields.cut separator text.now }
+    ensures value { option_map (λ p. (p.0.now, p.1.now)) result ≡ fields.cut separator text.now }
+    ensures shorter { IfSome result (λ p. length p.1.now < length text.now) }
 {
     match place_of(separator, text) {
         None => None,
