@@ -1,0 +1,5 @@
+pub mod Notation
+pub mod OnLiterals
+pub mod ReadingExamples
+pub mod RequestExamples
+pub mod BlockExamples
