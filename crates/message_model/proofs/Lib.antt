@@ -6,3 +6,5 @@ pub mod BlockExamples
 pub mod ByteLemmas
 pub mod OptionLemmas
 pub mod TailLemmas
+pub mod HeaderLemmas
+pub mod MessageLaws
