@@ -8,3 +8,6 @@ pub mod OptionLemmas
 pub mod TailLemmas
 pub mod HeaderLemmas
 pub mod MessageLaws
+pub mod LocationLaws
+pub mod BlockLaws
+pub mod TableLemmas

@@ -1,6 +1,7 @@
 -- The parts of a request, each found by filtering its options (RFC 7252 section 5.10).
 use Rattle.std.specs.Prelude.{ℕ, ◌+◌, ◌-◌, ◌*◌, Bool, false, not, ◌&&◌, ◌||◌, List, [], ◌∷◌, length, fold, Option, option_map, codes, bytes_eq, ◌==◌, nat_le, if◌then◌else◌}
 use Rattle.std.specs.List.{list_all}
+use Rattle.std.specs.Char.{is_ascii_digit}
 use Rattle.message_model.specs.declared.requests.Path.{Path}
 use Rattle.message_model.specs.declared.requests.Path.TheVariants as path
 use Rattle.message_model.specs.Numbers.{uint_of}
@@ -9,15 +10,9 @@ use Rattle.message_model.specs.Codes.{get, post, delete}
 use Rattle.message_model.specs.OptionTable as table
 use Rattle.message_model.specs.OptionTable.{values, first_of, stands_in, recognized}
 
--- The digits 0 to 9 in ASCII.
+-- The digit 0 in ASCII.
 abbrev pub digit_zero : ℕ
 digit_zero = 48
-
-abbrev pub digit_nine : ℕ
-digit_nine = 57
-
-abbrev pub is_digit : ℕ → Bool
-is_digit b = nat_le digit_zero b && nat_le b digit_nine
 
 -- A zero that other digits follow.
 abbrev pub has_leading_zero : List ℕ → Bool
@@ -32,7 +27,7 @@ most_digits = 15
 -- A decimal number of 1 to 15 digits without leading zero.
 abbrev pub is_location : List ℕ → Bool
 is_location text =
-    nat_le 1 (length text) && nat_le (length text) most_digits && list_all is_digit text && not (has_leading_zero text)
+    nat_le 1 (length text) && nat_le (length text) most_digits && list_all is_ascii_digit text && not (has_leading_zero text)
 
 -- The number that decimal digits say.
 abbrev pub decimal_value : List ℕ → ℕ
@@ -42,14 +37,26 @@ decimal_value digits = fold (λ n digit. n * 10 + (digit - digit_zero)) 0 digits
 unfoldable pub location_of : List ℕ → Path
 location_of text = if is_location text then path.Location (decimal_value text) else path.Other
 
+-- The resource that the segment behind `.well-known` names (RFC 9176 sections 4.1 and 5.1).
+abbrev pub well_known_of : List ℕ → Path
+well_known_of segment =
+    if bytes_eq segment (codes "core") then path.Core
+    else if bytes_eq segment (codes "rd") then path.SimpleRd
+    else path.Other
+
+-- The resource that the segment behind `rd-lookup` names (RFC 9176 section 6).
+abbrev pub lookup_of : List ℕ → Path
+lookup_of segment =
+    if bytes_eq segment (codes "res") then path.Res
+    else if bytes_eq segment (codes "ep") then path.Ep
+    else path.Other
+
 -- The resource that two segments name.
 abbrev pub path_of_two : List ℕ → List ℕ → Path
 path_of_two first second =
-    if bytes_eq first (codes ".well-known") then
-    (if bytes_eq second (codes "core") then path.Core else if bytes_eq second (codes "rd") then path.SimpleRd else path.Other)
+    if bytes_eq first (codes ".well-known") then well_known_of second
     else if bytes_eq first (codes "rd") then location_of second
-    else if bytes_eq first (codes "rd-lookup") then
-    (if bytes_eq second (codes "res") then path.Res else if bytes_eq second (codes "ep") then path.Ep else path.Other)
+    else if bytes_eq first (codes "rd-lookup") then lookup_of second
     else path.Other
 
 -- The resource that the segments of a path name (RFC 9176 sections 4.1, 5 and 6).
