@@ -11,3 +11,6 @@ pub mod MessageLaws
 pub mod LocationLaws
 pub mod BlockLaws
 pub mod TableLemmas
+pub mod OrderLemmas
+pub mod ValueLemmas
+pub mod KeyLaws

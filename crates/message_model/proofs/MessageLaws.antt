@@ -180,3 +180,10 @@ pub spelling_once : (m n : Message) → IsMessage m → IsMessage n → spelling
 spelling_once m n fits fit e =
     let same : ◌≡◌ {A = Result Message Unread} (Ok m) (Ok n) = sym (reading_again m fits) ∙ ap reading e ∙ reading_again n fit in
     ok_is m n same
+
+ok_is_no_err : (m : Message) (fault : Unread) → ◌≡◌ {A = Result Message Unread} (Ok m) (Err fault) → ⊥
+ok_is_no_err m fault e = cc
+
+-- Bytes that are refused spell no message.
+pub unread_spells_none : (bytes : List ℕ) (fault : Unread) (m : Message) → reading bytes ≡ Err fault → IsMessage m → spelling m ≡ bytes → ⊥
+unread_spells_none bytes fault m e fits same = ok_is_no_err m fault (sym (reading_again m fits) ∙ ap reading same ∙ e)

@@ -5,7 +5,7 @@ use Rattle.message_model.specs.declared.requests.Refusal.TheVariants as refusal
 use Rattle.message_model.specs.Codes.{get, post, put}
 use Rattle.message_model.specs.Message.{Opt}
 use Rattle.message_model.specs.OptionTable as table
-use Rattle.message_model.specs.OptionTable.{recognized, first_bad_option, values}
+use Rattle.message_model.specs.OptionTable.{recognized_options, first_bad_option, values}
 use Rattle.message_model.specs.Request.{path_of, observe_in, etags_in, accept_in}
 use Rattle.message_model.specs.Refusals.{refusal_of, refusal_code, refusal_word}
 use Rattle.message_model.specs.RequestKey.{key_in}

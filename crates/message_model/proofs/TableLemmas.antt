@@ -7,31 +7,31 @@ use Rattle.std.proofs.lemmas.List.{map-append}
 use Rattle.std.proofs.lemmas.List.Elements.{filter-append}
 use Rattle.std.proofs.lemmas.List.Folds.{find-append}
 use Rattle.message_model.specs.Message.{Opt, AreOptionsAfter}
-use Rattle.message_model.specs.OptionTable.{is_recognized, is_critical, Placed, placed, is_recognized_there, recognized, first_bad_option, values, stands_in}
+use Rattle.message_model.specs.OptionTable.{is_recognized, is_critical, Placed, placed_options, is_recognized_there, recognized_options, first_bad_option, values, stands_in}
 
 -- an option with one more before it
 abbrev behind : Opt → Placed → Placed
 behind option p = (option ∷ p.0, p.1)
 
-pub placed-push : (options : List Opt) (option : Opt) → placed (options ++ option ∷ []) ≡ placed options ++ (options, option) ∷ []
-unfolding placed
-placed-push [] option = refl
-placed-push (first ∷ options) option =
-    ap (λ (ps : List Placed). ([], first) ∷ map (behind first) ps) (placed-push options option)
-        ∙ ap (λ (ps : List Placed). ([], first) ∷ ps) (map-append (behind first) (placed options) ((options, option) ∷ []))
+pub placed_options-push : (options : List Opt) (option : Opt) → placed_options (options ++ option ∷ []) ≡ placed_options options ++ (options, option) ∷ []
+unfolding placed_options
+placed_options-push [] option = refl
+placed_options-push (first ∷ options) option =
+    ap (λ (ps : List Placed). ([], first) ∷ map (behind first) ps) (placed_options-push options option)
+        ∙ ap (λ (ps : List Placed). ([], first) ∷ ps) (map-append (behind first) (placed_options options) ((options, option) ∷ []))
 
 picked : (b : Bool) (p : Placed) → map (λ (q : Placed). q.1) (cond b (p ∷ []) []) ≡ cond b (p.1 ∷ []) []
 picked true p = refl
 picked false p = refl
 
 -- The recognized options with one more option at the end.
-pub recognized-push : (options : List Opt) (option : Opt) → recognized (options ++ option ∷ []) ≡ recognized options ++ (if is_recognized options option.0 (length option.1) then option ∷ [] else [])
-unfolding recognized
-recognized-push options option =
-    ap (λ (ps : List Placed). map (λ (q : Placed). q.1) (filter is_recognized_there ps)) (placed-push options option)
-        ∙ ap (λ (ps : List Placed). map (λ (q : Placed). q.1) ps) (filter-append is_recognized_there (placed options) ((options, option) ∷ []))
-        ∙ map-append (λ (q : Placed). q.1) (filter is_recognized_there (placed options)) (filter is_recognized_there ((options, option) ∷ []))
-        ∙ ap (λ (os : List Opt). map (λ (q : Placed). q.1) (filter is_recognized_there (placed options)) ++ os) (picked (is_recognized options option.0 (length option.1)) (options, option))
+pub recognized_options-push : (options : List Opt) (option : Opt) → recognized_options (options ++ option ∷ []) ≡ recognized_options options ++ (if is_recognized options option.0 (length option.1) then option ∷ [] else [])
+unfolding recognized_options
+recognized_options-push options option =
+    ap (λ (ps : List Placed). map (λ (q : Placed). q.1) (filter is_recognized_there ps)) (placed_options-push options option)
+        ∙ ap (λ (ps : List Placed). map (λ (q : Placed). q.1) ps) (filter-append is_recognized_there (placed_options options) ((options, option) ∷ []))
+        ∙ map-append (λ (q : Placed). q.1) (filter is_recognized_there (placed_options options)) (filter is_recognized_there ((options, option) ∷ []))
+        ∙ ap (λ (os : List Opt). map (λ (q : Placed). q.1) (filter is_recognized_there (placed_options options)) ++ os) (picked (is_recognized options option.0 (length option.1)) (options, option))
 
 valued : (number : ℕ) (b : Bool) (option : Opt) → map (λ (o : Opt). o.1) (filter (λ (o : Opt). o.0 == number) (cond b (option ∷ []) [])) ≡ cond (b && (option.0 == number)) (option.1 ∷ []) []
 valued number true option =
@@ -43,10 +43,10 @@ pub values-push : (number : ℕ) (options : List Opt) (option : Opt) → values 
 unfolding values
 values-push number options option =
     let b : Bool = is_recognized options option.0 (length option.1) in
-    ap (λ (os : List Opt). map (λ (o : Opt). o.1) (filter (λ (o : Opt). o.0 == number) os)) (recognized-push options option)
-        ∙ ap (λ (os : List Opt). map (λ (o : Opt). o.1) os) (filter-append (λ (o : Opt). o.0 == number) (recognized options) (cond (is_recognized options option.0 (length option.1)) (option ∷ []) []))
-        ∙ map-append (λ (o : Opt). o.1) (filter (λ (o : Opt). o.0 == number) (recognized options)) (filter (λ (o : Opt). o.0 == number) (cond (is_recognized options option.0 (length option.1)) (option ∷ []) []))
-        ∙ ap (λ (vs : List (List ℕ)). map (λ (o : Opt). o.1) (filter (λ (o : Opt). o.0 == number) (recognized options)) ++ vs) (valued number (is_recognized options option.0 (length option.1)) option)
+    ap (λ (os : List Opt). map (λ (o : Opt). o.1) (filter (λ (o : Opt). o.0 == number) os)) (recognized_options-push options option)
+        ∙ ap (λ (os : List Opt). map (λ (o : Opt). o.1) os) (filter-append (λ (o : Opt). o.0 == number) (recognized_options options) (cond (is_recognized options option.0 (length option.1)) (option ∷ []) []))
+        ∙ map-append (λ (o : Opt). o.1) (filter (λ (o : Opt). o.0 == number) (recognized_options options)) (filter (λ (o : Opt). o.0 == number) (cond (is_recognized options option.0 (length option.1)) (option ∷ []) []))
+        ∙ ap (λ (vs : List (List ℕ)). map (λ (o : Opt). o.1) (filter (λ (o : Opt). o.0 == number) (recognized_options options)) ++ vs) (valued number (is_recognized options option.0 (length option.1)) option)
 
 -- an option where it stands is critical and not recognized
 abbrev is_bad_there : Placed → Bool
@@ -61,37 +61,6 @@ map_or (Some q) b p = refl
 pub first_bad_option-push : (options : List Opt) (option : Opt) → first_bad_option (options ++ option ∷ []) ≡ option_or (first_bad_option options) (if is_critical option.0 && not (is_recognized options option.0 (length option.1)) then Some option.0 else None)
 unfolding first_bad_option
 first_bad_option-push options option =
-    ap (λ (ps : List Placed). option_map (λ (q : Placed). q.1.0) (find is_bad_there ps)) (placed-push options option)
-        ∙ ap (λ (o : Option Placed). option_map (λ (q : Placed). q.1.0) o) (find-append is_bad_there (placed options) ((options, option) ∷ []))
-        ∙ map_or (find is_bad_there (placed options)) (is_bad_there (options, option)) (options, option)
-
--- ---- options in order
-
--- The number of the last of these options, or the number before where there is none.
-abbrev pub end_number : ℕ → List Opt → ℕ
-end_number before [] = before
-end_number before (option ∷ options) = end_number option.0 options
-
-pub end_number-ge : (before : ℕ) (options : List Opt) → AreOptionsAfter before options → before ≤ end_number before options
-end_number-ge before [] fits = omega arith
-end_number-ge before (option ∷ options) fits =
-    let rises : before ≤ option.0 = fits.0 in
-    omega (arith, end_number-ge option.0 options fits.4)
-
-or_none : (b : Bool) → (b || false) ≡ b
-or_none true = refl
-or_none false = refl
-
--- Of options in order, one of a number that is not below the last stands there exactly where the last one has it.
-pub stands_in-ascending : (first : Opt) (options : List Opt) (number : ℕ) → AreOptionsAfter first.0 options → end_number first.0 options ≤ number → stands_in number (first ∷ options) ≡ (end_number first.0 options == number)
-stands_in-ascending first [] number fits most = or_none (first.0 == number)
-stands_in-ascending first (option ∷ options) number fits most =
-    let rises : first.0 ≤ option.0 = fits.0 in
-    let ends = end_number-ge option.0 options fits.4 in
-    let others : stands_in number (option ∷ options) ≡ (end_number option.0 options == number) = stands_in-ascending option options number fits.4 most in
-    elim (cases_Bool (eqb first.0 number)) [
-      | inl same ↦
-          let all_same : end_number option.0 options ≡ number = omega (arith, eqb-true _ _ same) in
-          rw (same, eq-eqb _ _ all_same) refl
-      | inr other ↦ rw (other, others) refl
-    ]
+    ap (λ (ps : List Placed). option_map (λ (q : Placed). q.1.0) (find is_bad_there ps)) (placed_options-push options option)
+        ∙ ap (λ (o : Option Placed). option_map (λ (q : Placed). q.1.0) o) (find-append is_bad_there (placed_options options) ((options, option) ∷ []))
+        ∙ map_or (find is_bad_there (placed_options options)) (is_bad_there (options, option)) (options, option)

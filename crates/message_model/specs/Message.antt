@@ -39,6 +39,11 @@ AreOptionsAfter before (option ∷ options) =
     (before ≤ option.0) × (option.0 ≤ last_number) × (length option.1 ≤ longest_value) × AreBytes option.1
     × AreOptionsAfter option.0 options
 
+-- The number of the last of these options, and the number before them where there is none (RFC 7252 section 3.1).
+abbrev pub end_number : ℕ → List Opt → ℕ
+end_number before [] = before
+end_number before (option ∷ options) = end_number option.0 options
+
 -- An empty message is its header alone (RFC 7252 section 4.1).
 pub record IsBare (m : Message) : Type 0 where
   pub token : m.token ≡ []

@@ -57,31 +57,31 @@ pub record Definition : Type 0 where
   pub repeatable : Bool
 
 -- An option that stands at most once.
-abbrev pub once : ℕ → ℕ → Option Definition
-once least most = Some (record { least = least; most = most; repeatable = false })
+abbrev pub at_most_once : ℕ → ℕ → Option Definition
+at_most_once least most = Some (record { least = least; most = most; repeatable = false })
 
 -- An option that may stand more than once.
-abbrev pub repeated : ℕ → ℕ → Option Definition
-repeated least most = Some (record { least = least; most = most; repeatable = true })
+abbrev pub any_number : ℕ → ℕ → Option Definition
+any_number least most = Some (record { least = least; most = most; repeatable = true })
 
 -- The table of the options that are recognized (RFC 7252 section 5.10, RFC 7641 section 2, RFC 7959 sections 2.1 and 4).
 unfoldable pub definition_of : ℕ → Option Definition
 definition_of number =
-    if number == uri_host then once 1 255
-    else if number == etag then repeated 1 8
-    else if number == observe then once 0 3
-    else if number == uri_port then once 0 2
-    else if number == location_path then repeated 0 255
-    else if number == uri_path then repeated 0 255
-    else if number == content_format then once 0 2
-    else if number == uri_query then repeated 0 255
-    else if number == accept then once 0 2
-    else if number == block2 then once 0 3
-    else if number == block1 then once 0 3
-    else if number == size2 then once 0 4
-    else if number == proxy_uri then once 1 1034
-    else if number == proxy_scheme then once 1 255
-    else if number == size1 then once 0 4
+    if number == uri_host then at_most_once 1 255
+    else if number == etag then any_number 1 8
+    else if number == observe then at_most_once 0 3
+    else if number == uri_port then at_most_once 0 2
+    else if number == location_path then any_number 0 255
+    else if number == uri_path then any_number 0 255
+    else if number == content_format then at_most_once 0 2
+    else if number == uri_query then any_number 0 255
+    else if number == accept then at_most_once 0 2
+    else if number == block2 then at_most_once 0 3
+    else if number == block1 then at_most_once 0 3
+    else if number == size2 then at_most_once 0 4
+    else if number == proxy_uri then at_most_once 1 1034
+    else if number == proxy_scheme then at_most_once 1 255
+    else if number == size1 then at_most_once 0 4
     else None
 
 -- An option of this number stands among these.
@@ -107,25 +107,25 @@ abbrev pub Placed : Type 0
 Placed = List Opt × Opt
 
 -- Each option with the options that stand before it.
-unfoldable pub placed : List Opt → List Placed
-placed [] = []
-placed (option ∷ options) = ([], option) ∷ map (λ p. (option ∷ p.0, p.1)) (placed options)
+unfoldable pub placed_options : List Opt → List Placed
+placed_options [] = []
+placed_options (option ∷ options) = ([], option) ∷ map (λ p. (option ∷ p.0, p.1)) (placed_options options)
 
 abbrev pub is_recognized_there : Placed → Bool
 is_recognized_there p = is_recognized p.0 p.1.0 (length p.1.1)
 
 -- The recognized options, in order (RFC 7252 section 5.4.1).
-unfoldable pub recognized : List Opt → List Opt
-recognized options = map (λ p. p.1) (filter is_recognized_there (placed options))
+unfoldable pub recognized_options : List Opt → List Opt
+recognized_options options = map (λ p. p.1) (filter is_recognized_there (placed_options options))
 
 -- The number of the first critical option that is not recognized (RFC 7252 section 5.4.1).
 unfoldable pub first_bad_option : List Opt → Option ℕ
 first_bad_option options =
-    option_map (λ p. p.1.0) (find (λ p. is_critical p.1.0 && not (is_recognized_there p)) (placed options))
+    option_map (λ p. p.1.0) (find (λ p. is_critical p.1.0 && not (is_recognized_there p)) (placed_options options))
 
 -- The values of the recognized options of a number, in order.
 unfoldable pub values : ℕ → List Opt → List (List ℕ)
-values number options = map (λ option. option.1) (filter (λ option. option.0 == number) (recognized options))
+values number options = map (λ option. option.1) (filter (λ option. option.0 == number) (recognized_options options))
 
 -- The first of some values.
 abbrev pub first_of : List (List ℕ) → Option (List ℕ)

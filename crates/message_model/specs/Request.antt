@@ -8,7 +8,7 @@ use Rattle.message_model.specs.Numbers.{uint_of}
 use Rattle.message_model.specs.Message.{Message}
 use Rattle.message_model.specs.Codes.{get, post, delete}
 use Rattle.message_model.specs.OptionTable as table
-use Rattle.message_model.specs.OptionTable.{values, first_of, stands_in, recognized}
+use Rattle.message_model.specs.OptionTable.{values, first_of, stands_in, recognized_options}
 
 -- The digit 0 in ASCII.
 abbrev pub digit_zero : ℕ
@@ -104,7 +104,7 @@ etags_in m = values table.etag m.options
 
 -- A proxy is asked for (RFC 7252 section 5.10.2).
 abbrev pub has_proxy : Message → Bool
-has_proxy m = stands_in table.proxy_uri (recognized m.options) || stands_in table.proxy_scheme (recognized m.options)
+has_proxy m = stands_in table.proxy_uri (recognized_options m.options) || stands_in table.proxy_scheme (recognized_options m.options)
 
 -- The methods of a resource (RFC 9176 sections 4.1, 5, 5.1, 5.3 and 6).
 abbrev pub allowed : Path → ℕ → Bool
