@@ -1,6 +1,6 @@
 -- Numbers and block values are read as they are written, and the blocks of a body are its parts.
-use Rattle.std.proofs.Common.{◌≡◌, ℕ, zero, suc, ◌+◌, ◌-◌, ◌*◌, ◌/◌, ◌%◌, ◌^◌, ◌<◌, ◌≤◌, Bool, true, false, not, ◌&&◌, cond, ltb, leb, eqb, List, [], ◌∷◌, ◌++◌, length, take, drop, Option, Some, None, refl, sym, ap, subst, ◌∙◌, arith, inl, inr}
-use Rattle.std.proofs.lemmas.Bool.{cases_lt, cases_eq, cases_Bool, ltb-true, ltb-false, lt-ltb, le-ltb, eqb-true, eqb-false, eq-eqb, ne_eqb, lt-leb, and_parts, le-leb, leb-true}
+use Rattle.std.proofs.Common.{◌≡◌, ℕ, zero, suc, ◌+◌, ◌*◌, ◌/◌, ◌%◌, ◌^◌, ◌<◌, ◌≤◌, Bool, true, false, ◌&&◌, ltb, leb, eqb, List, [], ◌∷◌, ◌++◌, length, take, drop, Option, Some, None, refl, sym, ap, subst, ◌∙◌, arith, inl, inr}
+use Rattle.std.proofs.lemmas.Bool.{cases_lt, cases_eq, ltb-true, ltb-false, lt-ltb, le-ltb, eqb-false, ne_eqb, and_parts, le-leb, leb-true}
 use Rattle.std.proofs.lemmas.List.{take-append-drop, length-take, length-drop, drop-drop, drop_all}
 use Rattle.std.proofs.Math.Nat.{add-mul, one-mul}
 use Rattle.std.proofs.lemmas.Option.{same_Some, none-some}
@@ -27,9 +27,9 @@ uint_written n small =
           elim (cases_lt n 256) [
             | inl one ↦ rw (positive, lt-ltb n 256 one) (record { value = omega arith; few = omega arith; fits = (one, tt) })
             | inr more ↦ elim (cases_lt n 65536) [
-                | inl two ↦ rw (positive, le-ltb n 256 more, lt-ltb n 65536 two) (record { value = omega arith; few = omega arith; fits = (omega arith, (omega arith, tt)) })
-                | inr three ↦ rw (positive, le-ltb n 256 more, le-ltb n 65536 three) (record { value = omega arith; few = omega arith; fits = (omega arith, (omega arith, (omega arith, tt))) })
-              ]
+              | inl two ↦ rw (positive, le-ltb n 256 more, lt-ltb n 65536 two) (record { value = omega arith; few = omega arith; fits = (omega arith, (omega arith, tt)) })
+              | inr three ↦ rw (positive, le-ltb n 256 more, le-ltb n 65536 three) (record { value = omega arith; few = omega arith; fits = (omega arith, (omega arith, (omega arith, tt))) })
+            ]
           ]
     ]
 
@@ -87,7 +87,7 @@ block_again b fits =
     (ap block_from written.value ∙ read, written.few, written.fits)
 
 below_seven : (n : ℕ) → n < 8 → (n ≡ 7 → ⊥) → n < 7
-below_seven n small other = elim (cases_lt n 7) [ | inl below ↦ below | inr above ↦ absurd (other (omega arith)) ]
+below_seven n small other = elim (cases_lt n 7) [ inl below ↦ below | inr above ↦ absurd (other (omega arith)) ]
 
 -- what was read as a block
 record IsFound (value : List ℕ) (b : Block) : Type 0 where
@@ -104,9 +104,9 @@ block_found value b fits few e =
     let free : uint_of value % 8 ≡ 7 → ⊥ = eqb-false (uint_of value % 8) 7 p.0 in
     let bit : more_bit (eqb (uint_of value / 8 % 2) 1) ≡ uint_of value / 8 % 2 = more_bit-eqb (uint_of value / 8 % 2) (omega arith) in
     let found : IsFound value (record { num = uint_of value / 16; more = eqb (uint_of value / 8 % 2) 1; szx = uint_of value % 8 }) = record {
-          block = record { num = omega arith; szx = below_seven (uint_of value % 8) (omega arith) free };
-          bits = omega (arith, bit);
-        } in
+      block = record { num = omega arith; szx = below_seven (uint_of value % 8) (omega arith) free };
+      bits = omega (arith, bit);
+    } in
     let there : IsFound value b = subst (λ (c : Block). IsFound value c) (same_Some _ b p.1) found in
     (there.block, ap uint_bytes there.bits)
 

@@ -1,10 +1,10 @@
 -- Bytes at the front of bytes, and steps that each take some.
-use Rattle.std.proofs.Common.{◌≡◌, ℕ, zero, suc, ◌+◌, ◌-◌, ◌<◌, ◌≤◌, Bool, true, false, cond, ltb, List, [], ◌∷◌, ◌++◌, length, get_or, take, drop, Option, Some, None, refl, sym, ap, subst, ◌∙◌, append_assoc, arith, inl, inr}
+use Rattle.std.proofs.Common.{◌≡◌, ℕ, suc, ◌<◌, ◌≤◌, Bool, true, false, cond, ltb, List, [], ◌∷◌, ◌++◌, length, get_or, take, drop, Option, Some, None, refl, sym, ap, subst, ◌∙◌, append_assoc, arith, inl, inr}
 use Rattle.std.specs.Prelude.{◌⊎◌}
 use Rattle.std.proofs.lemmas.Bool.{ltb-false, le-ltb}
 use Rattle.std.proofs.lemmas.List.{take_at, drop_at, take-append-drop, length-append, length-take}
 use Rattle.std.proofs.lemmas.Option.{same_Some}
-use Rattle.message_model.specs.Numbers.{IsByte, AreBytes}
+use Rattle.message_model.specs.Numbers.{AreBytes}
 use Rattle.message_model.specs.Reading.{◌>>=◌, byte_at, bytes_at}
 
 -- ---- bytes
@@ -71,7 +71,7 @@ bytes_takes n bytes x fits e =
     let p = passed (ltb (length bytes) n) (Some (take n bytes, drop n bytes)) x e in
     let long : n ≤ length bytes = ltb-false _ _ p.0 in
     subst (λ (y : List ℕ × List ℕ). Takes bytes y.0 y.1 × (length y.0 ≡ n)) (same_Some (take n bytes, drop n bytes) x p.1)
-        (Takes-from bytes (take n bytes) (drop n bytes) (sym (take-append-drop n bytes)) fits, omega (arith, length-take n bytes))
+    (Takes-from bytes (take n bytes) (drop n bytes) (sym (take-append-drop n bytes)) fits, omega (arith, length-take n bytes))
 
 pub bytes_again : (n : ℕ) (text rest : List ℕ) → length text ≡ n → bytes_at n (text ++ rest) ≡ Some (text, rest)
 bytes_again n text rest e =

@@ -1,5 +1,5 @@
 -- A location is the decimal text of its number, and no other text names it.
-use Rattle.std.proofs.Common.{◌≡◌, ℕ, ◌+◌, ◌-◌, ◌*◌, ◌^◌, ◌<◌, ◌≤◌, Bool, true, false, not, ◌&&◌, cond, leb, eqb, List, [], ◌∷◌, length, get_or, refl, sym, ap, subst, ◌∙◌, arith, inl, inr}
+use Rattle.std.proofs.Common.{◌≡◌, ℕ, ◌+◌, ◌-◌, ◌*◌, ◌^◌, ◌<◌, ◌≤◌, Bool, true, false, not, ◌&&◌, leb, eqb, List, [], ◌∷◌, length, get_or, refl, sym, ap, subst, ◌∙◌, arith, inl, inr}
 use Rattle.std.specs.Prelude.{fold}
 use Rattle.std.specs.Fmt.{decimal, digits}
 use Rattle.std.specs.List.{list_all}
@@ -8,7 +8,6 @@ use Rattle.std.proofs.Common.{rules}
 use Rattle.std.proofs.lemmas.Bool.{cases_order, both_ways, leb-true, le-leb, not-true, ne_eqb, eq-eqb}
 use Rattle.std.proofs.lemmas.Fmt.{decimal-digits_value, digits_decimal, digits_value-decimal, length-decimal-le, decimal_nonempty, first_decimal}
 use Rattle.std.proofs.lemmas.Str.Parse.{IsNumeralModel, numerals_by_fold, digits_value_short}
-use Rattle.message_model.specs.declared.requests.Path.{Path}
 use Rattle.message_model.specs.declared.requests.Path.TheVariants as path
 use Rattle.message_model.specs.Request.{has_leading_zero, is_location, decimal_value, location_of}
 use Rattle.message_model.proofs.ByteLemmas.{chosen}
@@ -81,9 +80,9 @@ plain_decimal n small =
     elim (cases_order n 0) [
       | inl none ↦ subst (λ (k : ℕ). has_leading_zero (decimal k) ≡ false) (sym none) zero_plain
       | inr other ↦ elim other [
-          | inl below ↦ absurd (omega arith)
-          | inr above ↦ plain_above (decimal n) (first_decimal n above (omega arith))
-        ]
+        | inl below ↦ absurd (omega arith)
+        | inr above ↦ plain_above (decimal n) (first_decimal n above (omega arith))
+      ]
     ]
 
 -- The decimal text of a number of at most 15 digits is read as its location.

@@ -1,18 +1,17 @@
 -- Reading and spelling are inverse: each message has one spelling, and no other bytes are read as it.
-use Rattle.std.proofs.Common.{◌≡◌, ℕ, zero, suc, ◌+◌, ◌-◌, ◌*◌, ◌/◌, ◌%◌, ◌^◌, ◌<◌, ◌≤◌, Bool, true, false, not, ◌&&◌, ◌||◌, cond, ltb, eqb, List, [], ◌∷◌, ◌++◌, length, Option, Some, None, Result, Ok, Err, refl, sym, ap, subst, ◌∙◌, append_assoc, arith, inl, inr}
-use Rattle.std.proofs.lemmas.Bool.{cases_Bool, le-ltb, ltb-false, eqb-true, eq-eqb, and_parts, or_parts, not-false}
+use Rattle.std.proofs.Common.{◌≡◌, ℕ, ◌+◌, ◌*◌, ◌/◌, ◌%◌, ◌<◌, ◌≤◌, Bool, true, false, not, ◌&&◌, ◌||◌, ltb, eqb, List, [], ◌∷◌, ◌++◌, length, Option, Some, None, Result, Ok, Err, refl, sym, ap, subst, ◌∙◌, arith, inl, inr}
+use Rattle.std.proofs.lemmas.Bool.{cases_Bool, le-ltb, ltb-false, eqb-true, eq-eqb, and_parts, not-false}
 use Rattle.std.proofs.lemmas.List.{nil_from_length}
-use Rattle.std.proofs.lemmas.Option.{same_Some, none-some}
+use Rattle.std.proofs.lemmas.Option.{same_Some}
 use Rattle.message_model.specs.declared.messages.Unread.{Unread}
-use Rattle.message_model.specs.declared.messages.Unread.TheVariants as unread
 use Rattle.message_model.specs.Numbers.{AreBytes}
 use Rattle.message_model.specs.Codes.{is_reserved}
 use Rattle.message_model.specs.Message.{Message, Opt, IsBare, IsMessage, AreOptionsAfter, longest_token}
 use Rattle.message_model.specs.Spelling.{kind_number, header_spelling, option_spelling, options_spelling, payload_spelling, spelling}
-use Rattle.message_model.specs.Reading.{◌>>=◌, kind_of, Header, header_of, header_at, bytes_at, Tail, tail_at, is_filled, is_bad_header, message_of, body_at, or_format, with_body, reading}
-use Rattle.message_model.proofs.ByteLemmas.{bind_some, passed, AreBytes-back, bytes_takes, bytes_again}
-use Rattle.message_model.proofs.TailLemmas.{IsTail, tail_taken, tail_again}
-use Rattle.message_model.proofs.HeaderLemmas.{kind_number-kind_of, IsHeader, header_taken, header_in, header_again}
+use Rattle.message_model.specs.Reading.{Header, header_of, header_at, bytes_at, tail_at, is_filled, is_bad_header, message_of, body_at, or_format, with_body, reading}
+use Rattle.message_model.proofs.ByteLemmas.{bind_some, passed, bytes_takes, bytes_again}
+use Rattle.message_model.proofs.TailLemmas.{tail_taken, tail_again}
+use Rattle.message_model.proofs.HeaderLemmas.{kind_number-kind_of, header_taken, header_in, header_again}
 
 -- What stands behind the header of a message.
 abbrev pub body_spelling : Message → List ℕ
@@ -160,9 +159,9 @@ is_good : (m : Message) → IsMessage m → is_bad_header (header_in m) (body_sp
 is_good m fits =
     let small : ltb 8 (length m.token) ≡ false = le-ltb 8 (length m.token) fits.token_length in
     let third : (eqb m.code 0 && is_filled (header_in m) (body_spelling m)) ≡ false = elim (cases_Bool (eqb m.code 0)) [
-          | inl none ↦ rw (unfilled m (fits.empty (eqb-true _ _ none))) (and_none (eqb m.code 0))
-          | inr some ↦ rw some refl
-        ] in
+      | inl none ↦ rw (unfilled m (fits.empty (eqb-true _ _ none))) (and_none (eqb m.code 0))
+      | inr some ↦ rw some refl
+    ] in
     rw (fits.class, small, third) refl
 
 body_again : (m : Message) → IsMessage m → body_at (header_in m) (body_spelling m) ≡ Some m

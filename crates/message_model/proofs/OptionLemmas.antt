@@ -1,8 +1,8 @@
 -- An option that is read is spelled so, and an option that is spelled is read again.
-use Rattle.std.proofs.Common.{◌≡◌, ℕ, zero, suc, ◌+◌, ◌-◌, ◌*◌, ◌/◌, ◌%◌, ◌<◌, ◌≤◌, Bool, true, false, cond, ltb, eqb, List, [], ◌∷◌, ◌++◌, length, Option, Some, None, refl, sym, ap, subst, ◌∙◌, append_assoc, arith, inl, inr}
-use Rattle.std.proofs.lemmas.Bool.{cases_lt, ltb-true, ltb-false, lt-ltb, le-ltb, eqb-true, ne_eqb, eq-eqb}
+use Rattle.std.proofs.Common.{◌≡◌, ℕ, ◌+◌, ◌-◌, ◌*◌, ◌/◌, ◌%◌, ◌<◌, ◌≤◌, false, ltb, eqb, List, [], ◌∷◌, ◌++◌, length, Some, refl, sym, subst, append_assoc, arith, inl, inr}
+use Rattle.std.proofs.lemmas.Bool.{cases_lt, ltb-true, ltb-false, lt-ltb, le-ltb, eqb-true}
 use Rattle.std.proofs.lemmas.Option.{same_Some, none-some}
-use Rattle.message_model.specs.Numbers.{IsByte, AreBytes}
+use Rattle.message_model.specs.Numbers.{AreBytes}
 use Rattle.message_model.specs.Message.{Opt, longest_value, last_number}
 use Rattle.message_model.specs.Spelling.{nibble_of, extension_of, option_spelling}
 use Rattle.message_model.specs.Reading.{◌>>=◌, byte_at, bytes_at, extended_at, option_at}
@@ -43,9 +43,9 @@ nibble-le n =
     elim (cases_lt n 13) [
       | inl small ↦ omega (arith, nibble_short n small)
       | inr big ↦ elim (cases_lt n 269) [
-          | inl middle ↦ omega (arith, nibble_middle n big middle)
-          | inr long ↦ omega (arith, nibble_long n long)
-        ]
+        | inl middle ↦ omega (arith, nibble_middle n big middle)
+        | inr long ↦ omega (arith, nibble_long n long)
+      ]
     ]
 
 -- ---- a delta or a length
@@ -99,12 +99,12 @@ extended_takes nibble bytes x fits e =
     elim (chosen (ltb nibble 13) (Some (nibble, bytes)) _ (Some x) e) [
       | inl short ↦ short_takes nibble bytes x fits (ltb-true _ _ short.0) short.1
       | inr longer ↦ elim (chosen (eqb nibble 13) _ _ (Some x) longer.1) [
-          | inl middle ↦ subst (λ (k : ℕ). Extends k bytes x) (sym (eqb-true _ _ middle.0)) (middle_takes bytes x fits middle.1)
-          | inr other ↦ elim (chosen (eqb nibble 14) _ _ (Some x) other.1) [
-              | inl long ↦ subst (λ (k : ℕ). Extends k bytes x) (sym (eqb-true _ _ long.0)) (long_takes bytes x fits long.1)
-              | inr none ↦ absurd (none-some x none.1)
-            ]
+        | inl middle ↦ subst (λ (k : ℕ). Extends k bytes x) (sym (eqb-true _ _ middle.0)) (middle_takes bytes x fits middle.1)
+        | inr other ↦ elim (chosen (eqb nibble 14) _ _ (Some x) other.1) [
+          | inl long ↦ subst (λ (k : ℕ). Extends k bytes x) (sym (eqb-true _ _ long.0)) (long_takes bytes x fits long.1)
+          | inr none ↦ absurd (none-some x none.1)
         ]
+      ]
     ]
 
 pub extended_again : (n : ℕ) (rest : List ℕ) → n ≤ longest_value → extended_at (nibble_of n) (extension_of n ++ rest) ≡ Some (n, rest)
@@ -113,13 +113,13 @@ extended_again n rest most =
     elim (cases_lt n 13) [
       | inl short ↦ rw (nibble_short n short, extension_short n short, lt-ltb n 13 short) refl
       | inr big ↦ elim (cases_lt n 269) [
-          | inl middle ↦
-              let back : 13 + (n - 13) ≡ n = omega arith in
-              rw (nibble_middle n big middle, extension_middle n big middle, back) refl
-          | inr long ↦
-              let back : 269 + ((n - 269) / 256 * 256 + (n - 269) % 256) ≡ n = omega arith in
-              rw (nibble_long n long, extension_long n long, back) refl
-        ]
+        | inl middle ↦
+            let back : 13 + (n - 13) ≡ n = omega arith in
+            rw (nibble_middle n big middle, extension_middle n big middle, back) refl
+        | inr long ↦
+            let back : 269 + ((n - 269) / 256 * 256 + (n - 269) % 256) ≡ n = omega arith in
+            rw (nibble_long n long, extension_long n long, back) refl
+      ]
     ]
 
 -- ---- an option
@@ -144,13 +144,15 @@ option_made : (before first : ℕ) (bytes after : List ℕ) (delta size : ℕ ×
 option_made before first bytes after delta size value rest head high low body len most =
     let third = Takes-then delta.1 (extension_of size.0) size.1 value rest low.takes body in
     let second = Takes-then after (extension_of delta.0) delta.1 (extension_of size.0 ++ value) rest high.takes third in
-    let whole = Takes-then bytes (first ∷ []) after (extension_of delta.0 ++ (extension_of size.0 ++ value)) rest head second in
-    (rw (spelled_with before first delta.0 size.0 value high.nibble_is low.nibble_is len) whole, record {
-      ascends = omega arith;
-      number = most;
-      size = omega (arith, len, low.most);
-      value = body.text_fits;
-    })
+    let whole = Takes-then bytes (first ∷ []) after (extension_of delta.0 ++ (extension_of size.0 ++ value)) rest head second in (
+      rw (spelled_with before first delta.0 size.0 value high.nibble_is low.nibble_is len) whole,
+      record {
+        ascends = omega arith;
+        number = most;
+        size = omega (arith, len, low.most);
+        value = body.text_fits;
+      },
+    )
 
 pub option_takes : (before : ℕ) (bytes : List ℕ) (x : Opt × List ℕ) → AreBytes bytes → option_at before bytes ≡ Some x → Takes bytes (option_spelling before x.0) x.1 × IsOptionAfter before x.0
 unfolding option_at

@@ -1,13 +1,12 @@
 -- Options in order: what one more at the end adds to their spelling, and which numbers stand among them.
-use Rattle.std.proofs.Common.{◌≡◌, ℕ, ◌+◌, ◌<◌, ◌≤◌, Bool, true, false, ◌||◌, cond, eqb, List, [], ◌∷◌, ◌++◌, length, Option, Some, None, refl, sym, ap, subst, ◌∙◌, append_assoc, arith, inl, inr}
+use Rattle.std.proofs.Common.{◌≡◌, ℕ, ◌≤◌, Bool, true, false, ◌||◌, eqb, List, [], ◌∷◌, ◌++◌, Some, refl, sym, ap, ◌∙◌, append_assoc, arith, inl, inr}
 use Rattle.std.specs.Prelude.{◌==◌}
 use Rattle.std.proofs.lemmas.Bool.{cases_Bool, eqb-true, eq-eqb}
 use Rattle.std.proofs.lemmas.List.{append-nil}
-use Rattle.std.proofs.lemmas.Option.{none-some}
 use Rattle.message_model.specs.Message.{Opt, AreOptionsAfter, end_number}
 use Rattle.message_model.specs.Spelling.{marker, option_spelling, options_spelling, payload_spelling}
 use Rattle.message_model.specs.OptionTable.{stands_in}
-use Rattle.message_model.specs.Reading.{◌>>=◌, option_at, Tail, with_option, tail_at}
+use Rattle.message_model.specs.Reading.{option_at, Tail, with_option, tail_at}
 use Rattle.message_model.proofs.ByteLemmas.{bind_some}
 use Rattle.message_model.proofs.OptionLemmas.{IsOptionAfter}
 use Rattle.message_model.proofs.TailLemmas.{tail_at-option, tail_again}
@@ -51,7 +50,7 @@ unfolding options_spelling
 options_spelling-push before [] option = append-nil (option_spelling before option)
 options_spelling-push before (first ∷ options) option =
     ap (λ (t : List ℕ). option_spelling before first ++ t) (options_spelling-push first.0 options option)
-        ∙ sym (append_assoc (option_spelling before first) (options_spelling first.0 options) (option_spelling (end_number first.0 options) option))
+    ∙ sym (append_assoc (option_spelling before first) (options_spelling first.0 options) (option_spelling (end_number first.0 options) option))
 
 -- ---- options with no payload behind them
 

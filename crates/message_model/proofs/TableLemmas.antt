@@ -1,13 +1,12 @@
 -- The options of a message from the left: what one more option adds.
-use Rattle.std.proofs.Common.{◌≡◌, ℕ, suc, ◌+◌, ◌<◌, ◌≤◌, Bool, true, false, not, ◌&&◌, ◌||◌, cond, eqb, List, [], ◌∷◌, ◌++◌, map, length, Option, Some, None, refl, sym, ap, subst, ◌∙◌, arith, inl, inr}
+use Rattle.std.proofs.Common.{◌≡◌, ℕ, Bool, true, false, not, ◌&&◌, cond, List, [], ◌∷◌, ◌++◌, map, length, Option, Some, None, refl, ap, ◌∙◌}
 use Rattle.std.specs.Prelude.{filter, find, option_map, ◌==◌, if◌then◌else◌}
 use Rattle.std.specs.Option.{option_or}
-use Rattle.std.proofs.lemmas.Bool.{cases_Bool, eqb-true, eqb-false, eq-eqb}
 use Rattle.std.proofs.lemmas.List.{map-append}
 use Rattle.std.proofs.lemmas.List.Elements.{filter-append}
 use Rattle.std.proofs.lemmas.List.Folds.{find-append}
-use Rattle.message_model.specs.Message.{Opt, AreOptionsAfter}
-use Rattle.message_model.specs.OptionTable.{is_recognized, is_critical, Placed, placed_options, is_recognized_there, recognized_options, first_bad_option, values, stands_in}
+use Rattle.message_model.specs.Message.{Opt}
+use Rattle.message_model.specs.OptionTable.{is_recognized, is_critical, Placed, placed_options, is_recognized_there, recognized_options, first_bad_option, values}
 
 -- an option with one more before it
 abbrev behind : Opt → Placed → Placed
@@ -18,7 +17,7 @@ unfolding placed_options
 placed_options-push [] option = refl
 placed_options-push (first ∷ options) option =
     ap (λ (ps : List Placed). ([], first) ∷ map (behind first) ps) (placed_options-push options option)
-        ∙ ap (λ (ps : List Placed). ([], first) ∷ ps) (map-append (behind first) (placed_options options) ((options, option) ∷ []))
+    ∙ ap (λ (ps : List Placed). ([], first) ∷ ps) (map-append (behind first) (placed_options options) ((options, option) ∷ []))
 
 picked : (b : Bool) (p : Placed) → map (λ (q : Placed). q.1) (cond b (p ∷ []) []) ≡ cond b (p.1 ∷ []) []
 picked true p = refl
@@ -29,9 +28,9 @@ pub recognized_options-push : (options : List Opt) (option : Opt) → recognized
 unfolding recognized_options
 recognized_options-push options option =
     ap (λ (ps : List Placed). map (λ (q : Placed). q.1) (filter is_recognized_there ps)) (placed_options-push options option)
-        ∙ ap (λ (ps : List Placed). map (λ (q : Placed). q.1) ps) (filter-append is_recognized_there (placed_options options) ((options, option) ∷ []))
-        ∙ map-append (λ (q : Placed). q.1) (filter is_recognized_there (placed_options options)) (filter is_recognized_there ((options, option) ∷ []))
-        ∙ ap (λ (os : List Opt). map (λ (q : Placed). q.1) (filter is_recognized_there (placed_options options)) ++ os) (picked (is_recognized options option.0 (length option.1)) (options, option))
+    ∙ ap (λ (ps : List Placed). map (λ (q : Placed). q.1) ps) (filter-append is_recognized_there (placed_options options) ((options, option) ∷ []))
+    ∙ map-append (λ (q : Placed). q.1) (filter is_recognized_there (placed_options options)) (filter is_recognized_there ((options, option) ∷ []))
+    ∙ ap (λ (os : List Opt). map (λ (q : Placed). q.1) (filter is_recognized_there (placed_options options)) ++ os) (picked (is_recognized options option.0 (length option.1)) (options, option))
 
 valued : (number : ℕ) (b : Bool) (option : Opt) → map (λ (o : Opt). o.1) (filter (λ (o : Opt). o.0 == number) (cond b (option ∷ []) [])) ≡ cond (b && (option.0 == number)) (option.1 ∷ []) []
 valued number true option =
@@ -44,9 +43,9 @@ unfolding values
 values-push number options option =
     let b : Bool = is_recognized options option.0 (length option.1) in
     ap (λ (os : List Opt). map (λ (o : Opt). o.1) (filter (λ (o : Opt). o.0 == number) os)) (recognized_options-push options option)
-        ∙ ap (λ (os : List Opt). map (λ (o : Opt). o.1) os) (filter-append (λ (o : Opt). o.0 == number) (recognized_options options) (cond (is_recognized options option.0 (length option.1)) (option ∷ []) []))
-        ∙ map-append (λ (o : Opt). o.1) (filter (λ (o : Opt). o.0 == number) (recognized_options options)) (filter (λ (o : Opt). o.0 == number) (cond (is_recognized options option.0 (length option.1)) (option ∷ []) []))
-        ∙ ap (λ (vs : List (List ℕ)). map (λ (o : Opt). o.1) (filter (λ (o : Opt). o.0 == number) (recognized_options options)) ++ vs) (valued number (is_recognized options option.0 (length option.1)) option)
+    ∙ ap (λ (os : List Opt). map (λ (o : Opt). o.1) os) (filter-append (λ (o : Opt). o.0 == number) (recognized_options options) (cond (is_recognized options option.0 (length option.1)) (option ∷ []) []))
+    ∙ map-append (λ (o : Opt). o.1) (filter (λ (o : Opt). o.0 == number) (recognized_options options)) (filter (λ (o : Opt). o.0 == number) (cond (is_recognized options option.0 (length option.1)) (option ∷ []) []))
+    ∙ ap (λ (vs : List (List ℕ)). map (λ (o : Opt). o.1) (filter (λ (o : Opt). o.0 == number) (recognized_options options)) ++ vs) (valued number (is_recognized options option.0 (length option.1)) option)
 
 -- an option where it stands is critical and not recognized
 abbrev is_bad_there : Placed → Bool
@@ -62,5 +61,5 @@ pub first_bad_option-push : (options : List Opt) (option : Opt) → first_bad_op
 unfolding first_bad_option
 first_bad_option-push options option =
     ap (λ (ps : List Placed). option_map (λ (q : Placed). q.1.0) (find is_bad_there ps)) (placed_options-push options option)
-        ∙ ap (λ (o : Option Placed). option_map (λ (q : Placed). q.1.0) o) (find-append is_bad_there (placed_options options) ((options, option) ∷ []))
-        ∙ map_or (find is_bad_there (placed_options options)) (is_bad_there (options, option)) (options, option)
+    ∙ ap (λ (o : Option Placed). option_map (λ (q : Placed). q.1.0) o) (find-append is_bad_there (placed_options options) ((options, option) ∷ []))
+    ∙ map_or (find is_bad_there (placed_options options)) (is_bad_there (options, option)) (options, option)

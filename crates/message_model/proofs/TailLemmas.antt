@@ -1,9 +1,9 @@
 -- A tail goes on by one option at a time, and what is read of one is its spelling.
-use Rattle.std.proofs.Common.{◌≡◌, ℕ, zero, suc, ◌+◌, ◌-◌, ◌*◌, ◌/◌, ◌%◌, ◌<◌, ◌≤◌, Bool, true, false, cond, ltb, eqb, List, [], ◌∷◌, ◌++◌, length, take, drop, Option, Some, None, refl, sym, ap, subst, ◌∙◌, append_assoc, arith, inl, inr}
-use Rattle.std.proofs.lemmas.Bool.{cases_lt, ltb-true, ltb-false, lt-ltb, le-ltb, eqb-true, eqb-false, ne_eqb, eq-eqb}
-use Rattle.std.proofs.lemmas.List.{length-drop, length-append}
+use Rattle.std.proofs.Common.{◌≡◌, ℕ, zero, suc, ◌+◌, ◌*◌, ◌/◌, ◌%◌, ◌<◌, ◌≤◌, cond, ltb, eqb, List, [], ◌∷◌, ◌++◌, length, take, drop, Option, Some, None, refl, sym, ap, subst, ◌∙◌, append_assoc, arith, inl, inr}
+use Rattle.std.proofs.lemmas.Bool.{eqb-true, ne_eqb}
+use Rattle.std.proofs.lemmas.List.{length-drop}
 use Rattle.std.proofs.lemmas.Option.{same_Some, none-some}
-use Rattle.message_model.specs.Numbers.{IsByte, AreBytes}
+use Rattle.message_model.specs.Numbers.{AreBytes}
 use Rattle.message_model.specs.Message.{Opt, AreOptionsAfter}
 use Rattle.message_model.specs.Spelling.{marker, option_spelling, options_spelling, payload_spelling}
 use Rattle.message_model.specs.Reading.{◌>>=◌, byte_at, bytes_at, extended_at, option_at, Tail, payload_at, with_option, short_tail, tail_at}
@@ -27,20 +27,20 @@ extended_shortens nibble bytes x e =
     elim (chosen (ltb nibble 13) (Some (nibble, bytes)) _ (Some x) e) [
       | inl short ↦ subst (λ (y : ℕ × List ℕ). length y.1 ≤ length bytes) (same_Some (nibble, bytes) x short.1) (omega arith)
       | inr longer ↦ elim (chosen (eqb nibble 13) _ _ (Some x) longer.1) [
-          | inl middle ↦
-              let a = bind_some (byte_at bytes) _ x middle.1 in
+        | inl middle ↦
+            let a = bind_some (byte_at bytes) _ x middle.1 in
+            let less = byte_shortens bytes a.0 a.1 in
+            subst (λ (y : ℕ × List ℕ). length y.1 ≤ length bytes) (same_Some (13 + a.0.0, a.0.1) x a.2) (omega arith)
+        | inr other ↦ elim (chosen (eqb nibble 14) _ _ (Some x) other.1) [
+          | inl long ↦
+              let a = bind_some (byte_at bytes) _ x long.1 in
+              let b = bind_some (byte_at a.0.1) _ x a.2 in
               let less = byte_shortens bytes a.0 a.1 in
-              subst (λ (y : ℕ × List ℕ). length y.1 ≤ length bytes) (same_Some (13 + a.0.0, a.0.1) x a.2) (omega arith)
-          | inr other ↦ elim (chosen (eqb nibble 14) _ _ (Some x) other.1) [
-              | inl long ↦
-                  let a = bind_some (byte_at bytes) _ x long.1 in
-                  let b = bind_some (byte_at a.0.1) _ x a.2 in
-                  let less = byte_shortens bytes a.0 a.1 in
-                  let more = byte_shortens a.0.1 b.0 b.1 in
-                  subst (λ (y : ℕ × List ℕ). length y.1 ≤ length bytes) (same_Some (269 + (a.0.0 * 256 + b.0.0), b.0.1) x b.2) (omega arith)
-              | inr none ↦ absurd (none-some x none.1)
-            ]
+              let more = byte_shortens a.0.1 b.0 b.1 in
+              subst (λ (y : ℕ × List ℕ). length y.1 ≤ length bytes) (same_Some (269 + (a.0.0 * 256 + b.0.0), b.0.1) x b.2) (omega arith)
+          | inr none ↦ absurd (none-some x none.1)
         ]
+      ]
     ]
 
 pub option_shortens : (before : ℕ) (bytes : List ℕ) (x : Opt × List ℕ) → option_at before bytes ≡ Some x → length x.1 < length bytes
@@ -75,9 +75,9 @@ short_tail_turns zero k before (b ∷ bytes) h i = absurd (omega arith)
 short_tail_turns (suc n) zero before (b ∷ bytes) h i = absurd (omega arith)
 short_tail_turns (suc n) (suc k) before (b ∷ bytes) h i =
     ap (λ (o : Option Tail). cond (eqb b 255) (payload_at bytes) o)
-        (bind_same (option_at before (b ∷ bytes)) _ _ (λ x e.
-            let less : length x.1 < suc (length bytes) = option_shortens before (b ∷ bytes) x e in
-            ap (λ (o : Option Tail). o >>= λ tail. Some (with_option x.0 tail)) (short_tail_turns n k x.0.0 x.1 (omega arith) (omega arith))))
+    (bind_same (option_at before (b ∷ bytes)) _ _ (λ x e.
+    let less : length x.1 < suc (length bytes) = option_shortens before (b ∷ bytes) x e in
+    ap (λ (o : Option Tail). o >>= λ tail. Some (with_option x.0 tail)) (short_tail_turns n k x.0.0 x.1 (omega arith) (omega arith))))
 
 pub tail_at-nil : (before : ℕ) → tail_at before [] ≡ Some ([], [])
 unfolding tail_at short_tail
@@ -91,10 +91,10 @@ pub tail_at-option : (before b : ℕ) (bytes : List ℕ) → (b ≡ marker → �
 unfolding tail_at short_tail
 tail_at-option before b bytes other =
     let one : cond (eqb b 255) (payload_at bytes) (option_at before (b ∷ bytes) >>= λ option. short_tail (length bytes) option.0.0 option.1 >>= λ tail. Some (with_option option.0 tail))
-            ≡ (option_at before (b ∷ bytes) >>= λ option. short_tail (length bytes) option.0.0 option.1 >>= λ tail. Some (with_option option.0 tail)) = rw (ne_eqb b 255 other) refl in
+    ≡ (option_at before (b ∷ bytes) >>= λ option. short_tail (length bytes) option.0.0 option.1 >>= λ tail. Some (with_option option.0 tail)) = rw (ne_eqb b 255 other) refl in
     one ∙ bind_same (option_at before (b ∷ bytes)) _ _ (λ x e.
-        let less : length x.1 < suc (length bytes) = option_shortens before (b ∷ bytes) x e in
-        ap (λ (o : Option Tail). o >>= λ tail. Some (with_option x.0 tail)) (short_tail_turns (length bytes) (length x.1) x.0.0 x.1 (omega arith) (omega arith)))
+    let less : length x.1 < suc (length bytes) = option_shortens before (b ∷ bytes) x e in
+    ap (λ (o : Option Tail). o >>= λ tail. Some (with_option x.0 tail)) (short_tail_turns (length bytes) (length x.1) x.0.0 x.1 (omega arith) (omega arith)))
 
 -- ---- what is read of a tail
 
@@ -163,4 +163,4 @@ tail_again before (option ∷ options) payload fits =
     let regrouped = append_assoc (option_spelling before option) (options_spelling option.0 options) (payload_spelling payload) in
     let fit : IsOptionAfter before option = record { ascends = fits.0; number = fits.1; size = fits.2; value = fits.3 } in
     ap (tail_at before) regrouped ∙ tail_step before (option_spelling before option ++ (options_spelling option.0 options ++ payload_spelling payload)) option (options_spelling option.0 options ++ payload_spelling payload) (options, payload)
-        (option_again before option (options_spelling option.0 options ++ payload_spelling payload) fit) (tail_again option.0 options payload fits.4)
+    (option_again before option (options_spelling option.0 options ++ payload_spelling payload) fit) (tail_again option.0 options payload fits.4)

@@ -1,5 +1,5 @@
 -- The values of a number that the table has: each has a good length there, and is made of bytes.
-use Rattle.std.proofs.Common.{◌≡◌, ℕ, ◌≤◌, Bool, true, false, not, ◌&&◌, ◌||◌, cond, leb, List, [], ◌∷◌, map, length, Option, Some, None, refl, sym, ap, subst, ◌∙◌, arith, inl, inr}
+use Rattle.std.proofs.Common.{◌≡◌, ℕ, ◌≤◌, Bool, true, false, not, ◌&&◌, ◌||◌, leb, List, [], ◌∷◌, map, length, Option, Some, None, refl, ap, subst, ◌∙◌, inl, inr}
 use Rattle.std.specs.Prelude.{filter, ◌==◌}
 use Rattle.std.specs.List.{AllByRecursion}
 use Rattle.std.proofs.lemmas.Bool.{cases_Bool, leb-true, eqb-true}
@@ -54,16 +54,16 @@ recognized_sizes : (options : List Opt) → AllByRecursion HasGoodSize (recogniz
 unfolding recognized_options
 recognized_sizes options =
     all_map (λ (p : Placed). HasGoodSize p.1) HasGoodSize (λ p. p.1) (λ p h. h) _
-        (all_filter (λ (p : Placed). Unit {0}) (λ (p : Placed). HasGoodSize p.1) is_recognized_there
-            (λ p good _. size_allowed (definition_of p.1.0) (stands_in p.1.0 p.0) (length p.1.1) good) (placed_options options) (all_true (placed_options options)))
+    (all_filter (λ (p : Placed). Unit {0}) (λ (p : Placed). HasGoodSize p.1) is_recognized_there
+    (λ p good _. size_allowed (definition_of p.1.0) (stands_in p.1.0 p.0) (length p.1.1) good) (placed_options options) (all_true (placed_options options)))
 
 -- Each value of a number has a length that the number's definition allows.
 pub values_sizes : (number : ℕ) (d : Definition) (options : List Opt) → definition_of number ≡ Some d → AllByRecursion (λ value. HasSize d (length value)) (values number options)
 unfolding values
 values_sizes number d options e =
     all_map (λ (o : Opt). HasSize d (length o.1)) (λ value. HasSize d (length value)) (λ o. o.1) (λ o h. h) _
-        (all_filter HasGoodSize (λ (o : Opt). HasSize d (length o.1)) (λ (o : Opt). o.0 == number)
-            (λ o same good. good d (ap definition_of (eqb-true o.0 number same) ∙ e)) (recognized_options options) (recognized_sizes options))
+    (all_filter HasGoodSize (λ (o : Opt). HasSize d (length o.1)) (λ (o : Opt). o.0 == number)
+    (λ o same good. good d (ap definition_of (eqb-true o.0 number same) ∙ e)) (recognized_options options) (recognized_sizes options))
 
 -- ---- bytes
 
@@ -82,7 +82,7 @@ pub values_bytes : (number before : ℕ) (options : List Opt) → AreOptionsAfte
 unfolding values recognized_options
 values_bytes number before options fits =
     all_map (λ (o : Opt). AreBytes o.1) AreBytes (λ o. o.1) (λ o h. h) _
-        (all_filter (λ (o : Opt). AreBytes o.1) (λ (o : Opt). AreBytes o.1) (λ (o : Opt). o.0 == number) (λ o _ h. h) _
-            (all_map (λ (p : Placed). AreBytes p.1.1) (λ (o : Opt). AreBytes o.1) (λ p. p.1) (λ p h. h) _
-                (all_filter (λ (p : Placed). AreBytes p.1.1) (λ (p : Placed). AreBytes p.1.1) is_recognized_there (λ p _ h. h) (placed_options options)
-                    (placed_bytes options (option_bytes before options fits)))))
+    (all_filter (λ (o : Opt). AreBytes o.1) (λ (o : Opt). AreBytes o.1) (λ (o : Opt). o.0 == number) (λ o _ h. h) _
+    (all_map (λ (p : Placed). AreBytes p.1.1) (λ (o : Opt). AreBytes o.1) (λ p. p.1) (λ p h. h) _
+    (all_filter (λ (p : Placed). AreBytes p.1.1) (λ (p : Placed). AreBytes p.1.1) is_recognized_there (λ p _ h. h) (placed_options options)
+    (placed_bytes options (option_bytes before options fits)))))

@@ -16,8 +16,7 @@ pub record IsBlock (b : Block) : Type 0 where
   pub num : b.num < 2 ^ 20
   pub szx : b.szx < reserved_szx
 
--- The block that a number of 24 bits says: 20 bits of number, one of more, three of exponent; nothing at the reserved exponent
--- (RFC 7959 section 2.2).
+-- What 24 bits say: 20 of number, one of more, three of exponent, which is not the reserved one (RFC 7959 section 2.2).
 abbrev pub block_from : ℕ → Option Block
 block_from n =
     if n % 8 == reserved_szx then None
@@ -36,14 +35,13 @@ more_bit false = 0
 unfoldable pub block_value : Block → List ℕ
 block_value b = uint_bytes (b.num * 16 + more_bit b.more * 8 + b.szx)
 
--- The block of a body with this number and size, and whether more follow; a number above 0 that begins at the body's end or past it
--- has none (RFC 7959 section 2.2).
+-- The block of a body with this number, and whether more follow; there is none past the body's end (RFC 7959 section 2.2).
+-- Number 0 has a block at any body, the empty one too.
 unfoldable pub block_of : List ℕ → ℕ → ℕ → Option (List ℕ × Bool)
 block_of body num szx =
     if nat_lt 0 num && nat_le (length body) (num * block_size szx) then None
     else Some (take (block_size szx) (drop (num * block_size szx) body), nat_lt ((num + 1) * block_size szx) (length body))
 
--- A payload of this length can't be this block: one that more follow has exactly the block size, and the last is no longer
--- (RFC 7959 section 2.2).
+-- A block that more follow has exactly the block size, and the last is no longer (RFC 7959 section 2.2).
 abbrev pub is_misfit : Block → ℕ → Bool
 is_misfit b size = if b.more then not (size == block_size b.szx) else nat_lt (block_size b.szx) size

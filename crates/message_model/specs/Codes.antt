@@ -88,6 +88,6 @@ is_reserved byte = class_of byte == 1 || class_of byte == 6 || class_of byte == 
 abbrev pub is_request_code : ℕ → Bool
 is_request_code byte = nat_lt empty byte && class_of byte == 0
 
--- The code of a response: classes 2 to 5 (RFC 7252 section 12.1.2; class 3 is not used, and is read like the others).
+-- The code of a response: classes 2 to 5; class 3 is read like the others (RFC 7252 section 12.1.2).
 abbrev pub is_response_code : ℕ → Bool
 is_response_code byte = nat_le 2 (class_of byte) && nat_le (class_of byte) 5

@@ -11,7 +11,7 @@ use Rattle.message_model.specs.Codes as codes_of
 abbrev pub Opt : Type 0
 Opt = ℕ × List ℕ
 
--- A message: type, code, Message ID, token, options in the order in which they stand, payload (RFC 7252 section 3).
+-- A message: type, code, Message ID, token, options in order, payload (RFC 7252 section 3).
 pub record Message : Type 0 where
   pub kind : Kind4
   pub code : ℕ
@@ -28,7 +28,7 @@ longest_token = 8
 abbrev pub last_number : ℕ
 last_number = 65535
 
--- The greatest length of an option's value that can be written: 269 and two more bytes of length (RFC 7252 section 3.1).
+-- The greatest length of a value: 269 and what two more bytes say (RFC 7252 section 3.1).
 abbrev pub longest_value : ℕ
 longest_value = 65804
 
@@ -39,7 +39,7 @@ AreOptionsAfter before (option ∷ options) =
     (before ≤ option.0) × (option.0 ≤ last_number) × (length option.1 ≤ longest_value) × AreBytes option.1
     × AreOptionsAfter option.0 options
 
--- The number of the last of these options, and the number before them where there is none (RFC 7252 section 3.1).
+-- The number of the last of these options, or the number before where there is none (RFC 7252 section 3.1).
 abbrev pub end_number : ℕ → List Opt → ℕ
 end_number before [] = before
 end_number before (option ∷ options) = end_number option.0 options

@@ -49,8 +49,7 @@ proxy_scheme = 39
 abbrev pub size1 : ℕ
 size1 = 60
 
--- What is said of an option's number: the least and greatest length of its value, and whether it may stand more than once
--- (RFC 7252 section 5.10).
+-- Of an option: the least and greatest length of its value, and whether it may be repeated (RFC 7252 section 5.10).
 pub record Definition : Type 0 where
   pub least : ℕ
   pub most : ℕ
@@ -64,7 +63,7 @@ at_most_once least most = Some (record { least = least; most = most; repeatable 
 abbrev pub any_number : ℕ → ℕ → Option Definition
 any_number least most = Some (record { least = least; most = most; repeatable = true })
 
--- The table of the options that are recognized (RFC 7252 section 5.10, RFC 7641 section 2, RFC 7959 sections 2.1 and 4).
+-- The table of options (RFC 7252 section 5.10, RFC 7641 section 2, RFC 7959 sections 2.1 and 4).
 unfoldable pub definition_of : ℕ → Option Definition
 definition_of number =
     if number == uri_host then at_most_once 1 255
@@ -88,13 +87,13 @@ definition_of number =
 abbrev pub stands_in : ℕ → List Opt → Bool
 stands_in number options = list_any (λ option. option.0 == number) options
 
--- What the table says allows this length, and a further occurrence where it is one (RFC 7252 sections 5.4.3 and 5.4.5).
+-- The table allows this length, and that it is a further one where it is (RFC 7252 sections 5.4.3 and 5.4.5).
 abbrev pub is_allowed_by : Option Definition → Bool → ℕ → Bool
 is_allowed_by None is_further size = false
 is_allowed_by (Some d) is_further size = nat_le d.least size && nat_le size d.most && (d.repeatable || not is_further)
 
--- An option of this number and length is recognized behind these: it is in the table, has a good length there, and is no further
--- occurrence of one that may stand only once, whether or not the earlier one was recognized (RFC 7252 section 5.4).
+-- The table has its number and allows its length, and it is no second one where one may stand (RFC 7252 section 5.4).
+-- An earlier option of its number counts, whether or not that one was recognized.
 abbrev pub is_recognized : List Opt → ℕ → ℕ → Bool
 is_recognized before number size = is_allowed_by (definition_of number) (stands_in number before) size
 
@@ -111,6 +110,7 @@ unfoldable pub placed_options : List Opt → List Placed
 placed_options [] = []
 placed_options (option ∷ options) = ([], option) ∷ map (λ p. (option ∷ p.0, p.1)) (placed_options options)
 
+-- It is recognized where it stands.
 abbrev pub is_recognized_there : Placed → Bool
 is_recognized_there p = is_recognized p.0 p.1.0 (length p.1.1)
 

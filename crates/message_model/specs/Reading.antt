@@ -46,13 +46,13 @@ header_of first code high low = record {
   mid = high * byte_values + low;
 }
 
--- The header, and the bytes behind it: first it may be cut off, then it may have another version (RFC 7252 section 3).
+-- The header and the bytes behind it, unless it is cut off or has another version (RFC 7252 section 3).
 unfoldable pub header_at : List ℕ → Result (Header × List ℕ) Unread
 header_at (first ∷ code ∷ high ∷ low ∷ bytes) =
     if first / 64 == version then Ok (header_of first code high low, bytes) else Err unread.Version
 header_at bytes = Err unread.Short
 
--- A delta or a length: its nibble, extended by the bytes behind; the nibble 15 is kept for the marker (RFC 7252 section 3.1).
+-- A delta or a length: its nibble, extended by the bytes behind; 15 is kept for the marker (RFC 7252 section 3.1).
 unfoldable pub extended_at : ℕ → List ℕ → Read ℕ
 extended_at nibble bytes =
     if nat_lt nibble first_extended then Some (nibble, bytes)
@@ -87,8 +87,7 @@ payload_at (b ∷ bytes) = Some ([], b ∷ bytes)
 abbrev pub with_option : Opt → Tail → Tail
 with_option option tail = (option ∷ tail.0, tail.1)
 
--- A tail of at most n options after an option of the number before: nothing, or the marker and a payload, or an option and a tail
--- after it (RFC 7252 section 3).
+-- A tail of at most n options: nothing, or the marker and a payload, or an option and a tail after it (RFC 7252 section 3).
 unfoldable pub short_tail : ℕ → ℕ → List ℕ → Option Tail
 short_tail n before [] = Some ([], [])
 short_tail zero before (b ∷ bytes) = if b == marker then payload_at bytes else None
@@ -101,12 +100,11 @@ short_tail (suc n) before (b ∷ bytes) = if b == marker then payload_at bytes e
 unfoldable pub tail_at : ℕ → List ℕ → Option Tail
 tail_at before bytes = short_tail (length bytes) before bytes
 
--- Behind the header of an empty message stands nothing, and its token is empty (RFC 7252 section 4.1).
+-- More than a header: a token, or bytes behind the header (RFC 7252 section 4.1).
 abbrev pub is_filled : Header → List ℕ → Bool
 is_filled header bytes = not (header.token_length == 0 && length bytes == 0)
 
--- A header that no message has: a reserved class, a token of 9 to 15 bytes, or the code 0.00 with more than a header
--- (RFC 7252 sections 3 and 4.1).
+-- No message has a reserved class, a token of 9 bytes or more, or more than a header at 0.00 (RFC 7252 sections 3 and 4.1).
 abbrev pub is_bad_header : Header → List ℕ → Bool
 is_bad_header header bytes =
     is_reserved header.code || nat_lt longest_token header.token_length || (header.code == empty && is_filled header bytes)
@@ -129,15 +127,16 @@ body_at header bytes = if is_bad_header header bytes then None else do
   tail ← tail_at 0 token.1
   Some (message_of header token.0 tail)
 
--- Where there is no such message, there is a format error, and its type and Message ID are told (RFC 7252 section 4.2).
+-- Where there is no such message, it is a format error, of this type and Message ID (RFC 7252 section 4.2).
 abbrev pub or_format : Header → Option Message → Result Message Unread
 or_format header None = Err (unread.Format header.kind header.mid)
 or_format header (Some m) = Ok m
 
+-- The message with the header that was read, or the fault of the header.
 abbrev pub with_body : Result (Header × List ℕ) Unread → Result Message Unread
 with_body (Err fault) = Err fault
 with_body (Ok header) = or_format header.0 (body_at header.0 header.1)
 
--- The message that all of the bytes spell, or the first fault: too short, another version, a format error (RFC 7252 section 3).
+-- The message that bytes spell, or the first fault: too short, another version, a format error (RFC 7252 section 3).
 unfoldable pub reading : List ℕ → Result Message Unread
 reading bytes = with_body (header_at bytes)

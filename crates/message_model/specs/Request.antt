@@ -104,7 +104,9 @@ etags_in m = values table.etag m.options
 
 -- A proxy is asked for (RFC 7252 section 5.10.2).
 abbrev pub has_proxy : Message → Bool
-has_proxy m = stands_in table.proxy_uri (recognized_options m.options) || stands_in table.proxy_scheme (recognized_options m.options)
+has_proxy m =
+    stands_in table.proxy_uri (recognized_options m.options)
+    || stands_in table.proxy_scheme (recognized_options m.options)
 
 -- The methods of a resource (RFC 9176 sections 4.1, 5, 5.1, 5.3 and 6).
 abbrev pub allowed : Path → ℕ → Bool
