@@ -3,7 +3,7 @@ use Rattle.std.specs.Prelude.{ℕ, ◌%◌, Bool, true, false, not, ◌&&◌, �
 use Rattle.std.specs.List.{list_any}
 use Rattle.message_model.specs.Message.{Opt}
 
--- The numbers of the options (RFC 7252 section 12.2, RFC 7641 section 6, RFC 7959 section 6).
+-- The numbers of the options (RFC 7252 section 12.2, RFC 7641 section 2, RFC 7959 section 6).
 abbrev pub uri_host : ℕ
 uri_host = 3
 

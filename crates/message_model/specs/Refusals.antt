@@ -11,7 +11,7 @@ use Rattle.message_model.specs.OptionTable.{first_bad_option}
 use Rattle.message_model.specs.Blocks.{block_read, is_misfit}
 use Rattle.message_model.specs.Request.{path_in, accept_in, format_in, block1_in, block2_in, has_proxy, allowed}
 
--- The number of the format of link documents (RFC 6690 section 7.4).
+-- The number of the format of link documents (RFC 7252 section 12.3).
 abbrev pub link_format : ℕ
 link_format = 40
 

@@ -37,7 +37,7 @@ decimal_value digits = fold (λ n digit. n * 10 + (digit - digit_zero)) 0 digits
 unfoldable pub location_of : List ℕ → Path
 location_of text = if is_location text then path.Location (decimal_value text) else path.Other
 
--- The resource that the segment behind `.well-known` names (RFC 9176 sections 4.1 and 5.1).
+-- The resource that the segment behind `.well-known` names (RFC 9176 sections 4.3 and 5.1).
 abbrev pub well_known_of : List ℕ → Path
 well_known_of segment =
     if bytes_eq segment (codes "core") then path.Core
@@ -59,7 +59,7 @@ path_of_two first second =
     else if bytes_eq first (codes "rd-lookup") then lookup_of second
     else path.Other
 
--- The resource that the segments of a path name (RFC 9176 sections 4.1, 5 and 6).
+-- The resource that the segments of a path name (RFC 9176 sections 4.3, 5 and 6).
 unfoldable pub path_of : List (List ℕ) → Path
 path_of [] = path.Other
 path_of (first ∷ []) = if bytes_eq first (codes "rd") then path.Rd else path.Other
@@ -108,7 +108,7 @@ has_proxy m =
     stands_in table.proxy_uri (recognized_options m.options)
     || stands_in table.proxy_scheme (recognized_options m.options)
 
--- The methods of a resource (RFC 9176 sections 4.1, 5, 5.1, 5.3 and 6).
+-- The methods of a resource (RFC 9176 sections 4.3, 5, 5.1, 5.3 and 6).
 abbrev pub allowed : Path → ℕ → Bool
 allowed path.Core code = code == get
 allowed path.SimpleRd code = code == post
