@@ -3,3 +3,8 @@ mod Examples
 pub mod Tests
 pub mod Numbers
 pub mod Peers
+pub mod Datagrams
+pub mod Spaces
+pub mod Lengths
+pub mod Fields
+pub mod ReadBack
