@@ -1,0 +1,128 @@
+// Owned octets, seen by contracts as their list.
+ghost use Rattle.std.specs.Prelude.{◌≡◌, [], ◌++◌, IfOk, OnOk, OnErr, nat_eq};
+ghost use Rattle.std.proofs.Common.{rules};
+ghost use Rattle.std.specs.Cmp.{partial_order_from_own_ties};
+ghost use Rattle.std.specs.Cmp.Rules.{comparing, hashing};
+ghost use Rattle.std.specs.Ordering.{nat_cmp, as_partial_cmp};
+ghost use Rattle.std.specs.Cmp.Lexicographic.{slice_cmp};
+ghost use Rattle.std.proofs.lemmas.Cmp.{nat_list_eq_equiv, nat_list_cmp_total};
+ghost use lib.Pointwise.{pointwise};
+ghost use Rattle.std.specs.Hash as fed;
+
+use crate::Starved;
+use std::alloc::Global;
+use std::cmp::Ordering;
+use std::hash::{Hash, Hasher};
+use std::marker::Model;
+
+/// Octets that are owned, such as a datagram or a body.
+#[derive(Debug, Drop)]
+pub struct Bytes {
+    items: Vec<u8>,
+}
+
+impl Model for Bytes {
+    ghost use Rattle.std.specs.Prelude.{ℕ, List};
+
+    ghost Value = { List ℕ };
+
+    ghost view = { λ b. b.items.items };
+}
+
+impl Bytes {
+    /// These octets. Takes no memory.
+    pub fn of(items: Vec<u8>) -> Bytes
+        ensures { result ≡ items.items }
+    {
+        Bytes { items }
+    }
+
+    /// No octets. Takes no memory.
+    pub fn new(alloc: Global) -> Bytes
+        ensures { result ≡ [] }
+    {
+        Bytes {
+            items: Vec::new(alloc),
+        }
+    }
+
+    /// A copy of the octets of a slice.
+    pub fn copy_of(alloc: Global, slice: &[u8]) -> Result<Bytes, Starved>
+        ensures { IfOk result (λ b. b ≡ slice.now) }
+    {
+        let items = Vec::from_slice(alloc, slice)?;
+        Ok(Bytes { items })
+    }
+
+    /// The octets.
+    pub fn as_slice(&self) -> &[u8]
+        ensures { result.now ≡ self.now }
+    {
+        self.items.as_slice()
+    }
+
+    /// Gives the vector back. Takes no memory.
+    pub fn into_vec(self) -> Vec<u8>
+        ensures { result.items ≡ self }
+    {
+        let Bytes { items } = self;
+        items
+    }
+
+    /// Appends the octets of a slice. Where memory is wanted the octets are as before.
+    pub fn append(&mut self, slice: &[u8]) -> Result<(), Starved>
+        ensures ok { OnOk result (self.new ≡ self.old ++ slice.now) }
+        ensures err { OnErr result (self.new ≡ self.old) }
+    {
+        self.items.extend_from_slice(slice)?;
+        Ok(())
+    }
+}
+
+impl PartialEq for Bytes {
+    ghost eq = { pointwise nat_eq };
+
+    ghost laws = { Prim.search (comparing, rules) };
+
+    fn eq(&self, other: &Bytes) -> bool {
+        self.items.as_slice() == other.items.as_slice()
+    }
+}
+
+impl Eq for Bytes {
+    ghost laws = { nat_list_eq_equiv };
+}
+
+impl Hash for Bytes {
+    ghost hash_input = { fed.slice fed.u8 };
+
+    ghost respects_eq = { Prim.search (hashing, rules) };
+
+    fn hash<H: Hasher>(&self, state: &mut H) {
+        self.items.as_slice().hash(state);
+    }
+}
+
+impl Ord for Bytes {
+    ghost cmp = { slice_cmp nat_cmp };
+
+    ghost total = { nat_list_cmp_total };
+
+    ghost matches_partial_cmp = { Prim.search (comparing, rules) };
+
+    ghost matches_eq = { Prim.search (comparing, rules) };
+
+    fn cmp(&self, other: &Bytes) -> Ordering {
+        self.items.as_slice().cmp(other.items.as_slice())
+    }
+}
+
+impl PartialOrd for Bytes {
+    ghost partial_cmp = { as_partial_cmp (slice_cmp nat_cmp) };
+
+    ghost laws = { partial_order_from_own_ties (Prim.search (comparing, rules)) (Prim.search (comparing, rules)) };
+
+    fn partial_cmp(&self, other: &Bytes) -> Option<Ordering> {
+        Some(self.cmp(other))
+    }
+}
