@@ -1,0 +1,8 @@
+pub mod Characters
+pub mod Utf8Prefix
+pub mod Documents
+pub mod DocumentReading
+pub mod Quoting
+pub mod References
+pub mod ReferenceFaults
+pub mod Resolution
