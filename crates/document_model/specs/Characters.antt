@@ -1,7 +1,7 @@
 -- Octets that have a meaning in link documents and references, and the classes of characters.
 use Rattle.std.specs.Prelude.{ℕ, Bool, true, false, not, ◌&&◌, ◌||◌, ◌==◌, List, [], ◌∷◌, codes}
 use Rattle.std.specs.List.{list_any, list_all}
-use Rattle.std.specs.Char.{is_ascii, is_ascii_control, is_ascii_alphabetic, is_ascii_alphanumeric, is_ascii_digit, is_ascii_hexdigit}
+use Rattle.std.specs.Char.{is_ascii, is_ascii_control, is_ascii_alphanumeric, is_ascii_hexdigit}
 
 abbrev pub quote_mark : ℕ
 quote_mark = 34

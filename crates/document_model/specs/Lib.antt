@@ -1,3 +1,4 @@
+pub mod Bodies
 pub mod Characters
 pub mod Utf8Prefix
 pub mod Documents

@@ -1,5 +1,5 @@
 -- Resolving a reference against a base (RFC 3986 section 5.2, strict).
-use Rattle.std.specs.Prelude.{ℕ, Bool, true, false, not, ◌&&◌, ◌||◌, ◌==◌, List, [], ◌∷◌, ◌++◌, map, reverse, fold, Option, Some, None, is_some, if◌then◌else◌, bytes_eq, codes}
+use Rattle.std.specs.Prelude.{ℕ, Bool, ◌&&◌, ◌||◌, ◌==◌, List, [], ◌∷◌, ◌++◌, reverse, fold, Option, Some, None, is_some, if◌then◌else◌, bytes_eq, codes}
 use Rattle.std.specs.List.{concat}
 use Rattle.document_model.specs.Characters.{slash, is_empty}
 use Rattle.document_model.specs.References.{Components, begins_with, components, recomposed}
