@@ -3,26 +3,34 @@
 
 mod attributes;
 mod keys;
+mod memory_ends;
 mod moments;
 mod octets;
+mod outside;
 mod parameters;
 mod peers;
 mod queries;
 mod records;
 mod starving;
+mod std_ends;
 mod submitted;
+mod sure_ends;
 mod tags;
 mod texts;
 
 pub use attributes::{Pair, Pairs};
 pub use keys::Key;
+pub use memory_ends::{MemSink, MemSource};
 pub use moments::Moment;
 pub use octets::Bytes;
+pub use outside::{Got, Put, Sink, Source};
 pub use parameters::{RegParams, UpdateParams};
 pub use peers::{Host, Peer};
 pub use queries::{Criteria, Criterion, Kind, Query};
 pub use records::{Item, Items, Name, Record};
 pub use starving::Starved;
+pub use std_ends::{StdSink, StdSource};
 pub use submitted::{SubmittedLink, SubmittedLinks};
+pub use sure_ends::{SureSink, SureSource};
 pub use tags::Tag;
 pub use texts::Text;

@@ -1,5 +1,5 @@
 // Owned octets, seen by contracts as their list.
-ghost use Rattle.std.specs.Prelude.{◌≡◌, [], ◌++◌, IfOk, OnOk, OnErr, nat_eq};
+ghost use Rattle.std.specs.Prelude.{◌≡◌, ◌↔◌, ◌^◌, ◌<◌, [], ◌++◌, length, IsTrue, IfOk, OnOk, OnErr, nat_eq};
 ghost use Rattle.std.proofs.Common.{rules};
 ghost use Rattle.std.specs.Cmp.{partial_order_from_own_ties};
 ghost use Rattle.std.specs.Cmp.Rules.{comparing, hashing};
@@ -56,9 +56,25 @@ impl Bytes {
 
     /// The octets.
     pub fn as_slice(&self) -> &[u8]
-        ensures { result.now ≡ self.now }
+        ensures value { result.now ≡ self.now }
+        ensures counted { length self.now < 2 ^ 63 }
     {
         self.items.as_slice()
+    }
+
+    /// How many octets there are.
+    pub fn len(&self) -> usize
+        ensures value { result ≡ length self.now }
+        ensures counted { length self.now < 2 ^ 63 }
+    {
+        self.items.as_slice().len()
+    }
+
+    /// Whether there are none.
+    pub fn is_empty(&self) -> bool
+        ensures { IsTrue result ↔ (self.now ≡ []) }
+    {
+        self.items.is_empty()
     }
 
     /// Gives the vector back. Takes no memory.

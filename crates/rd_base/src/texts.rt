@@ -1,5 +1,5 @@
 // Owned UTF-8 text, seen by contracts as its list of octets.
-ghost use Rattle.std.specs.Prelude.{◌≡◌, [], ◌++◌, IfOk, OnOk, OnErr, nat_eq};
+ghost use Rattle.std.specs.Prelude.{◌≡◌, ◌↔◌, ◌^◌, ◌<◌, [], ◌++◌, length, IsTrue, IfOk, OnOk, OnErr, nat_eq};
 ghost use Rattle.std.specs.String.{string_bytes};
 ghost use Rattle.std.proofs.Common.{rules};
 ghost use Rattle.std.specs.Cmp.{partial_order_from_own_ties};
@@ -68,6 +68,21 @@ impl Text {
         ensures { result.now ≡ self.now }
     {
         self.text.as_bytes()
+    }
+
+    /// How many octets the text has.
+    pub fn len(&self) -> usize
+        ensures value { result ≡ length self.now }
+        ensures counted { length self.now < 2 ^ 63 }
+    {
+        self.text.as_bytes().len()
+    }
+
+    /// Whether the text is empty.
+    pub fn is_empty(&self) -> bool
+        ensures { IsTrue result ↔ (self.now ≡ []) }
+    {
+        self.text.as_bytes().is_empty()
     }
 
     /// Gives the string back. Takes no memory.

@@ -1,0 +1,5 @@
+mod BodyExamples
+mod DocumentExamples
+pub mod OnLiterals
+mod ReferenceExamples
+mod ResolutionExamples

@@ -1,0 +1,9 @@
+pub mod Bodies
+pub mod Characters
+pub mod Utf8Prefix
+pub mod Documents
+pub mod DocumentReading
+pub mod Quoting
+pub mod References
+pub mod ReferenceFaults
+pub mod Resolution

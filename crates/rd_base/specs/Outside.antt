@@ -1,0 +1,51 @@
+-- What a call on the outside may answer, and what is then known of the source or the sink.
+use Rattle.std.specs.Prelude.{◌≡◌, ℕ, Bool, ◌-◌, ◌^◌, ◌<◌, ◌≤◌, List, length, take, Option, None, Some, nat_lt, if◌then◌else◌}
+use Rattle.std.specs.Io.KnownBytes.{Appends, Consumes, Keeps, IsAtEnd}
+use Rattle.rd_base.specs.declared.outside.Got.{Got}
+use Rattle.rd_base.specs.declared.outside.Got.TheVariants as got
+use Rattle.rd_base.specs.declared.outside.Put.{Put}
+use Rattle.rd_base.specs.declared.outside.Put.TheVariants as put
+
+-- a count of faults rose; at the last value of 64 bits it may stand
+abbrev pub Rose : ℕ → ℕ → Type 0
+Rose before now = before < 2 ^ 64 - 1 → before < now
+
+-- no more octets came than there is room for
+abbrev pub IsWithinRoom : Got → ℕ → Type 0
+IsWithinRoom (got.Bytes n) room = n ≤ room
+IsWithinRoom got.Failed room = Unit {0}
+
+-- The octets that came are the first of those that were left. None come where there is room only at the end. A failure takes none.
+abbrev pub Gives : Option (List ℕ) → Option (List ℕ) → Got → List ℕ → Type 0
+Gives old new (got.Bytes n) into = Consumes old new (take n into) × (n ≡ 0 → 0 < length into → IsAtEnd new)
+Gives old new got.Failed into = Keeps old new
+
+-- each call that gives octets lowers the number of turns
+abbrev pub RunsDown : ℕ → ℕ → Got → Type 0
+RunsDown old new (got.Bytes n) = (new ≤ old) × (0 < n → new < old)
+RunsDown old new got.Failed = new ≤ old
+
+-- a reading failed only where the count rose, and otherwise the count stands
+abbrev pub CountsRead : ℕ → ℕ → Got → Type 0
+CountsRead before now (got.Bytes n) = now ≡ before
+CountsRead before now got.Failed = (before ≤ now) × Rose before now
+
+-- some of the piece was taken, or it was empty
+abbrev pub IsWithinPiece : Put → ℕ → Type 0
+IsWithinPiece (put.Took n) size = (n ≤ size) × (0 < size → 0 < n)
+IsWithinPiece put.Failed size = Unit {0}
+
+-- The octets that were taken are the first of the piece, and stand at the end of what is held. A failure takes none.
+abbrev pub Takes : Option (List ℕ) → Option (List ℕ) → Put → List ℕ → Type 0
+Takes old new (put.Took n) piece = Appends old new (take n piece)
+Takes old new put.Failed piece = Keeps old new
+
+-- a writing failed only where the count rose, and otherwise the count stands
+abbrev pub CountsWritten : ℕ → ℕ → Put → Type 0
+CountsWritten before now (put.Took n) = now ≡ before
+CountsWritten before now put.Failed = (before ≤ now) × Rose before now
+
+-- what is told, where it has fewer octets than 64 bits count
+abbrev pub told_below : ℕ → Option (List ℕ) → Option (List ℕ)
+told_below limit None = None
+told_below limit (Some bytes) = if nat_lt (length bytes) limit then Some bytes else None
