@@ -3,3 +3,5 @@ mod DocumentExamples
 pub mod OnLiterals
 mod ReferenceExamples
 mod ResolutionExamples
+mod ParameterExamples
+pub mod RecordLiterals
