@@ -5,3 +5,4 @@ mod ReferenceExamples
 mod ResolutionExamples
 mod ParameterExamples
 pub mod RecordLiterals
+mod RecordExamples
