@@ -1,5 +1,5 @@
 -- Parameters and criteria, computed.
-use Rattle.std.proofs.Common.{◌≡◌, ℕ, List, [], ◌∷◌, ◌++◌, codes, replicate, Option, Some, None, Ok, refl}
+use Rattle.std.proofs.Common.{◌≡◌, [], ◌∷◌, ◌++◌, codes, replicate, Some, None, Ok, refl}
 use Rattle.rd_base.specs.declared.queries.Kind.TheVariants as kind
 use Rattle.document_model.specs.declared.readings.Reading.TheVariants as reading
 use Rattle.document_model.specs.declared.readings.Why.TheVariants as why

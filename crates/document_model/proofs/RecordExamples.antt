@@ -1,20 +1,17 @@
 -- Records, their lines and their matches, computed.
-use Rattle.std.proofs.Common.{◌≡◌, ℕ, Bool, true, false, List, [], ◌∷◌, ◌++◌, codes, replicate, map, Option, Some, None, Result, Ok, Err, refl, unwrap_or}
+use Rattle.std.proofs.Common.{◌≡◌, ℕ, true, false, List, [], ◌∷◌, ◌++◌, codes, refl, unwrap_or}
 use Rattle.rd_base.specs.declared.moments.Moment.{Moment}
 use Rattle.rd_base.specs.declared.peers.Host.TheVariants as host
 use Rattle.rd_base.specs.declared.peers.Peer.{Peer}
-use Rattle.rd_base.specs.declared.attributes.Pair.{Pair}
-use Rattle.rd_base.specs.declared.parameters.RegParams.{RegParams}
 use Rattle.rd_base.specs.declared.queries.Kind.{Kind}
 use Rattle.rd_base.specs.declared.queries.Kind.TheVariants as kind
-use Rattle.rd_base.specs.declared.queries.Query.{Query}
 use Rattle.rd_base.specs.declared.records.Record.{Record}
 use Rattle.document_model.specs.Bodies.{linked_references}
 use Rattle.document_model.specs.Parameters.{registration_values, update_values}
 use Rattle.document_model.specs.Criteria.{lookup_values}
 use Rattle.document_model.specs.Bases.{base_of}
 use Rattle.document_model.specs.Matching.{matches_value, matches_named}
-use Rattle.document_model.specs.ListingLines.{endpoint_line, link_line, part, weight, shown}
+use Rattle.document_model.specs.ListingLines.{endpoint_line, part, weight, shown}
 use Rattle.document_model.specs.Records.{registered, updated}
 use Rattle.document_model.specs.Refusals.{is_refused_as_links, is_refused_as_limited}
 use Rattle.document_model.specs.Discovery.{discovery}

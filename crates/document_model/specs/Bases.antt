@@ -1,5 +1,5 @@
 -- The base of a registration: given, or that of the peer that it comes from (RFC 9176 section 5).
-use Rattle.std.specs.Prelude.{ℕ, Bool, true, false, ◌||◌, ◌==◌, List, [], ◌∷◌, ◌++◌, codes, decimal, Option, Some, None, is_some, unwrap_or, if◌then◌else◌}
+use Rattle.std.specs.Prelude.{ℕ, Bool, true, false, ◌||◌, ◌==◌, List, [], ◌++◌, codes, decimal, Option, Some, None, is_some, unwrap_or, if◌then◌else◌}
 use Rattle.std.specs.Net.Text.{ipv4_text, ipv6_text}
 use Rattle.rd_base.specs.declared.peers.Host.{Host}
 use Rattle.rd_base.specs.declared.peers.Host.TheVariants as host

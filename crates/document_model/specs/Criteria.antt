@@ -9,7 +9,7 @@ use Rattle.document_model.specs.declared.readings.Reading.TheVariants as reading
 use Rattle.document_model.specs.declared.readings.Why.{Why}
 use Rattle.document_model.specs.declared.readings.Why.TheVariants as why
 use Rattle.document_model.specs.Characters.{is_empty}
-use Rattle.document_model.specs.Options.{option_name, option_value, is_named, has_named, value_named, is_among, is_number, number_of}
+use Rattle.document_model.specs.Options.{option_name, option_value, is_named, has_named, value_named, is_number, number_of}
 use Rattle.document_model.specs.Faults.{Fault, first_reason, first_fault}
 use Rattle.document_model.specs.Parameters.{parameters_fault, unless_fault}
 
@@ -55,11 +55,11 @@ number_named name queries = option_map number_of (value_named name queries)
 -- what a lookup asks for, where its options have no fault
 unfoldable pub lookup_values : Kind → List (List ℕ) → Query
 lookup_values kind queries = record {
-    kind = kind;
-    criteria = map criterion_of (filter (λ query. not (is_cut query)) queries);
-    page = number_named page queries;
-    count = number_named count queries;
-  }
+  kind = kind;
+  criteria = map criterion_of (filter (λ query. not (is_cut query)) queries);
+  page = number_named page queries;
+  count = number_named count queries;
+}
 
 -- what a lookup asks for, or the first fault of its options
 unfoldable pub lookup_query : Kind → List (List ℕ) → Result Query Fault

@@ -1,5 +1,5 @@
 -- What the directory tells of itself (RFC 9176 section 4.1, RFC 6690 section 4).
-use Rattle.std.specs.Prelude.{ℕ, Bool, List, [], ◌∷◌, map, filter, codes, Option, Some, None, option_map, unwrap_or}
+use Rattle.std.specs.Prelude.{ℕ, Bool, List, [], map, filter, codes, unwrap_or}
 use Rattle.std.specs.List.{list_all}
 use Rattle.rd_base.specs.declared.queries.Query.{Query}
 use Rattle.rd_base.specs.declared.records.Item.{Item}
@@ -15,13 +15,13 @@ own_document = codes "</rd>;rt=\"core.rd\";ct=40,</rd-lookup/ep>;rt=\"core.rd-lo
 -- a link as it is printed, resolved against nothing
 abbrev pub as_printed : SubmittedLink → Item
 as_printed link = record {
-    target_ref = link.target_ref;
-    anchor_ref = link.anchor_ref;
-    target = link.target_ref;
-    anchor = link.anchor_ref;
-    raw = link.raw;
-    pairs = link.pairs;
-  }
+  target_ref = link.target_ref;
+  anchor_ref = link.anchor_ref;
+  target = link.target_ref;
+  anchor = link.anchor_ref;
+  raw = link.raw;
+  pairs = link.pairs;
+}
 
 -- the links of that document
 unfoldable pub own_items : List Item

@@ -9,7 +9,7 @@ use Rattle.rd_base.specs.declared.records.Item.{Item}
 use Rattle.rd_base.specs.declared.records.Record.{Record}
 use Rattle.document_model.specs.Characters.{comma, is_empty}
 use Rattle.document_model.specs.Quoting.{quoted}
-use Rattle.document_model.specs.Matching.{link_matches, endpoint_matches, endpoint_pairs, endpoint_type, location, sector_pairs}
+use Rattle.document_model.specs.Matching.{link_matches, endpoint_matches, endpoint_type, location, sector_pairs}
 
 -- each criterion matches the link by itself or its endpoint by itself (RFC 9176 section 6.2)
 unfoldable pub link_listed : Query → Record → Item → Bool

@@ -1,5 +1,5 @@
 -- Whether a criterion matches a link by itself, or an endpoint by itself (RFC 6690 section 4.1, RFC 9176 section 6.2).
-use Rattle.std.specs.Prelude.{ℕ, Bool, true, false, not, ◌&&◌, ◌||◌, ◌==◌, List, [], ◌∷◌, ◌++◌, filter, codes, decimal, Option, Some, None, option_map, if◌then◌else◌, bytes_eq, nat_eq}
+use Rattle.std.specs.Prelude.{ℕ, Bool, false, not, ◌&&◌, ◌==◌, List, [], ◌∷◌, ◌++◌, filter, codes, decimal, Option, Some, None, option_map, if◌then◌else◌, bytes_eq, nat_eq}
 use Rattle.std.specs.List.{list_any, slice_split, starts_with}
 use Rattle.rd_base.specs.declared.attributes.Pair.{Pair}
 use Rattle.rd_base.specs.declared.queries.Criterion.{Criterion}

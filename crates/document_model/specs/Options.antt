@@ -1,5 +1,5 @@
 -- Query options: each a name and a value, split at its first equals sign (RFC 9176 sections 5 and 6).
-use Rattle.std.specs.Prelude.{ℕ, ◌+◌, ◌≤◌, Bool, not, ◌&&◌, ◌||◌, List, [], ◌∷◌, length, codes, find, filter, Option, option_map, unwrap_or, bytes_eq, nat_le}
+use Rattle.std.specs.Prelude.{ℕ, Bool, not, ◌&&◌, List, [], length, find, Option, option_map, unwrap_or, bytes_eq, nat_le}
 use Rattle.std.specs.List.{list_any, list_all}
 use Rattle.std.specs.Char.{is_ascii_digit}
 use Rattle.std.specs.Str.Parse.{digits_value}

@@ -1,5 +1,5 @@
 -- The parameters of a registration, a simple registration and an update (RFC 9176 sections 5, 5.1 and 5.3.1).
-use Rattle.std.specs.Prelude.{ℕ, Bool, true, false, not, ◌&&◌, ◌||◌, ◌==◌, nat_lt, nat_le, List, [], ◌∷◌, ◌++◌, length, take, drop, map, filter, codes, Option, Some, None, is_some, is_none, option_map, unwrap_or, Result, Ok, Err, if◌then◌else◌, bytes_eq, chars}
+use Rattle.std.specs.Prelude.{ℕ, Bool, true, false, not, ◌&&◌, ◌||◌, ◌==◌, nat_lt, nat_le, List, [], ◌∷◌, length, take, drop, map, filter, codes, Option, Some, None, is_some, is_none, option_map, unwrap_or, Result, Ok, Err, if◌then◌else◌, chars}
 use Rattle.std.specs.List.{list_any, list_all}
 use Rattle.std.specs.Char.{is_ascii_hexdigit}
 use Rattle.std.specs.Str.{is_utf8, str_to_ascii_lowercase}
@@ -168,11 +168,11 @@ given_lifetime queries = option_map number_of (value_named lifetime queries)
 -- the parameters of a registration, where they have no fault
 unfoldable pub registration_values : List (List ℕ) → RegParams
 registration_values queries = record {
-    name = endpoint_name queries;
-    lt = unwrap_or (given_lifetime queries) default_lifetime;
-    base = value_named base queries;
-    attrs = extra_attributes queries;
-  }
+  name = endpoint_name queries;
+  lt = unwrap_or (given_lifetime queries) default_lifetime;
+  base = value_named base queries;
+  attrs = extra_attributes queries;
+}
 
 -- the parameters of an update, where they have no fault
 unfoldable pub update_values : List (List ℕ) → UpdateParams

@@ -1,6 +1,6 @@
 -- A record: what a registration makes, and what an update makes of it (RFC 9176 sections 5 and 5.3.1).
-use Rattle.std.specs.Prelude.{ℕ, Bool, true, false, not, ◌&&◌, ◌||◌, List, [], ◌∷◌, ◌++◌, map, filter, Option, Some, None, is_some, is_none, option_map, unwrap_or, if◌then◌else◌, bytes_eq}
-use Rattle.std.specs.List.{list_any, list_all}
+use Rattle.std.specs.Prelude.{ℕ, Bool, not, List, ◌++◌, map, filter, is_some, option_map, unwrap_or, if◌then◌else◌, bytes_eq}
+use Rattle.std.specs.List.{list_any}
 use Rattle.rd_base.specs.declared.attributes.Pair.{Pair}
 use Rattle.rd_base.specs.declared.moments.Moment.{Moment}
 use Rattle.rd_base.specs.declared.parameters.RegParams.{RegParams}
@@ -20,13 +20,13 @@ based base text = if is_uri text then text else resolved base text
 -- a submitted link as an item of a record with this base
 unfoldable pub item_of : List ℕ → SubmittedLink → Item
 item_of base link = record {
-    target_ref = link.target_ref;
-    anchor_ref = link.anchor_ref;
-    target = based base link.target_ref;
-    anchor = option_map (based base) link.anchor_ref;
-    raw = link.raw;
-    pairs = link.pairs;
-  }
+  target_ref = link.target_ref;
+  anchor_ref = link.anchor_ref;
+  target = based base link.target_ref;
+  anchor = option_map (based base) link.anchor_ref;
+  raw = link.raw;
+  pairs = link.pairs;
+}
 
 -- the items of a record with this base, in the order of the body
 abbrev pub items_of : List ℕ → List SubmittedLink → List Item
@@ -47,15 +47,15 @@ updated_attributes given attrs = filter (λ pair. not (is_given given pair)) att
 -- the record of a registration of this number at this moment
 unfoldable pub registered : ℕ → Moment → Peer → RegParams → List SubmittedLink → Record
 registered number now peer params links = record {
-    number = number;
-    name = params.name;
-    lt = params.lt;
-    granted = now;
-    base = registered_base params.base peer;
-    base_given = is_some params.base;
-    attrs = params.attrs;
-    items = items_of (registered_base params.base peer) links;
-  }
+  number = number;
+  name = params.name;
+  lt = params.lt;
+  granted = now;
+  base = registered_base params.base peer;
+  base_given = is_some params.base;
+  attrs = params.attrs;
+  items = items_of (registered_base params.base peer) links;
+}
 
 -- the record behind an update: its lease starts anew, and its items are resolved against its base as it is then
 unfoldable pub updated : Moment → Peer → UpdateParams → Record → Record

@@ -1,10 +1,8 @@
 -- Lines of traces at their edges, computed.
-use Rattle.std.proofs.Common.{◌≡◌, List, [], ◌∷◌, codes, replicate, Option, Some, None, Result, Ok, Err, refl}
+use Rattle.std.proofs.Common.{◌≡◌, [], ◌∷◌, codes, replicate, Some, None, Ok, Err, refl}
 use Rattle.rd_base.specs.declared.peers.Host.TheVariants as host
 use Rattle.rd_base.specs.declared.peers.Peer.{Peer}
-use Rattle.line_model.specs.declared.lines.Line.{Line}
 use Rattle.line_model.specs.declared.lines.Line.TheVariants as line
-use Rattle.line_model.specs.declared.lines.Reason.{Reason}
 use Rattle.line_model.specs.declared.lines.Reason.TheVariants as reason
 use Rattle.line_model.specs.Peers.{peer_of, peer_text}
 use Rattle.line_model.specs.Lines.{line_of, line_text, out_text}

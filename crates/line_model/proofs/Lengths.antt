@@ -1,12 +1,12 @@
 -- A printed line is not too long.
-use Rattle.std.proofs.Common.{◌≡◌, ℕ, suc, ◌+◌, ◌*◌, ◌/◌, ◌%◌, ◌≤◌, ◌<◌, ◌^◌, ◌==◌, ◌&&◌, Bool, true, false, List, [], ◌∷◌, ◌++◌, length, codes, take, drop, flat_map, decimal, slice_index, Option, Some, None, if◌then◌else◌, bytes_eq, refl, sym, ap, ◌∙◌, arith, length-append, length-drop, length-take, nat_lt}
+use Rattle.std.proofs.Common.{ℕ, ◌+◌, ◌*◌, ◌/◌, ◌%◌, ◌≤◌, ◌<◌, ◌^◌, List, [], ◌∷◌, ◌++◌, length, codes, take, drop, flat_map, decimal, slice_index, bytes_eq, arith, length-append, length-drop, length-take, nat_lt}
 use Rattle.std.proofs.lemmas.Bool.{cond_both}
 use Rattle.std.proofs.lemmas.Fmt.{length-decimal-le}
 use Rattle.std.specs.Char.{digit_char}
 use Rattle.std.specs.Net.Addr.{octets_of}
 use Rattle.std.specs.Net.Text.{hex, groups_text, compressed_text, longest_zero_run, leading_zero_digits, hex_groups_text, ipv4_text, ipv6_text, socket_text}
 use Rattle.std.proofs.NetLemmas.Texts.{AllSegments, AllSegments-drop}
-use Rattle.hex.specs.Hex.{IsBytes, encode_with, encode_lower, lower_digits}
+use Rattle.hex.specs.Hex.{lower_digits}
 use Rattle.hex.proofs.HexLemmas.{length-encode_with}
 use Rattle.rd_base.specs.declared.peers.Host.{Host}
 use Rattle.rd_base.specs.declared.peers.Host.TheVariants as host

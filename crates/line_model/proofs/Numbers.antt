@@ -1,5 +1,5 @@
 -- A number is read exactly of the decimal text of a number within the limit.
-use Rattle.std.proofs.Common.{◌≡◌, ℕ, ◌≤◌, ◌<◌, ◌^◌, ◌&&◌, Bool, true, false, List, Option, Some, None, if◌then◌else◌, nat_le, bytes_eq, decimal, refl, sym, ap, ◌∙◌, arith}
+use Rattle.std.proofs.Common.{◌≡◌, ℕ, ◌≤◌, ◌<◌, ◌^◌, ◌&&◌, List, Some, None, nat_le, bytes_eq, decimal, refl, ap, ◌∙◌, arith}
 use Rattle.std.specs.Str.Parse.{digits_value}
 use Rattle.std.proofs.lemmas.Fmt.{decimal_is_IsNumeral}
 use Rattle.line_model.specs.Numbers.{IsNumber, number_of}

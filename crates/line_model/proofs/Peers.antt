@@ -1,19 +1,18 @@
 -- A peer is read exactly of the text that prints it.
-use Rattle.std.proofs.Common.{◌≡◌, ℕ, ◌≤◌, ◌<◌, ◌^◌, ◌&&◌, Bool, true, false, List, [], Option, Some, None, if◌then◌else◌, nat_le, bytes_eq, option_and_then, codes, ◌++◌, ◌∷◌, decimal, refl, sym, ap, subst, inl, ◌∙◌, arith, append_assoc}
-use Rattle.std.proofs.lemmas.Option.{option_and_then_some, none-some}
+use Rattle.std.proofs.Common.{◌≡◌, ℕ, ◌≤◌, ◌<◌, ◌^◌, ◌&&◌, List, [], Some, None, nat_le, bytes_eq, option_and_then, ◌∷◌, decimal, refl, ap, subst, inl, ◌∙◌, append_assoc}
+use Rattle.std.proofs.lemmas.Option.{option_and_then_some}
 use Rattle.std.specs.Net.Reader.{read_number, read_octet, read_ipv4, read_socket_v4, read_socket_v6, whole_value}
-use Rattle.std.specs.Net.Text.{ipv4_text, ipv6_text, socket_text, socket_v4_text, socket_v6_text}
+use Rattle.std.specs.Net.Text.{ipv4_text, ipv6_text, socket_v4_text, socket_v6_text}
 use Rattle.std.specs.declared.net.socket_addr.SocketAddrV4.{SocketAddrV4}
 use Rattle.std.specs.declared.net.socket_addr.SocketAddrV6.{SocketAddrV6}
 use Rattle.std.specs.Net.Grammar.{IsSocketV4Text, IsSocketV6Text}
 use Rattle.std.proofs.NetLemmas.Texts.{IsDotted-ipv4_text, IsColonHex-ipv6_text, IsPortText-decimal}
 use Rattle.std.proofs.NetLemmas.Sockets.{read_socket_v4_complete, read_socket_v6_complete}
-use Rattle.std.specs.declared.net.socket_addr.SocketAddr.TheVariants as socket
 use Rattle.rd_base.specs.declared.peers.Host.{Host}
 use Rattle.rd_base.specs.declared.peers.Host.TheVariants as host
 use Rattle.rd_base.specs.declared.peers.Peer.{Peer}
 use Rattle.line_model.specs.Numbers.{min_port}
-use Rattle.line_model.specs.Peers.{IsHost, IsPeer, socket_of, peer_text, named_peer, named, if_printed, peer_of}
+use Rattle.line_model.specs.Peers.{IsHost, IsPeer, peer_text, named_peer, named, if_printed, peer_of}
 use Rattle.line_model.proofs.Tests.{chosen, passed, both_parts, both_from}
 
 -- what is read is the peer whose text it is, and its port is not 0

@@ -1,5 +1,5 @@
 -- A printed line is read back as the line that it prints.
-use Rattle.std.proofs.Common.{◌≡◌, ℕ, zero, suc, ◌+◌, ◌*◌, ◌≤◌, ◌<◌, ◌^◌, ◌==◌, Bool, true, false, List, [], ◌∷◌, ◌++◌, length, codes, decimal, Option, Some, None, Result, Ok, Err, ok_or, option_and_then, if◌then◌else◌, nat_lt, bytes_eq, refl, sym, ap, subst, inl, inr, ◌≢◌, ◌∙◌, arith, length-append}
+use Rattle.std.proofs.Common.{◌≡◌, ℕ, ◌+◌, ◌≤◌, ◌==◌, List, [], ◌∷◌, length, codes, decimal, Some, Ok, Err, ok_or, if◌then◌else◌, nat_lt, refl, sym, ap, subst, inl, inr, ◌≢◌, ◌∙◌, arith, length-append}
 use Rattle.std.specs.List.{AllByRecursion}
 use Rattle.std.proofs.lemmas.Bool.{le-ltb, cases_eq, eq-eqb, ne_eqb}
 use Rattle.std.proofs.lemmas.Fmt.{length-decimal-le}
@@ -8,11 +8,10 @@ use Rattle.rd_base.specs.declared.moments.Moment.{Moment}
 use Rattle.rd_base.specs.declared.peers.Peer.{Peer}
 use Rattle.line_model.specs.declared.lines.Line.{Line}
 use Rattle.line_model.specs.declared.lines.Line.TheVariants as line
-use Rattle.line_model.specs.declared.lines.Reason.{Reason}
 use Rattle.line_model.specs.declared.lines.Reason.TheVariants as reason
-use Rattle.line_model.specs.Numbers.{max_worker, max_moment, max_word, number_of}
-use Rattle.line_model.specs.Peers.{IsPeer, peer_of, peer_text}
-use Rattle.line_model.specs.Datagrams.{max_datagram, datagram_of, datagram_text}
+use Rattle.line_model.specs.Numbers.{max_worker, max_moment, max_word}
+use Rattle.line_model.specs.Peers.{IsPeer, peer_text}
+use Rattle.line_model.specs.Datagrams.{max_datagram, datagram_text}
 use Rattle.line_model.specs.Lines.{space, max_line, fields, joined, come_of, go_of, tick_of, said_by, line_of, printed_fields, line_text, IsLine, come, go, tick}
 use Rattle.line_model.proofs.Tests.{passed, failed}
 use Rattle.line_model.proofs.Numbers.{number_of-decimal}
@@ -76,9 +75,9 @@ small_spaceless n h = decimal_spaceless n (omega arith)
 
 word_spaceless : (word : ℕ) → word ≤ max_word → AllByRecursion HasNoSpace (word_fields word)
 word_spaceless word h = elim (cases_eq word 0) [
-      | inl e ↦ subst (AllByRecursion HasNoSpace) (sym (no_word word e)) tt
-      | inr e ↦ subst (AllByRecursion HasNoSpace) (sym (some_word word e)) (decimal_spaceless word (omega arith), tt)
-    ]
+  | inl e ↦ subst (AllByRecursion HasNoSpace) (sym (no_word word e)) tt
+  | inr e ↦ subst (AllByRecursion HasNoSpace) (sym (some_word word e)) (decimal_spaceless word (omega arith), tt)
+]
 
 -- a number of a line has at most 15 digits
 length-small : (n : ℕ) → n ≤ max_moment → length (decimal n) ≤ 15
@@ -90,9 +89,9 @@ length-front part next parts n m h k = omega (arith, h, k, length-append part (s
 
 length-word : (before : List ℕ) (word n : ℕ) → length before ≤ n → word ≤ max_word → length (joined (before ∷ word_fields word)) ≤ n + 16
 length-word before word n h small = elim (cases_eq word 0) [
-      | inl e ↦ subst (λ ps. length (joined (before ∷ ps)) ≤ n + 16) (sym (no_word word e)) (omega (arith, h))
-      | inr e ↦ subst (λ ps. length (joined (before ∷ ps)) ≤ n + 16) (sym (some_word word e)) (let k = length-front before (decimal word) [] n 15 h (length-small word (omega arith)) in omega (arith, k))
-    ]
+  | inl e ↦ subst (λ ps. length (joined (before ∷ ps)) ≤ n + 16) (sym (no_word word e)) (omega (arith, h))
+  | inr e ↦ subst (λ ps. length (joined (before ∷ ps)) ≤ n + 16) (sym (some_word word e)) (let k = length-front before (decimal word) [] n 15 h (length-small word (omega arith)) in omega (arith, k))
+]
 
 -- no printed line is too long
 pub length-line_text : (l : Line) → IsLine l → length (line_text l) ≤ max_line

@@ -1,6 +1,5 @@
 -- No field of a printed line has a space.
-use Rattle.std.proofs.Common.{◌≡◌, ◌≢◌, ℕ, zero, suc, lit<, ◌+◌, ◌*◌, ◌/◌, ◌%◌, ◌≤◌, ◌<◌, ◌^◌, ◌==◌, ◌&&◌, ◌⊎◌, inl, inr, Bool, true, false, List, [], ◌∷◌, ◌++◌, length, codes, take, drop, decimal, slice_index, Option, Some, None, if◌then◌else◌, bytes_eq, All, refl, sym, ap, ◌∙◌, arith}
-use Rattle.std.specs.Int.{IsInRange}
+use Rattle.std.proofs.Common.{◌≡◌, ◌≢◌, ℕ, zero, suc, lit<, ◌/◌, ◌%◌, ◌<◌, ◌^◌, ◌==◌, inl, inr, false, List, [], ◌∷◌, ◌++◌, codes, take, drop, decimal, slice_index, bytes_eq, refl, sym, ap, ◌∙◌, arith}
 use Rattle.std.proofs.lemmas.Bool.{ne_eqb, cond_both}
 use Rattle.std.proofs.lemmas.Option.{none-some}
 use Rattle.std.proofs.lemmas.Fmt.{decimal_is_IsNumeral}
@@ -63,7 +62,7 @@ unfolding ipv6_text
 ipv6_spaceless groups fits =
     let tail = octets_of (drop 6 groups) in
     cond_both (bytes_eq (take 6 groups) (0 ∷ 0 ∷ 0 ∷ 0 ∷ 0 ∷ 0xffff ∷ [])) (codes "::ffff:" ++ ipv4_text tail) (hex_groups_text groups) HasNoSpace
-    (λ _. (refl, (refl, (refl, (refl, (refl, (refl, (refl, ipv4_spaceless tail (octets_fit (drop 6 groups) (AllSegments-drop 6 groups fits)))))))))) 
+    (λ _. (refl, (refl, (refl, (refl, (refl, (refl, (refl, ipv4_spaceless tail (octets_fit (drop 6 groups) (AllSegments-drop 6 groups fits))))))))))
     (λ _. recursion_from_All IsNoSpace (hex_groups_text groups) (λ k d h. hex_or_colon _ (All-hex_groups_text groups fits k d h)))
 
 host_spaceless : (h : Host) (port : ℕ) → IsHost h → port < 2 ^ 16 → HasNoSpace (socket_text (socket_of h port))
@@ -74,8 +73,8 @@ host_spaceless (host.V4 octets) port fits small =
 host_spaceless (host.V6 groups) port fits small = (
   refl,
   joined_spaceless (ipv6_text groups ++ [] ++ codes "]:") (decimal port)
-  (joined_spaceless (ipv6_text groups ++ []) (codes "]:") (joined_spaceless (ipv6_text groups) [] (ipv6_spaceless groups fits.1) tt) (refl, (refl, tt)))
-  (decimal_spaceless port (omega arith)),
+      (joined_spaceless (ipv6_text groups ++ []) (codes "]:") (joined_spaceless (ipv6_text groups) [] (ipv6_spaceless groups fits.1) tt) (refl, (refl, tt)))
+      (decimal_spaceless port (omega arith)),
 )
 
 pub peer_spaceless : (peer : Peer) → IsPeer peer → HasNoSpace (peer_text peer)

@@ -1,5 +1,5 @@
 -- One line of a trace: what it says, and how it is printed.
-use Rattle.std.specs.Prelude.{◌≡◌, ℕ, ◌≤◌, ◌<◌, ◌==◌, ◌⊎◌, List, [], ◌∷◌, ◌++◌, length, codes, decimal, Option, Some, None, Result, Ok, Err, ok_or, option_map, option_and_then, if◌then◌else◌, nat_lt, bytes_eq}
+use Rattle.std.specs.Prelude.{ℕ, ◌≤◌, ◌==◌, List, [], ◌∷◌, length, codes, decimal, Option, Some, None, Result, Err, ok_or, option_and_then, if◌then◌else◌, nat_lt, bytes_eq}
 use Rattle.std.specs.List.{slice_split, join_with_byte}
 use Rattle.rd_base.specs.declared.moments.Moment.{Moment}
 use Rattle.rd_base.specs.declared.peers.Peer.{Peer}

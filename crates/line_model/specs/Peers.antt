@@ -1,5 +1,5 @@
 -- Peers as text: an address as RFC 5952 prints it, an IPv6 address in brackets, and the port.
-use Rattle.std.specs.Prelude.{◌≡◌, ℕ, ◌<◌, ◌≤◌, ◌^◌, ◌&&◌, List, length, slice_index, Option, Some, None, if◌then◌else◌, nat_le, bytes_eq, option_map, option_and_then}
+use Rattle.std.specs.Prelude.{◌≡◌, ℕ, ◌<◌, ◌≤◌, ◌^◌, ◌&&◌, List, length, slice_index, Option, Some, None, if◌then◌else◌, nat_le, bytes_eq, option_and_then}
 use Rattle.std.specs.Net.Reader.{read_socket_v4, read_socket_v6, whole_value}
 use Rattle.std.specs.Net.Text.{socket_text}
 use Rattle.std.specs.declared.net.socket_addr.SocketAddr.{SocketAddr}
