@@ -7,4 +7,6 @@ pub mod Datagrams
 pub mod Spaces
 pub mod Lengths
 pub mod Fields
+pub mod PeerBounds
 pub mod ReadBack
+pub mod Readings

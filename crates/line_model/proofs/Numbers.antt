@@ -20,3 +20,7 @@ unfolding number_of
 number_of-decimal limit n within small =
     let same : digits_value 10 (decimal n) ≡ n = (decimal_is_IsNumeral n (omega arith)).1 in
     rw same (passed (nat_le n limit && bytes_eq (decimal n) (decimal n)) (Some n) None (both_from n limit (decimal n) (decimal n) within refl))
+
+-- a text that prints a number within the limit is read as it
+pub number_of-IsNumber : (limit : ℕ) (text : List ℕ) (n : ℕ) → IsNumber limit text n → limit < 2 ^ 64 → number_of limit text ≡ Some n
+number_of-IsNumber limit text n h small = ap (number_of limit) h.printed ∙ number_of-decimal limit n h.within small

@@ -25,11 +25,11 @@ peer_of-found text peer e =
     (printed ∙ ap (λ q. peer_text q) same, subst (λ q. min_port ≤ q.port) same low)
 
 -- an IPv4 address and a port
-abbrev v4_of : List ℕ → ℕ → SocketAddrV4
+abbrev pub v4_of : List ℕ → ℕ → SocketAddrV4
 v4_of octets port = record { ip = record { octets = octets }; port = port }
 
 -- an IPv6 address and a port
-abbrev v6_of : List ℕ → ℕ → SocketAddrV6
+abbrev pub v6_of : List ℕ → ℕ → SocketAddrV6
 v6_of groups port = record { ip = record { segments = groups }; port = port; flowinfo = 0; scope_id = 0 }
 
 -- each is spelled by its text

@@ -22,7 +22,7 @@ use Rattle.line_model.proofs.Lengths.{length-peer_text, length-datagram_text}
 use Rattle.line_model.proofs.Fields.{fields-joined}
 
 -- what is said by fields is said by the line that they make, where it is not too long
-line_of_fields : (text : List ℕ) (l : Line) → length text ≤ max_line → said_by (fields text) ≡ Some l → line_of text ≡ Ok l
+pub line_of_fields : (text : List ℕ) (l : Line) → length text ≤ max_line → said_by (fields text) ≡ Some l → line_of text ≡ Ok l
 unfolding line_of
 line_of_fields text l short said =
     failed (nat_lt max_line (length text)) (Err reason.Long) (ok_or (said_by (fields text)) reason.Form) (le-ltb max_line (length text) short)

@@ -1,22 +1,22 @@
 -- No field of a printed line has a space.
-use Rattle.std.proofs.Common.{◌≡◌, ◌≢◌, ℕ, zero, suc, lit<, ◌/◌, ◌%◌, ◌<◌, ◌^◌, ◌==◌, inl, inr, false, List, [], ◌∷◌, ◌++◌, codes, take, drop, decimal, slice_index, bytes_eq, refl, sym, ap, ◌∙◌, arith}
-use Rattle.std.proofs.lemmas.Bool.{ne_eqb, cond_both}
+use Rattle.std.proofs.Common.{◌≡◌, ◌≢◌, ℕ, zero, suc, lit<, ◌/◌, ◌%◌, ◌<◌, ◌^◌, ◌==◌, inl, inr, false, List, [], ◌∷◌, ◌++◌, codes, take, drop, decimal, slice_index, bytes_eq, refl, sym, ap, ◌∙◌, arith, true, subst}
+use Rattle.std.proofs.lemmas.Bool.{ne_eqb, cond_both, both_ways}
 use Rattle.std.proofs.lemmas.Option.{none-some}
 use Rattle.std.proofs.lemmas.Fmt.{decimal_is_IsNumeral}
 use Rattle.std.proofs.lemmas.Str.Parse.{digit_at}
-use Rattle.std.proofs.lemmas.List.Elements.{All-from_get_or, recursion_from_All}
-use Rattle.std.specs.List.{AllByRecursion}
+use Rattle.std.proofs.lemmas.List.Elements.{All-from_get_or, recursion_from_All, All-head, All-tail}
+use Rattle.std.specs.List.{AllByRecursion, AllPass}
 use Rattle.std.specs.Net.Addr.{octets_of}
 use Rattle.std.specs.Net.Text.{ipv4_text, ipv6_text, hex_groups_text, socket_text}
 use Rattle.std.proofs.NetLemmas.Alphabet.{IsDigitOrDot, IsHexOrColon, All-ipv4_text, All-hex_groups_text}
 use Rattle.std.proofs.NetLemmas.Texts.{AllSegments, AllSegments-drop}
-use Rattle.hex.specs.Hex.{IsBytes, encode_with, encode_lower, lower_digits, hex_digit_value}
-use Rattle.hex.proofs.HexLemmas.{IsDigits-lower_digits}
+use Rattle.hex.specs.Hex.{IsBytes, encode_with, encode_lower, lower_digits, hex_digit_value, is_hex_digit}
+use Rattle.hex.proofs.HexLemmas.{IsDigits-lower_digits, decode_of-ok}
 use Rattle.rd_base.specs.declared.peers.Host.{Host}
 use Rattle.rd_base.specs.declared.peers.Host.TheVariants as host
 use Rattle.rd_base.specs.declared.peers.Peer.{Peer}
 use Rattle.line_model.specs.Peers.{IsHost, IsPeer, socket_of, peer_text}
-use Rattle.line_model.specs.Datagrams.{datagram_text}
+use Rattle.line_model.specs.Datagrams.{datagram_text, IsDatagramText}
 use Rattle.line_model.specs.Lines.{space}
 
 -- a byte that is no space
@@ -95,3 +95,16 @@ encode_spaceless (octet ∷ octets) h =
 pub datagram_spaceless : (octets : List ℕ) → IsBytes octets → HasNoSpace (datagram_text octets)
 datagram_spaceless [] h = (refl, tt)
 datagram_spaceless (octet ∷ octets) h = encode_spaceless (octet ∷ octets) h
+
+-- hexadecimal digits are no spaces
+digit_no_space : (c : ℕ) → is_hex_digit c ≡ true → c ≢ space
+digit_no_space c h e = both_ways (is_hex_digit space) refl (ap is_hex_digit (sym e) ∙ h)
+
+digits_spaceless : (text : List ℕ) → AllPass is_hex_digit text → HasNoSpace text
+digits_spaceless [] h = tt
+digits_spaceless (c ∷ cs) h = (other c (digit_no_space c (All-head (λ x. is_hex_digit x ≡ true) c cs h)), digits_spaceless cs (All-tail (λ x. is_hex_digit x ≡ true) c cs h))
+
+-- nor is a text that writes a datagram
+pub IsDatagramText_spaceless : (text octets : List ℕ) → IsDatagramText text octets → HasNoSpace text
+IsDatagramText_spaceless text octets (inl h) = subst HasNoSpace (sym h.0) (refl, tt)
+IsDatagramText_spaceless text octets (inr h) = digits_spaceless text (decode_of-ok text octets h.0).1

@@ -1,5 +1,5 @@
 -- Tests that give a value or nothing.
-use Rattle.std.proofs.Common.{◌≡◌, ℕ, ◌≤◌, ◌&&◌, Bool, true, false, List, Some, None, if◌then◌else◌, nat_le, bytes_eq, refl}
+use Rattle.std.proofs.Common.{◌≡◌, ℕ, ◌≤◌, ◌&&◌, Bool, true, false, List, Some, None, if◌then◌else◌, nat_le, bytes_eq, refl, ◌⊎◌, inl, inr}
 use Rattle.std.proofs.lemmas.Bool.{and_parts, and_from, leb-true, le-leb}
 use Rattle.std.proofs.lemmas.Option.{none-some, same_Some}
 use Rattle.std.proofs.lemmas.Slice.Eq.{bytes_eq-Decides}
@@ -28,3 +28,8 @@ both_parts m n xs ys e =
 -- and back
 pub both_from : (m n : ℕ) (xs ys : List ℕ) → m ≤ n → xs ≡ ys → (nat_le m n && bytes_eq xs ys) ≡ true
 both_from m n xs ys h e = and_from (nat_le m n) (bytes_eq xs ys) (le-leb m n h) ((bytes_eq-Decides xs ys).1 e)
+
+-- what a test gave is one of its two values
+pub either_of : {A : Type 0} (b : Bool) (x y z : A) → (if b then x else y) ≡ z → ((b ≡ true) × (x ≡ z)) ⊎ ((b ≡ false) × (y ≡ z))
+either_of true x y z e = inl (refl, e)
+either_of false x y z e = inr (refl, e)

@@ -1,5 +1,5 @@
 -- One line of a trace: what it says, and how it is printed.
-use Rattle.std.specs.Prelude.{ℕ, ◌≤◌, ◌==◌, List, [], ◌∷◌, length, codes, decimal, Option, Some, None, Result, Err, ok_or, option_and_then, if◌then◌else◌, nat_lt, bytes_eq}
+use Rattle.std.specs.Prelude.{◌≡◌, ℕ, ◌≤◌, ◌==◌, List, [], ◌∷◌, length, codes, decimal, Option, Some, None, Result, Err, ok_or, option_and_then, if◌then◌else◌, nat_lt, bytes_eq}
 use Rattle.std.specs.List.{slice_split, join_with_byte}
 use Rattle.rd_base.specs.declared.moments.Moment.{Moment}
 use Rattle.rd_base.specs.declared.peers.Peer.{Peer}
@@ -8,9 +8,9 @@ use Rattle.line_model.specs.declared.lines.Line.{Line}
 use Rattle.line_model.specs.declared.lines.Line.TheVariants as line
 use Rattle.line_model.specs.declared.lines.Reason.{Reason}
 use Rattle.line_model.specs.declared.lines.Reason.TheVariants as reason
-use Rattle.line_model.specs.Numbers.{max_worker, max_moment, max_word, number_of}
-use Rattle.line_model.specs.Peers.{IsPeer, peer_of, peer_text}
-use Rattle.line_model.specs.Datagrams.{max_datagram, datagram_of, datagram_text}
+use Rattle.line_model.specs.Numbers.{max_worker, max_moment, max_word, IsNumber, number_of}
+use Rattle.line_model.specs.Peers.{IsPeer, IsPeerText, peer_of, peer_text}
+use Rattle.line_model.specs.Datagrams.{IsDatagramText, max_datagram, datagram_of, datagram_text}
 
 -- the space between two fields
 abbrev pub space : ℕ
@@ -91,3 +91,17 @@ pub data IsLine : Line → Type 0 where
   come : {worker : ℕ} {moment : Moment} {peer : Peer} {octets : List ℕ} → worker ≤ max_worker → moment.0 ≤ max_moment → IsPeer peer → length octets ≤ max_datagram → IsBytes octets → IsLine (line.Come worker moment peer octets)
   go : {worker : ℕ} {moment : Moment} → worker ≤ max_worker → moment.0 ≤ max_moment → IsLine (line.Go worker moment)
   tick : {worker : ℕ} {moment : Moment} {word : ℕ} → worker ≤ max_worker → moment.0 ≤ max_moment → word ≤ max_word → IsLine (line.Tick worker moment word)
+
+-- the fields spell this line
+pub data AreFieldsOf : List (List ℕ) → Line → Type 0 where
+  comes : {w m p d : List ℕ} {worker : ℕ} {moment : Moment} {peer : Peer} {octets : List ℕ} → IsNumber max_worker w worker → IsNumber max_moment m moment.0 → IsPeerText p peer → IsDatagramText d octets → AreFieldsOf (codes "in" ∷ w ∷ m ∷ p ∷ d ∷ []) (line.Come worker moment peer octets)
+  goes : {w m : List ℕ} {worker : ℕ} {moment : Moment} → IsNumber max_worker w worker → IsNumber max_moment m moment.0 → AreFieldsOf (codes "go" ∷ w ∷ m ∷ []) (line.Go worker moment)
+  ticks : {w m x : List ℕ} {worker : ℕ} {moment : Moment} {word : ℕ} → IsNumber max_worker w worker → IsNumber max_moment m moment.0 → IsNumber max_word x word → AreFieldsOf (codes "tick" ∷ w ∷ m ∷ x ∷ []) (line.Tick worker moment word)
+  ticks_alone : {w m : List ℕ} {worker : ℕ} {moment : Moment} → IsNumber max_worker w worker → IsNumber max_moment m moment.0 → AreFieldsOf (codes "tick" ∷ w ∷ m ∷ []) (line.Tick worker moment 0)
+
+-- the text is this line: it is not too long, and its fields, single spaces between them, spell the line
+pub record IsLineText (text : List ℕ) (l : Line) : Type 0 where
+  pub short : length text ≤ max_line
+  pub parts : List (List ℕ)
+  pub spelled : text ≡ joined parts
+  pub said : AreFieldsOf parts l

@@ -46,3 +46,8 @@ if_printed text peer = if nat_le min_port peer.port && bytes_eq text (peer_text 
 -- the peer that a text prints, for a port of 1 to 65,535
 unfoldable pub peer_of : List ℕ → Option Peer
 peer_of text = option_and_then (if_printed text) (named_peer text)
+
+-- the text prints this peer
+pub record IsPeerText (text : List ℕ) (peer : Peer) : Type 0 where
+  pub fits : IsPeer peer
+  pub printed : text ≡ peer_text peer
