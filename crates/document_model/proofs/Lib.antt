@@ -6,3 +6,5 @@ mod ResolutionExamples
 mod ParameterExamples
 pub mod RecordLiterals
 mod RecordExamples
+pub mod Weights
+pub mod MatchingLaws
