@@ -8,3 +8,4 @@ pub mod RecordLiterals
 mod RecordExamples
 pub mod Weights
 pub mod MatchingLaws
+mod WeightExamples
