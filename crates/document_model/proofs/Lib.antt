@@ -1,5 +1,7 @@
 mod BodyExamples
 mod DocumentExamples
 pub mod OnLiterals
+pub mod QuotingLaws
+pub mod ReferenceCuts
 mod ReferenceExamples
 mod ResolutionExamples
