@@ -4,4 +4,5 @@ pub mod OnLiterals
 pub mod QuotingLaws
 pub mod ReferenceCuts
 mod ReferenceExamples
+pub mod ReferenceLaws
 mod ResolutionExamples
