@@ -5,4 +5,5 @@ pub mod QuotingLaws
 pub mod ReferenceCuts
 mod ReferenceExamples
 pub mod ReferenceLaws
+pub mod ReferenceMarks
 mod ResolutionExamples
