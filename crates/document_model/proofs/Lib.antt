@@ -6,4 +6,5 @@ pub mod ReferenceCuts
 mod ReferenceExamples
 pub mod ReferenceLaws
 pub mod ReferenceMarks
+pub mod ReferenceReading
 mod ResolutionExamples

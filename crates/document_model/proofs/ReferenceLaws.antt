@@ -6,10 +6,10 @@ use Rattle.document_model.specs.Characters.{colon, slash, question_mark, number_
 use Rattle.document_model.specs.References.{Components, before, behind, from_first, has_octet, marked, without_fragment, without_query, has_colon_in_first_segment, scheme_in, behind_scheme, behind_two_slashes, authority_in, path_in, scheme_text, authority_text, query_text, fragment_text, components, recomposed, IsReference, is_allowed, reference}
 use Rattle.document_model.proofs.ReferenceCuts.{cut, cut_from, behind_some, has_octet-before_other}
 
-some_same : {A : Type 0} {x y : A} → Some x ≡ Some y → x ≡ y
+pub some_same : {A : Type 0} {x y : A} → Some x ≡ Some y → x ≡ y
 some_same h = cc
 
-none_some : {A : Type 0} {x : A} → None ≡ Some x → ⊥
+pub none_some : {A : Type 0} {x : A} → None ≡ Some x → ⊥
 none_some h = cc
 
 -- ---- putting together what was taken apart

@@ -15,14 +15,14 @@ no_mark_in_run test mark t [] h = refl
 no_mark_in_run test mark t (c ∷ cs) h = grind (arith, nat_tests, no_mark_in_run test mark t cs)
 
 -- an octet that passes a test is not one that fails it
-other_octet : (test : ℕ → Bool) (c mark : ℕ) → test c ≡ true → test mark ≡ false → (c == mark) ≡ false
+pub other_octet : (test : ℕ → Bool) (c mark : ℕ) → test c ≡ true → test mark ≡ false → (c == mark) ≡ false
 other_octet test c mark h t = by_test (c == mark) refl
   where
     by_test : (b : Bool) → (c == mark) ≡ b → b ≡ false
     by_test true e = absurd (true≢false (sym h ∙ ap test (eqb-true c mark e) ∙ t))
     by_test false e = refl
 
-no_mark_first : (mark c : ℕ) (cs : List ℕ) → (c == mark) ≡ false → has_octet mark cs ≡ false → has_octet mark (c ∷ cs) ≡ false
+pub no_mark_first : (mark c : ℕ) (cs : List ℕ) → (c == mark) ≡ false → has_octet mark cs ≡ false → has_octet mark (c ∷ cs) ≡ false
 no_mark_first mark c cs h k = rw (h, k) refl
 
 -- nor in one with percent escapes escapes
