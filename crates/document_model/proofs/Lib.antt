@@ -1,5 +1,7 @@
 mod BodyExamples
 mod DocumentExamples
+pub mod DocumentPlaces
+pub mod DocumentSteps
 pub mod OnLiterals
 pub mod QuotingLaws
 pub mod ReferenceCuts
