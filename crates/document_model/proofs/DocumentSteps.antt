@@ -30,12 +30,12 @@ each_inside place first inside P each (l ∷ links) h = go l.target l.parameters
 abbrev pub Step : Place → ℕ → Place → Type 0
 Step place c next = (links : List Link) → fits_at next links ≡ true → (c ∷ text_at next links ≡ text_at place (with_octet place c links)) × (fits_at place (with_octet place c links) ≡ true)
 
-step_less_than : Step at_link less_than_sign at_target
+pub step_less_than : Step at_link less_than_sign at_target
 unfolding with_octet
 step_less_than [] h = absurd (false≢true h)
 step_less_than (l ∷ links) h = (refl, h)
 
-step_less_than_first : Step at_beginning less_than_sign at_target
+pub step_less_than_first : Step at_beginning less_than_sign at_target
 unfolding with_octet
 step_less_than_first [] h = absurd (false≢true h)
 step_less_than_first (l ∷ links) h = (refl, h)
@@ -45,36 +45,36 @@ target_end : (t : List ℕ) (ps : List Parameter) (links : List Link) → fits_a
 target_end [] ps links h = (refl, h)
 target_end (c ∷ t) ps links h = absurd (false≢true h)
 
-step_greater_than : Step at_target greater_than_sign behind_part
+pub step_greater_than : Step at_target greater_than_sign behind_part
 unfolding with_octet
 step_greater_than [] h = absurd (false≢true h)
 step_greater_than (l ∷ links) h = target_end l.target l.parameters links h
 
-step_target : (c : ℕ) → is_target_character c ≡ true → Step at_target c at_target
+pub step_target : (c : ℕ) → is_target_character c ≡ true → Step at_target c at_target
 unfolding with_octet
 step_target c e [] h = absurd (false≢true h)
 step_target c e (l ∷ links) h = let other : (c == greater_than_sign) ≡ false = other_octet is_target_character c greater_than_sign e refl in (rw other refl, rw (other, e) h)
 
 -- ---- behind a part
 
-step_semicolon : Step behind_part semicolon at_name
+pub step_semicolon : Step behind_part semicolon at_name
 unfolding with_octet
 step_semicolon = each_inside at_name refl (λ l. refl) (λ links. (semicolon ∷ text_at at_name links ≡ text_at behind_part (with_octet behind_part semicolon links)) × (fits_at behind_part (with_octet behind_part semicolon links) ≡ true))
   (λ n v ps links h. (refl, h))
 
-step_comma : Step behind_part comma at_link
+pub step_comma : Step behind_part comma at_link
 unfolding with_octet
 step_comma [] h = absurd (false≢true h)
 step_comma (l ∷ links) h = (refl, h)
 
 -- ---- names
 
-step_name : (c : ℕ) → is_attribute_name_character c ≡ true → Step at_name c within_name
+pub step_name : (c : ℕ) → is_attribute_name_character c ≡ true → Step at_name c within_name
 unfolding with_octet
 step_name c e = each_inside within_name refl (λ l. refl) (λ links. (c ∷ text_at within_name links ≡ text_at at_name (with_octet at_name c links)) × (fits_at at_name (with_octet at_name c links) ≡ true))
   (λ n v ps links h. (refl, rw e h))
 
-step_within_name : (c : ℕ) → is_attribute_name_character c ≡ true → Step within_name c within_name
+pub step_within_name : (c : ℕ) → is_attribute_name_character c ≡ true → Step within_name c within_name
 unfolding with_octet
 step_within_name c e = each_inside within_name refl (λ l. refl) (λ links. (c ∷ text_at within_name links ≡ text_at within_name (with_octet within_name c links)) × (fits_at within_name (with_octet within_name c links) ≡ true))
   (λ n v ps links h.
@@ -86,7 +86,7 @@ unfolding with_octet
 asterisk_alone [] v ps links h = (refl, h)
 asterisk_alone (c ∷ n) v ps links h = absurd (false≢true h)
 
-step_asterisk : Step within_name asterisk behind_name
+pub step_asterisk : Step within_name asterisk behind_name
 step_asterisk = each_inside behind_name refl (λ l. refl) (λ links. (asterisk ∷ text_at behind_name links ≡ text_at within_name (with_octet within_name asterisk links)) × (fits_at within_name (with_octet within_name asterisk links) ≡ true))
   asterisk_alone
 
@@ -96,17 +96,17 @@ equals_within_name_each [] None ps links h = absurd (false≢true h)
 equals_within_name_each [] (Some v) ps links h = (refl, h)
 equals_within_name_each (x ∷ n) v ps links h = absurd (false≢true h)
 
-equals_within_name : Step within_name equals_sign at_value
+pub equals_within_name : Step within_name equals_sign at_value
 equals_within_name = each_inside at_value refl (λ l. refl) (λ links. (equals_sign ∷ text_at at_value links ≡ text_at within_name (with_octet within_name equals_sign links)) × (fits_at within_name (with_octet within_name equals_sign links) ≡ true)) equals_within_name_each
 
 semicolon_within_name_each : (n : List ℕ) (v : Option (List ℕ)) (ps : List Parameter) (links : List Link) → fits_at at_name (link_with n v ps ∷ links) ≡ true → (semicolon ∷ text_at at_name (link_with n v ps ∷ links) ≡ text_at within_name (with_octet within_name semicolon (link_with n v ps ∷ links))) × (fits_at within_name (with_octet within_name semicolon (link_with n v ps ∷ links)) ≡ true)
 unfolding with_octet
 semicolon_within_name_each n v ps links h = (refl, h)
 
-semicolon_within_name : Step within_name semicolon at_name
+pub semicolon_within_name : Step within_name semicolon at_name
 semicolon_within_name = each_inside at_name refl (λ l. refl) (λ links. (semicolon ∷ text_at at_name links ≡ text_at within_name (with_octet within_name semicolon links)) × (fits_at within_name (with_octet within_name semicolon links) ≡ true)) semicolon_within_name_each
 
-comma_within_name : Step within_name comma at_link
+pub comma_within_name : Step within_name comma at_link
 unfolding with_octet
 comma_within_name [] h = absurd (false≢true h)
 comma_within_name (l ∷ links) h = (refl, h)
@@ -117,17 +117,17 @@ equals_behind_name_each [] None ps links h = absurd (false≢true h)
 equals_behind_name_each [] (Some v) ps links h = (refl, h)
 equals_behind_name_each (x ∷ n) v ps links h = absurd (false≢true h)
 
-equals_behind_name : Step behind_name equals_sign at_value
+pub equals_behind_name : Step behind_name equals_sign at_value
 equals_behind_name = each_inside at_value refl (λ l. refl) (λ links. (equals_sign ∷ text_at at_value links ≡ text_at behind_name (with_octet behind_name equals_sign links)) × (fits_at behind_name (with_octet behind_name equals_sign links) ≡ true)) equals_behind_name_each
 
 semicolon_behind_name_each : (n : List ℕ) (v : Option (List ℕ)) (ps : List Parameter) (links : List Link) → fits_at at_name (link_with n v ps ∷ links) ≡ true → (semicolon ∷ text_at at_name (link_with n v ps ∷ links) ≡ text_at behind_name (with_octet behind_name semicolon (link_with n v ps ∷ links))) × (fits_at behind_name (with_octet behind_name semicolon (link_with n v ps ∷ links)) ≡ true)
 unfolding with_octet
 semicolon_behind_name_each n v ps links h = (refl, h)
 
-semicolon_behind_name : Step behind_name semicolon at_name
+pub semicolon_behind_name : Step behind_name semicolon at_name
 semicolon_behind_name = each_inside at_name refl (λ l. refl) (λ links. (semicolon ∷ text_at at_name links ≡ text_at behind_name (with_octet behind_name semicolon links)) × (fits_at behind_name (with_octet behind_name semicolon links) ≡ true)) semicolon_behind_name_each
 
-comma_behind_name : Step behind_name comma at_link
+pub comma_behind_name : Step behind_name comma at_link
 unfolding with_octet
 comma_behind_name [] h = absurd (false≢true h)
 comma_behind_name (l ∷ links) h = (refl, h)
@@ -138,10 +138,10 @@ semicolon_in_token_each : (n : List ℕ) (v : Option (List ℕ)) (ps : List Para
 unfolding with_octet
 semicolon_in_token_each n v ps links h = (refl, h)
 
-semicolon_in_token : Step in_token semicolon at_name
+pub semicolon_in_token : Step in_token semicolon at_name
 semicolon_in_token = each_inside at_name refl (λ l. refl) (λ links. (semicolon ∷ text_at at_name links ≡ text_at in_token (with_octet in_token semicolon links)) × (fits_at in_token (with_octet in_token semicolon links) ≡ true)) semicolon_in_token_each
 
-comma_in_token : Step in_token comma at_link
+pub comma_in_token : Step in_token comma at_link
 unfolding with_octet
 comma_in_token [] h = absurd (false≢true h)
 comma_in_token (l ∷ links) h = (refl, h)
@@ -156,7 +156,7 @@ token_first_each c e [] None ps links h = absurd (false≢true h)
 token_first_each c e [] (Some v) ps links h = (refl, rw e (or_first (list_all is_token_character v) (c == quote_mark && closes_quotes false v) (list_all is_parameter ps) (list_all is_link links) h))
 token_first_each c e (x ∷ n) v ps links h = absurd (false≢true h)
 
-token_first : (c : ℕ) → is_token_character c ≡ true → Step at_value c in_token
+pub token_first : (c : ℕ) → is_token_character c ≡ true → Step at_value c in_token
 token_first c e = each_inside in_token refl (λ l. refl) (λ links. (c ∷ text_at in_token links ≡ text_at at_value (with_octet at_value c links)) × (fits_at at_value (with_octet at_value c links) ≡ true)) (token_first_each c e)
 
 token_further_each : (c : ℕ) → is_token_character c ≡ true → (n : List ℕ) (v : Option (List ℕ)) (ps : List Parameter) (links : List Link) → fits_at in_token (link_with n v ps ∷ links) ≡ true → (c ∷ text_at in_token (link_with n v ps ∷ links) ≡ text_at in_token (with_octet in_token c (link_with n v ps ∷ links))) × (fits_at in_token (with_octet in_token c (link_with n v ps ∷ links)) ≡ true)
@@ -165,7 +165,7 @@ token_further_each c e [] None ps links h = absurd (false≢true h)
 token_further_each c e [] (Some v) ps links h = (rw e refl, rw (e, e) h)
 token_further_each c e (x ∷ n) v ps links h = absurd (false≢true h)
 
-token_further : (c : ℕ) → is_token_character c ≡ true → Step in_token c in_token
+pub token_further : (c : ℕ) → is_token_character c ≡ true → Step in_token c in_token
 token_further c e = each_inside in_token refl (λ l. refl) (λ links. (c ∷ text_at in_token links ≡ text_at in_token (with_octet in_token c links)) × (fits_at in_token (with_octet in_token c links) ≡ true)) (token_further_each c e)
 
 quotes_open_each : (n : List ℕ) (v : Option (List ℕ)) (ps : List Parameter) (links : List Link) → fits_at in_quotes (link_with n v ps ∷ links) ≡ true → (quote_mark ∷ text_at in_quotes (link_with n v ps ∷ links) ≡ text_at at_value (with_octet at_value quote_mark (link_with n v ps ∷ links))) × (fits_at at_value (with_octet at_value quote_mark (link_with n v ps ∷ links)) ≡ true)
@@ -174,10 +174,10 @@ quotes_open_each [] None ps links h = absurd (false≢true h)
 quotes_open_each [] (Some v) ps links h = (refl, h)
 quotes_open_each (x ∷ n) v ps links h = absurd (false≢true h)
 
-quotes_open : Step at_value quote_mark in_quotes
+pub quotes_open : Step at_value quote_mark in_quotes
 quotes_open = each_inside in_quotes refl (λ l. refl) (λ links. (quote_mark ∷ text_at in_quotes links ≡ text_at at_value (with_octet at_value quote_mark links)) × (fits_at at_value (with_octet at_value quote_mark links) ≡ true)) quotes_open_each
 
-quotes_close : Step in_quotes quote_mark behind_part
+pub quotes_close : Step in_quotes quote_mark behind_part
 unfolding with_octet
 quotes_close [] h = absurd (false≢true h)
 quotes_close (l ∷ links) h = closed l.target l.parameters links h
@@ -192,7 +192,7 @@ quotes_backslash_each [] None ps links h = absurd (false≢true h)
 quotes_backslash_each [] (Some v) ps links h = (refl, h)
 quotes_backslash_each (x ∷ n) v ps links h = absurd (false≢true h)
 
-quotes_backslash : Step in_quotes backslash behind_backslash
+pub quotes_backslash : Step in_quotes backslash behind_backslash
 quotes_backslash = each_inside behind_backslash refl (λ l. refl) (λ links. (backslash ∷ text_at behind_backslash links ≡ text_at in_quotes (with_octet in_quotes backslash links)) × (fits_at in_quotes (with_octet in_quotes backslash links) ≡ true)) quotes_backslash_each
 
 quotes_further_each : (c : ℕ) → (c == quote_mark) ≡ false → (c == backslash) ≡ false → is_not_control c ≡ true → (n : List ℕ) (v : Option (List ℕ)) (ps : List Parameter) (links : List Link) → fits_at in_quotes (link_with n v ps ∷ links) ≡ true → (c ∷ text_at in_quotes (link_with n v ps ∷ links) ≡ text_at in_quotes (with_octet in_quotes c (link_with n v ps ∷ links))) × (fits_at in_quotes (with_octet in_quotes c (link_with n v ps ∷ links)) ≡ true)
@@ -201,7 +201,7 @@ quotes_further_each c q b e [] None ps links h = absurd (false≢true h)
 quotes_further_each c q b e [] (Some v) ps links h = (rw q refl, rw (q, q, e, b) h)
 quotes_further_each c q b e (x ∷ n) v ps links h = absurd (false≢true h)
 
-quotes_further : (c : ℕ) → (c == quote_mark) ≡ false → (c == backslash) ≡ false → is_not_control c ≡ true → Step in_quotes c in_quotes
+pub quotes_further : (c : ℕ) → (c == quote_mark) ≡ false → (c == backslash) ≡ false → is_not_control c ≡ true → Step in_quotes c in_quotes
 quotes_further c q b e = each_inside in_quotes refl (λ l. refl) (λ links. (c ∷ text_at in_quotes links ≡ text_at in_quotes (with_octet in_quotes c links)) × (fits_at in_quotes (with_octet in_quotes c links) ≡ true)) (quotes_further_each c q b e)
 
 escape_each : (c : ℕ) → is_not_control c ≡ true → (n : List ℕ) (v : Option (List ℕ)) (ps : List Parameter) (links : List Link) → fits_at in_quotes (link_with n v ps ∷ links) ≡ true → (c ∷ text_at in_quotes (link_with n v ps ∷ links) ≡ text_at behind_backslash (with_octet behind_backslash c (link_with n v ps ∷ links))) × (fits_at behind_backslash (with_octet behind_backslash c (link_with n v ps ∷ links)) ≡ true)
@@ -210,5 +210,5 @@ escape_each c e [] None ps links h = absurd (false≢true h)
 escape_each c e [] (Some v) ps links h = (refl, rw e h)
 escape_each c e (x ∷ n) v ps links h = absurd (false≢true h)
 
-escape : (c : ℕ) → is_not_control c ≡ true → Step behind_backslash c in_quotes
+pub escape : (c : ℕ) → is_not_control c ≡ true → Step behind_backslash c in_quotes
 escape c e = each_inside in_quotes refl (λ l. refl) (λ links. (c ∷ text_at in_quotes links ≡ text_at behind_backslash (with_octet behind_backslash c links)) × (fits_at behind_backslash (with_octet behind_backslash c links) ≡ true)) (escape_each c e)

@@ -1,5 +1,6 @@
 mod BodyExamples
 mod DocumentExamples
+pub mod DocumentFound
 pub mod DocumentPlaces
 pub mod DocumentSteps
 pub mod OnLiterals
