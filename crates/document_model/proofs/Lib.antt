@@ -1,7 +1,15 @@
 mod BodyExamples
 mod DocumentExamples
+pub mod DocumentFound
+pub mod DocumentPlaces
+pub mod DocumentSteps
 pub mod OnLiterals
+pub mod QuotingLaws
+pub mod ReferenceCuts
 mod ReferenceExamples
+pub mod ReferenceLaws
+pub mod ReferenceMarks
+pub mod ReferenceReading
 mod ResolutionExamples
 mod ParameterExamples
 pub mod RecordLiterals

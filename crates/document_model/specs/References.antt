@@ -91,7 +91,7 @@ components text = record {
 
 -- ---- putting it together (RFC 3986 section 5.3)
 
--- the text of a scheme, an authority, a query and a fragment, where there is one
+-- the text of a scheme and of an authority with their delimiters, where there is one
 abbrev pub scheme_text : Option (List ℕ) → List ℕ
 scheme_text None = []
 scheme_text (Some scheme) = scheme ++ colon ∷ []
@@ -100,13 +100,16 @@ abbrev pub authority_text : Option (List ℕ) → List ℕ
 authority_text None = []
 authority_text (Some authority) = slash ∷ slash ∷ authority
 
+-- the text behind its mark, where there is one
+abbrev pub marked : ℕ → Option (List ℕ) → List ℕ
+marked mark None = []
+marked mark (Some text) = mark ∷ text
+
 abbrev pub query_text : Option (List ℕ) → List ℕ
-query_text None = []
-query_text (Some query) = question_mark ∷ query
+query_text query = marked question_mark query
 
 abbrev pub fragment_text : Option (List ℕ) → List ℕ
-fragment_text None = []
-fragment_text (Some fragment) = number_sign ∷ fragment
+fragment_text fragment = marked number_sign fragment
 
 -- the text that the components spell
 unfoldable pub recomposed : Components → List ℕ
