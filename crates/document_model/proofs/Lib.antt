@@ -17,3 +17,4 @@ mod RecordExamples
 pub mod Weights
 pub mod MatchingLaws
 mod WeightExamples
+mod BodyFaultExamples

@@ -11,9 +11,10 @@ use Rattle.document_model.specs.ListingLines.{link_listed, endpoint_listed, link
 use Rattle.document_model.specs.Records.{based, item_of, rebased, updated_attributes, registered, updated}
 use Rattle.document_model.specs.Refusals.{first_unlimited, is_refused_as_links, is_refused_as_limited}
 use Rattle.document_model.specs.Discovery.{own_items, own_link_listed, discovery}
+use Rattle.document_model.specs.BodyFaults.{references_of, first_no_reference, body_fault}
 use Rattle.document_model.proofs.OnLiterals.{document_on_literals}
 
 -- the definitions of records and queries
 unfoldable pub record_on_literals : ⊤
-unfolding document_on_literals digits hex hex_groups_text ipv6_text value_named has_control is_base is_link_local parameter_fault parameters_fault registration_values update_values registration_parameters update_parameters option_fault lookup_fault lookup_values lookup_query fault_of base_of matches_value matches_named link_matches location endpoint_pairs endpoint_matches link_listed endpoint_listed link_line endpoint_line part weight shown based item_of rebased updated_attributes registered updated first_unlimited is_refused_as_links is_refused_as_limited own_items own_link_listed discovery
+unfolding document_on_literals digits hex hex_groups_text ipv6_text value_named has_control is_base is_link_local parameter_fault parameters_fault registration_values update_values registration_parameters update_parameters option_fault lookup_fault lookup_values lookup_query fault_of base_of matches_value matches_named link_matches location endpoint_pairs endpoint_matches link_listed endpoint_listed link_line endpoint_line part weight shown based item_of rebased updated_attributes registered updated first_unlimited is_refused_as_links is_refused_as_limited own_items own_link_listed discovery references_of first_no_reference body_fault
 record_on_literals = tt

@@ -17,3 +17,4 @@ pub mod ListingLines
 pub mod Records
 pub mod Refusals
 pub mod Discovery
+pub mod BodyFaults
