@@ -18,3 +18,4 @@ pub mod Weights
 pub mod MatchingLaws
 mod WeightExamples
 mod BodyFaultExamples
+pub mod BodyLaws

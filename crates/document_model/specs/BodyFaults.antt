@@ -1,5 +1,5 @@
 -- The first fault of a registration's body, with its place (RFC 6690 section 2, RFC 3986 section 4.1, RFC 9176 appendix C).
-use Rattle.std.specs.Prelude.{ℕ, ◌+◌, Bool, not, ◌==◌, List, [], ◌∷◌, ◌++◌, length, map, find, Option, Some, None, option_map, option_and_then, if◌then◌else◌}
+use Rattle.std.specs.Prelude.{ℕ, ◌+◌, Bool, true, false, not, ◌==◌, List, [], ◌∷◌, ◌++◌, length, map, find, Option, Some, None, option_map, if◌then◌else◌}
 use Rattle.document_model.specs.Characters.{quote_mark}
 use Rattle.document_model.specs.References.{begins_with}
 use Rattle.document_model.specs.Documents.{Parameter, Link, parameter_text, link_text}
@@ -49,17 +49,25 @@ unfoldable pub first_no_reference : List Link → Option ℕ
 first_no_reference links = option_map (λ r. r.0) (find (λ r. not (is_reference r.1)) (references_of links))
 
 -- the first fault of links: of their references, and else of the Limited Link Format
-abbrev pub fault_of_links : List Link → Option BodyFault
-fault_of_links links = reference_or_limited (first_no_reference links)
-  where
-    reference_or_limited : Option ℕ → Option BodyFault
-    reference_or_limited (Some place) = Some (no_reference place)
-    reference_or_limited None = option_map not_limited (first_unlimited (map submitted_link links))
+abbrev pub reference_or_limited : Option ℕ → List Link → Option BodyFault
+reference_or_limited (Some place) links = Some (no_reference place)
+reference_or_limited None links = option_map not_limited (first_unlimited (map submitted_link links))
 
--- the fault of a body: that it is no document comes before all
+-- the fault of what was read of a body: that it is no document comes before all
+abbrev pub document_or_links : Option (List Link) → List ℕ → Option BodyFault
+document_or_links None body = Some (no_document (good_prefix body))
+document_or_links (Some links) body = reference_or_limited (first_no_reference links) links
+
+-- the fault of a body
 unfoldable pub body_fault : List ℕ → Option BodyFault
-body_fault body = document_or_links (document body)
-  where
-    document_or_links : Option (List Link) → Option BodyFault
-    document_or_links None = Some (no_document (good_prefix body))
-    document_or_links (Some links) = fault_of_links links
+body_fault body = document_or_links (document body) body
+
+-- the fault is one of the document or of a reference; or it is one of the Limited Link Format
+abbrev pub is_of_links : Option BodyFault → Bool
+is_of_links (Some (no_document place)) = true
+is_of_links (Some (no_reference place)) = true
+is_of_links _ = false
+
+abbrev pub is_of_limits : Option BodyFault → Bool
+is_of_limits (Some (not_limited place)) = true
+is_of_limits _ = false

@@ -11,10 +11,11 @@ first_unlimited links = position (λ link. not (is_limited link)) links
 unfoldable pub is_refused_as_links : List ℕ → Bool
 is_refused_as_links body = is_none (linked_references body)
 
+-- one of the links is not in the Limited Link Format
+abbrev pub is_unlimited : Option (List SubmittedLink) → Bool
+is_unlimited None = false
+is_unlimited (Some links) = is_some (first_unlimited links)
+
 -- the body has such links, and one of them is not in the Limited Link Format
 unfoldable pub is_refused_as_limited : List ℕ → Bool
 is_refused_as_limited body = is_unlimited (linked_references body)
-  where
-    is_unlimited : Option (List SubmittedLink) → Bool
-    is_unlimited None = false
-    is_unlimited (Some links) = is_some (first_unlimited links)
