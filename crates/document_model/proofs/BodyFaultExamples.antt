@@ -1,5 +1,5 @@
 -- Faults of bodies and their places, computed.
-use Rattle.std.proofs.Common.{◌≡◌, ℕ, codes, Some, None, refl}
+use Rattle.std.proofs.Common.{◌≡◌, codes, Some, None, refl}
 use Rattle.document_model.specs.BodyFaults.{no_document, no_reference, not_limited, body_fault}
 use Rattle.document_model.proofs.RecordLiterals.{record_on_literals}
 

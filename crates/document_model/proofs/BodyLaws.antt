@@ -1,15 +1,14 @@
 -- The fault of a body agrees with what is refused as `links` and as `limited`.
-use Rattle.std.proofs.Common.{◌≡◌, ℕ, ◌+◌, Bool, true, false, not, ◌&&◌, List, [], ◌∷◌, ◌++◌, length, map, find, Option, Some, None, option_map, option_and_then, is_none, is_some, if◌then◌else◌, position, refl, sym, ap, ◌∙◌}
+use Rattle.std.proofs.Common.{◌≡◌, ℕ, ◌+◌, Bool, true, false, not, ◌&&◌, List, [], ◌∷◌, ◌++◌, length, map, find, Option, Some, None, option_map, option_and_then, is_none, is_some, if◌then◌else◌, refl, ap, ◌∙◌}
 use Rattle.std.specs.List.{list_all}
-use Rattle.std.proofs.lemmas.Option.{none-some}
 use Rattle.rd_base.specs.declared.submitted.SubmittedLink.{SubmittedLink}
 use Rattle.document_model.specs.References.{where_given}
 use Rattle.document_model.specs.Documents.{Parameter, Link, parameter_text, link_text}
-use Rattle.document_model.specs.DocumentReading.{document, good_prefix}
+use Rattle.document_model.specs.DocumentReading.{document}
 use Rattle.document_model.specs.Quoting.{value_of, is_anchor, submitted_link, submitted_links}
-use Rattle.document_model.specs.Bodies.{is_reference, has_references, linked_references, is_limited}
+use Rattle.document_model.specs.Bodies.{is_reference, has_references, linked_references}
 use Rattle.document_model.specs.Refusals.{first_unlimited, is_unlimited, is_refused_as_links, is_refused_as_limited}
-use Rattle.document_model.specs.BodyFaults.{BodyFault, no_document, no_reference, not_limited, Placed, placed_behind, anchor_place, link_references, references_of, first_no_reference, reference_or_limited, document_or_links, body_fault, is_of_links, is_of_limits}
+use Rattle.document_model.specs.BodyFaults.{not_limited, Placed, placed_behind, anchor_place, link_references, references_of, first_no_reference, reference_or_limited, document_or_links, body_fault, is_of_links, is_of_limits}
 
 -- a placed text is a reference
 abbrev is_placed_reference : Placed → Bool

@@ -1,6 +1,5 @@
 -- What a pattern matches: the values that begin with what stands before its wildcard, or the equal value.
-use Rattle.std.proofs.Common.{◌≡◌, ◌↔◌, ℕ, zero, suc, Bool, true, false, List, [], ◌∷◌, ◌++◌, length, take, drop, Option, Some, None, option_map, if◌then◌else◌, bytes_eq, refl, sym, ap, ◌∙◌, take-append-drop, take_at}
-use Rattle.std.specs.List.{starts_with}
+use Rattle.std.proofs.Common.{◌≡◌, ◌↔◌, ℕ, true, List, [], ◌∷◌, ◌++◌, length, take, drop, Some, None, option_map, bytes_eq, refl, sym, ap, ◌∙◌, take-append-drop, take_at}
 use Rattle.std.proofs.lemmas.Slice.Eq.{bytes_eq-Decides}
 use Rattle.document_model.specs.Characters.{asterisk}
 use Rattle.document_model.specs.Matching.{before_wildcard, is_value_of, matches_value}
@@ -20,11 +19,11 @@ matches_value-append front value = ap (λ o. is_value_of o (front ++ asterisk �
 pub matches_value-wildcard : (front value : List ℕ) → (matches_value (front ++ asterisk ∷ []) value ≡ true) ↔ ((rest : List ℕ) × (value ≡ front ++ rest))
 matches_value-wildcard front value = (
   λ e.
-  let same : front ≡ take (length front) value = (bytes_eq-Decides front (take (length front) value)).0 (sym (matches_value-append front value) ∙ e) in
-  (drop (length front) value, sym (take-append-drop (length front) value) ∙ ap (λ (xs : List ℕ). xs ++ drop (length front) value) (sym same)),
+      let same : front ≡ take (length front) value = (bytes_eq-Decides front (take (length front) value)).0 (sym (matches_value-append front value) ∙ e) in
+      (drop (length front) value, sym (take-append-drop (length front) value) ∙ ap (λ (xs : List ℕ). xs ++ drop (length front) value) (sym same)),
   λ (rest, split).
-  let same : take (length front) value ≡ front = ap (take (length front)) split ∙ take_at front rest (length front) refl in
-  matches_value-append front value ∙ (bytes_eq-Decides front (take (length front) value)).1 (sym same),
+      let same : take (length front) value ≡ front = ap (take (length front)) split ∙ take_at front rest (length front) refl in
+      matches_value-append front value ∙ (bytes_eq-Decides front (take (length front) value)).1 (sym same),
 )
 
 -- any other pattern matches the equal value alone

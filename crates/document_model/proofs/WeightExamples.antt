@@ -1,9 +1,7 @@
 -- The weight of a large registration, computed.
 use Rattle.std.proofs.Common.{◌≡◌, ℕ, List, [], ◌∷◌, ◌++◌, codes, replicate, refl, unwrap_or}
 use Rattle.std.specs.List.{concat}
-use Rattle.rd_base.specs.declared.moments.Moment.{Moment}
 use Rattle.rd_base.specs.declared.peers.Host.TheVariants as host
-use Rattle.rd_base.specs.declared.peers.Peer.{Peer}
 use Rattle.document_model.specs.Bodies.{linked_references}
 use Rattle.document_model.specs.Parameters.{registration_values}
 use Rattle.document_model.specs.ListingLines.{weight}

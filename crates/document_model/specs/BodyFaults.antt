@@ -1,5 +1,5 @@
 -- The first fault of a registration's body, with its place (RFC 6690 section 2, RFC 3986 section 4.1, RFC 9176 appendix C).
-use Rattle.std.specs.Prelude.{ℕ, ◌+◌, Bool, true, false, not, ◌==◌, List, [], ◌∷◌, ◌++◌, length, map, find, Option, Some, None, option_map, if◌then◌else◌}
+use Rattle.std.specs.Prelude.{ℕ, ◌+◌, Bool, true, false, not, List, [], ◌∷◌, ◌++◌, length, map, find, Option, Some, None, option_map, if◌then◌else◌}
 use Rattle.document_model.specs.Characters.{quote_mark}
 use Rattle.document_model.specs.References.{begins_with}
 use Rattle.document_model.specs.Documents.{Parameter, Link, parameter_text, link_text}

@@ -1,22 +1,20 @@
 -- What is read as a peer is a peer: its numbers fit.
-use Rattle.std.proofs.Common.{◌≡◌, ◌↔◌, ℕ, zero, suc, ◌+◌, ◌-◌, ◌*◌, ◌≤◌, ◌<◌, ◌^◌, ◌==◌, ◌⊎◌, inl, inr, lit<, Bool, true, false, List, [], ◌∷◌, ◌++◌, length, replicate, slice_index, Option, Some, None, if◌then◌else◌, option_and_then, refl, sym, ap, subst, ◌∙◌, arith, length-append}
+use Rattle.std.proofs.Common.{◌≡◌, ◌↔◌, ℕ, zero, suc, ◌+◌, ◌-◌, ◌*◌, ◌≤◌, ◌<◌, ◌^◌, ◌==◌, inl, inr, lit<, Bool, true, false, List, [], ◌∷◌, ◌++◌, length, replicate, slice_index, Option, Some, None, refl, sym, ap, subst, ◌∙◌, arith, length-append}
 use Rattle.std.proofs.lemmas.List.{length-replicate}
 use Rattle.std.specs.Str.Parse.{digits_value}
 use Rattle.std.proofs.lemmas.Int.Digits.{digits_value-lt}
 use Rattle.std.proofs.lemmas.Bool.{ne_eqb}
 use Rattle.std.proofs.lemmas.Option.{option_and_then_some, none-some, same_Some}
 use Rattle.std.specs.Net.Addr.{segments_of}
-use Rattle.std.specs.Net.Grammar.{IsDotted, IsNumber, IsGroup, IsGroups, IsGroupsAfter, IsColonHex, IsElided, IsSocketV4Text, IsSocketV6Text}
+use Rattle.std.specs.Net.Grammar.{IsDotted, IsGroup, IsGroupsAfter, IsColonHex}
 use Rattle.std.specs.Net.Reader.{read_socket_v4, read_socket_v6, whole_value}
 use Rattle.std.proofs.NetLemmas.Texts.{AllSegments}
 use Rattle.std.proofs.NetLemmas.Sockets.{read_socket_v4_sound, read_socket_v6_sound}
-use Rattle.rd_base.specs.declared.peers.Host.{Host}
 use Rattle.rd_base.specs.declared.peers.Host.TheVariants as host
 use Rattle.rd_base.specs.declared.peers.Peer.{Peer}
-use Rattle.line_model.specs.Numbers.{min_port}
-use Rattle.line_model.specs.Peers.{IsHost, IsPeer, IsPeerText, peer_text, named_peer, named, if_printed, peer_of}
+use Rattle.line_model.specs.Peers.{IsHost, IsPeer, IsPeerText, named_peer, named, if_printed, peer_of}
 use Rattle.line_model.proofs.Tests.{chosen, failed}
-use Rattle.line_model.proofs.Peers.{v4_of, v6_of, peer_of-found, peer_of-peer_text}
+use Rattle.line_model.proofs.Peers.{v4_of, peer_of-found, peer_of-peer_text}
 
 -- every group is of 16 bits
 and_more : (s : ℕ) (rest : List ℕ) → s < 2 ^ 16 → AllSegments rest → AllSegments (s ∷ rest)
@@ -66,8 +64,7 @@ colon_hex_fits text segments (inl h) = (h.1, groups_fit true [] text segments h.
 colon_hex_fits text segments (inr h) =
     let zeroes = replicate (8 - length h.head - length h.tail) 0 in
     let all = both (h.head ++ zeroes) h.tail (both h.head zeroes (groups_fit false [] h.head_text h.head h.head_groups) (zeros _)) (groups_fit true [] h.tail_text h.tail h.tail_groups) in
-    let room = h.room in
-    (
+    let room = h.room in (
       ap (λ (xs : List ℕ). length xs) h.value ∙ omega (arith, room, length-append (h.head ++ zeroes) h.tail, length-append h.head zeroes, length-replicate {A = ℕ} (8 - length h.head - length h.tail) 0),
       subst AllSegments (sym h.value) all,
     )

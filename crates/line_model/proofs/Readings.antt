@@ -1,19 +1,16 @@
 -- A line is read exactly of its texts.
-use Rattle.std.proofs.Common.{◌≡◌, ◌↔◌, ℕ, ◌≤◌, ◌<◌, ◌^◌, Bool, true, false, List, [], ◌∷◌, length, codes, Option, Some, None, Result, Ok, Err, ok_or, option_and_then, nat_lt, bytes_eq, decimal, refl, sym, ap, subst, inl, inr, ◌∙◌, arith}
-use Rattle.std.specs.List.{AllByRecursion}
+use Rattle.std.proofs.Common.{◌≡◌, ◌↔◌, ℕ, ◌<◌, ◌^◌, true, List, [], ◌∷◌, length, codes, Option, Some, None, Ok, Err, ok_or, nat_lt, bytes_eq, refl, sym, ap, subst, inl, inr, ◌∙◌, arith}
 use Rattle.std.proofs.lemmas.Bool.{ltb-false}
 use Rattle.std.proofs.lemmas.Option.{option_and_then_some, none-some, same_Some}
 use Rattle.std.proofs.lemmas.Slice.Eq.{bytes_eq-Decides}
-use Rattle.rd_base.specs.declared.moments.Moment.{Moment}
 use Rattle.line_model.specs.declared.lines.Line.{Line}
 use Rattle.line_model.specs.declared.lines.Line.TheVariants as line
-use Rattle.line_model.specs.declared.lines.Reason.{Reason}
 use Rattle.line_model.specs.declared.lines.Reason.TheVariants as reason
 use Rattle.line_model.specs.Numbers.{IsNumber, max_worker, max_moment, max_word, number_of}
-use Rattle.line_model.specs.Peers.{IsPeerText, peer_of}
+use Rattle.line_model.specs.Peers.{peer_of}
 use Rattle.line_model.specs.Datagrams.{datagram_of}
 use Rattle.line_model.specs.Lines.{max_line, fields, joined, come_of, go_of, tick_of, said_by, line_of, AreFieldsOf, comes, goes, ticks, ticks_alone, IsLineText}
-use Rattle.line_model.proofs.Tests.{passed, either_of}
+use Rattle.line_model.proofs.Tests.{either_of}
 use Rattle.line_model.proofs.Numbers.{number_of-found, number_of-IsNumber}
 use Rattle.line_model.proofs.PeerBounds.{peer_of-IsPeerText}
 use Rattle.line_model.proofs.Datagrams.{datagram_of-found, datagram_of-IsDatagramText}
@@ -34,7 +31,7 @@ module _ (verb w m : List ℕ) (l : Line) where
       option_and_then_some _ (peer_of p) l e2 λ peer ep e3.
       option_and_then_some _ (datagram_of d) l e3 λ octets ed e4.
       let spelled : AreFieldsOf (codes "in" ∷ w ∷ m ∷ p ∷ d ∷ []) (line.Come worker (record { 0 = ms }) peer octets) =
-          comes (number_of-found max_worker w worker ew) (number_of-found max_moment m ms em) ((peer_of-IsPeerText p peer).0 ep) (datagram_of-found d octets ed)
+      comes (number_of-found max_worker w worker ew) (number_of-found max_moment m ms em) ((peer_of-IsPeerText p peer).0 ep) (datagram_of-found d octets ed)
       in
       subst (λ v. AreFieldsOf (v ∷ w ∷ m ∷ p ∷ d ∷ []) l) (sym is) (subst (AreFieldsOf (codes "in" ∷ w ∷ m ∷ p ∷ d ∷ [])) (same_Some _ l e4) spelled)
 
@@ -53,7 +50,7 @@ module _ (verb w m : List ℕ) (l : Line) where
       option_and_then_some _ (number_of max_moment m) l e1 λ ms em e2.
       option_and_then_some _ (number_of max_word x) l e2 λ word ex e3.
       let spelled : AreFieldsOf (codes "tick" ∷ w ∷ m ∷ x ∷ []) (line.Tick worker (record { 0 = ms }) word) =
-          ticks (number_of-found max_worker w worker ew) (number_of-found max_moment m ms em) (number_of-found max_word x word ex)
+      ticks (number_of-found max_worker w worker ew) (number_of-found max_moment m ms em) (number_of-found max_word x word ex)
       in
       subst (λ v. AreFieldsOf (v ∷ w ∷ m ∷ x ∷ []) l) (sym is) (subst (AreFieldsOf (codes "tick" ∷ w ∷ m ∷ x ∷ [])) (same_Some _ l e3) spelled)
 
@@ -75,9 +72,9 @@ said_by-found (verb ∷ w ∷ m ∷ []) l e =
     elim (either_of (bytes_eq verb (codes "go")) _ _ (Some l) e) [
       | inl h ↦ go_found verb w m l (is_word verb (codes "go") h.0) h.1
       | inr h ↦ elim (either_of (bytes_eq verb (codes "tick")) _ _ (Some l) h.1) [
-          | inl k ↦ alone_found verb w m l (is_word verb (codes "tick") k.0) k.1
-          | inr k ↦ absurd (none-some l k.1)
-        ]
+        | inl k ↦ alone_found verb w m l (is_word verb (codes "tick") k.0) k.1
+        | inr k ↦ absurd (none-some l k.1)
+      ]
     ]
 said_by-found (verb ∷ w ∷ m ∷ x ∷ []) l e =
     elim (either_of (bytes_eq verb (codes "tick")) _ _ (Some l) e) [
@@ -132,11 +129,11 @@ line_found text l e =
     elim (either_of (nat_lt max_line (length text)) (Err reason.Long) (ok_or (said_by (fields text)) reason.Form) (Ok l) e) [
       | inl h ↦ cc h.1
       | inr h ↦ record {
-          short = ltb-false max_line (length text) h.0;
-          parts = fields text;
-          spelled = sym (joined-fields text);
-          said = said_by-found (fields text) l (ok_there (said_by (fields text)) l h.1);
-        }
+        short = ltb-false max_line (length text) h.0;
+        parts = fields text;
+        spelled = sym (joined-fields text);
+        said = said_by-found (fields text) l (ok_there (said_by (fields text)) l h.1);
+      }
     ]
 
 -- the text of a line is read as it
