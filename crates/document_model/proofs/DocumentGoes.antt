@@ -1,15 +1,14 @@
 -- Links of the grammar are read from what spells them.
-use Rattle.std.proofs.Common.{◌≡◌, ℕ, Bool, true, false, cond, not, ◌&&◌, ◌||◌, List, [], ◌∷◌, ◌++◌, Option, Some, None, option_map, option_and_then, refl, sym, ap, ◌∙◌, subst, ◌⊎◌, inl, inr, arith}
-use Rattle.std.specs.Prelude.{◌==◌, if◌then◌else◌}
+use Rattle.std.proofs.Common.{◌≡◌, ℕ, Bool, true, false, ◌&&◌, ◌||◌, List, [], ◌∷◌, Option, Some, None, refl, sym, subst, ◌⊎◌, inl, inr}
+use Rattle.std.specs.Prelude.{◌==◌}
 use Rattle.std.specs.List.{list_all}
-use Rattle.std.proofs.lemmas.Bool.{and_parts, false≢true, eqb-true, or_cases}
-use Rattle.document_model.specs.Characters.{quote_mark, asterisk, comma, backslash, semicolon, less_than_sign, equals_sign, greater_than_sign, is_empty, is_not_control, is_attribute_name_character, is_token_character, is_target_character}
-use Rattle.document_model.specs.Documents.{Parameter, Link, value_text, parameters_text, link_text, are_name_characters, is_token, closes_quotes, is_quoted_string, is_value, is_parameter, is_parameter_name, is_link}
-use Rattle.document_model.specs.DocumentReading.{Place, at_beginning, at_link, at_target, behind_part, at_name, within_name, behind_name, at_value, in_token, in_quotes, behind_backslash, place_if, place_after_part, place_after_name, place_after, with_octet, links_at_end, links_from}
+use Rattle.std.proofs.lemmas.Bool.{and_parts, false≢true, eqb-true}
+use Rattle.document_model.specs.Characters.{quote_mark, asterisk, comma, backslash, semicolon, less_than_sign, equals_sign, greater_than_sign, is_not_control, is_attribute_name_character, is_token_character, is_target_character}
+use Rattle.document_model.specs.Documents.{Parameter, Link, are_name_characters, closes_quotes, is_value, is_parameter, is_parameter_name, is_link}
+use Rattle.document_model.specs.DocumentReading.{Place, at_beginning, at_link, at_target, behind_part, at_name, within_name, behind_name, at_value, in_token, in_quotes, behind_backslash, place_after, with_octet, links_at_end}
 use Rattle.document_model.proofs.ReferenceMarks.{other_octet}
-use Rattle.document_model.proofs.DocumentPlaces.{text_at, fits_at, fits_link, fits_parameters}
+use Rattle.document_model.proofs.DocumentPlaces.{text_at, fits_at, fits_parameters}
 use Rattle.document_model.proofs.DocumentSteps.{link_with, each_inside}
-use Rattle.document_model.proofs.DocumentFound.{each_step}
 
 -- nothing is left, and the document may end
 abbrev pub Ends : Place → List Link → Type 0
@@ -167,6 +166,7 @@ in_quotes_goes [] (Some (c ∷ v)) ps links h = by_quote (c == quote_mark) refl
     by_backslash q false e =
         let k : ((is_not_control c && closes_quotes (c == backslash) v) && list_all is_parameter ps) && list_all is_link links ≡ true = rw q at h in
         inr (quoted_goes c v ps links q e (rw e at k))
+
     by_quote : (b : Bool) → (c == quote_mark) ≡ b → EndsOrGoes in_quotes (link_with [] (Some (c ∷ v)) ps ∷ links)
     by_quote true e = subst (λ (d : ℕ). fits_at in_quotes (link_with [] (Some (d ∷ v)) ps ∷ links) ≡ true → EndsOrGoes in_quotes (link_with [] (Some (d ∷ v)) ps ∷ links)) (sym (eqb-true c quote_mark e)) (close_goes v ps links) h
     by_quote false e = by_backslash e (c == backslash) refl

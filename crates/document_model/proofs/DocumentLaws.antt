@@ -1,11 +1,13 @@
 -- A document has one list of links, and `document` finds it.
-use Rattle.std.proofs.Common.{◌≡◌, ℕ, Bool, true, false, cond, ◌&&◌, List, [], ◌∷◌, ◌++◌, map, Option, Some, None, option_map, option_and_then, refl, sym, ap, ◌∙◌, subst, ◌⊎◌, inl, inr, append-nil}
-use Rattle.std.specs.Str.{IsUtf8, is_utf8}
+use Rattle.std.proofs.Common.{◌≡◌, ℕ, Bool, true, false, List, [], ◌∷◌, ◌++◌, Some, option_map, option_and_then, refl, sym, ap, ◌∙◌, ◌⊎◌, inl, inr, append-nil}
+use Rattle.std.specs.Str.{is_utf8}
 use Rattle.std.specs.List.{list_all}
-use Rattle.document_model.specs.Documents.{Parameter, Link, link_text, document_text, is_link, IsDocument}
+use Rattle.std.proofs.lemmas.Str.{IsUtf8-from_is_utf8, is_utf8-from_IsUtf8}
+use Rattle.document_model.specs.Characters.{comma}
+use Rattle.document_model.specs.Documents.{Link, link_text, document_text, is_link, IsDocument}
 use Rattle.document_model.specs.DocumentReading.{Place, at_beginning, place_after, with_octet, links_at_end, links_from, document}
 use Rattle.document_model.proofs.ReferenceLaws.{some_same, none_some}
-use Rattle.document_model.proofs.DocumentPlaces.{further, links_text, text_at, fits_at}
+use Rattle.document_model.proofs.DocumentPlaces.{links_text, text_at, fits_at}
 use Rattle.document_model.proofs.DocumentFound.{each_step, links_from_found}
 use Rattle.document_model.proofs.DocumentGoes.{Ends, Goes, ends_or_goes}
 
@@ -32,3 +34,40 @@ links_from_only (c ∷ cs) place links h e = by_kind (λ next rest f k. links_fr
         let follows : place_after place c ≡ Some goes.next = ap (place_after place) (sym same) ∙ goes.follows in
         let made : with_octet place c goes.rest ≡ links = ap (λ (d : ℕ). with_octet place d goes.rest) (sym same) ∙ goes.made in
         rw (follows, again goes.next goes.rest goes.fits rest, made) refl
+
+-- ---- whole documents
+
+document_text-links : (links : List Link) → document_text links ≡ links_text links
+unfolding document_text
+document_text-links [] = refl
+document_text-links (l ∷ []) = sym (append-nil (link_text l))
+document_text-links (l ∷ m ∷ links) = ap (λ (x : List ℕ). link_text l ++ comma ∷ x) (document_text-links (m ∷ links))
+
+text_at_beginning : (links : List Link) → text_at at_beginning links ≡ document_text links
+text_at_beginning [] = sym (document_text-links [])
+text_at_beginning (l ∷ links) = sym (document_text-links (l ∷ links))
+
+fits_at_beginning : (links : List Link) → fits_at at_beginning links ≡ list_all is_link links
+fits_at_beginning [] = refl
+fits_at_beginning (l ∷ links) = refl
+
+-- what `document` gives are links of the octets
+pub document_found : (bytes : List ℕ) (links : List Link) → document bytes ≡ Some links → IsDocument bytes links
+unfolding document
+document_found bytes links h = by_test (is_utf8 bytes) refl
+  where
+    by_test : (b : Bool) → is_utf8 bytes ≡ b → IsDocument bytes links
+    by_test true e =
+        let spells = links_from_found at_beginning bytes links (rw e at h) in
+        record { utf8 = IsUtf8-from_is_utf8 bytes e; spelled = spells.0 ∙ text_at_beginning links; each = sym (fits_at_beginning links) ∙ spells.1 }
+    by_test false e = absurd (none_some (rw e at h))
+
+-- `document` reads each document
+pub document_only : (bytes : List ℕ) (links : List Link) → IsDocument bytes links → document bytes ≡ Some links
+unfolding document
+document_only bytes links d =
+    rw (is_utf8-from_IsUtf8 bytes d.utf8) (links_from_only bytes at_beginning links (fits_at_beginning links ∙ d.each) (text_at_beginning links ∙ sym d.spelled))
+
+-- a document has one list of links
+pub one_list : (bytes : List ℕ) (links others : List Link) → IsDocument bytes links → IsDocument bytes others → links ≡ others
+one_list bytes links others d e = some_same (sym (document_only bytes links d) ∙ document_only bytes others e)
