@@ -1,5 +1,5 @@
 -- What is left of links at a place of the grammar, and its text.
-use Rattle.std.proofs.Common.{◌≡◌, ℕ, Bool, true, false, ◌&&◌, ◌||◌, List, [], ◌∷◌, ◌++◌, Option, Some, None}
+use Rattle.std.proofs.Common.{ℕ, Bool, true, false, ◌&&◌, ◌||◌, List, [], ◌∷◌, ◌++◌, Option, Some, None}
 use Rattle.std.specs.List.{list_all}
 use Rattle.document_model.specs.Characters.{comma, greater_than_sign, is_empty, is_token_character}
 use Rattle.document_model.specs.Documents.{Parameter, Link, value_text, parameters_text, link_text, are_name_characters, is_token, closes_quotes, is_quoted_string, is_value, is_parameter, is_link}

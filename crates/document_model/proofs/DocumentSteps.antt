@@ -1,14 +1,13 @@
 -- One octet more in front: what is read from behind it on gives what is read from it on.
-use Rattle.std.proofs.Common.{◌≡◌, ℕ, Bool, true, false, cond, not, ◌&&◌, ◌||◌, List, [], ◌∷◌, ◌++◌, Option, Some, None, refl, sym, ap, ◌∙◌, subst, arith}
-use Rattle.std.specs.Prelude.{◌==◌, if◌then◌else◌}
+use Rattle.std.proofs.Common.{◌≡◌, ℕ, Bool, true, false, ◌&&◌, ◌||◌, List, [], ◌∷◌, Option, Some, None, refl, sym, ◌∙◌}
+use Rattle.std.specs.Prelude.{◌==◌}
 use Rattle.std.specs.List.{list_all}
-use Rattle.std.proofs.lemmas.Bool.{and_parts, true≢false, false≢true, eqb-true}
-use Rattle.std.proofs.lemmas.Bool.Decides.{nat_tests}
+use Rattle.std.proofs.lemmas.Bool.{and_parts, false≢true}
 use Rattle.document_model.specs.Characters.{quote_mark, asterisk, comma, backslash, semicolon, less_than_sign, equals_sign, greater_than_sign, is_empty, is_not_control, is_attribute_name_character, is_token_character, is_target_character}
-use Rattle.document_model.specs.Documents.{Parameter, Link, value_text, parameters_text, link_text, are_name_characters, is_token, closes_quotes, is_quoted_string, is_value, is_parameter, is_parameter_name, is_link}
-use Rattle.document_model.specs.DocumentReading.{Place, at_beginning, at_link, at_target, behind_part, at_name, within_name, behind_name, at_value, in_token, in_quotes, behind_backslash, place_after, with_octet, links_at_end}
+use Rattle.document_model.specs.Documents.{Parameter, Link, closes_quotes, is_parameter, is_link}
+use Rattle.document_model.specs.DocumentReading.{Place, at_beginning, at_link, at_target, behind_part, at_name, within_name, behind_name, at_value, in_token, in_quotes, behind_backslash, with_octet}
 use Rattle.document_model.proofs.ReferenceMarks.{other_octet}
-use Rattle.document_model.proofs.DocumentPlaces.{further, text_in_name, text_in_value, given_and, link_rest, text_at, fits_parameter, fits_parameters, fits_link, fits_at, is_beginning}
+use Rattle.document_model.proofs.DocumentPlaces.{text_at, fits_parameters, fits_link, fits_at, is_beginning}
 
 -- a link with nothing left of its target, and this left of its parameters
 abbrev pub link_with : List ℕ → Option (List ℕ) → List Parameter → Link
@@ -60,7 +59,7 @@ step_target c e (l ∷ links) h = let other : (c == greater_than_sign) ≡ false
 pub step_semicolon : Step behind_part semicolon at_name
 unfolding with_octet
 step_semicolon = each_inside at_name refl (λ l. refl) (λ links. (semicolon ∷ text_at at_name links ≡ text_at behind_part (with_octet behind_part semicolon links)) × (fits_at behind_part (with_octet behind_part semicolon links) ≡ true))
-  (λ n v ps links h. (refl, h))
+    (λ n v ps links h. (refl, h))
 
 pub step_comma : Step behind_part comma at_link
 unfolding with_octet
@@ -72,12 +71,12 @@ step_comma (l ∷ links) h = (refl, h)
 pub step_name : (c : ℕ) → is_attribute_name_character c ≡ true → Step at_name c within_name
 unfolding with_octet
 step_name c e = each_inside within_name refl (λ l. refl) (λ links. (c ∷ text_at within_name links ≡ text_at at_name (with_octet at_name c links)) × (fits_at at_name (with_octet at_name c links) ≡ true))
-  (λ n v ps links h. (refl, rw e h))
+    (λ n v ps links h. (refl, rw e h))
 
 pub step_within_name : (c : ℕ) → is_attribute_name_character c ≡ true → Step within_name c within_name
 unfolding with_octet
 step_within_name c e = each_inside within_name refl (λ l. refl) (λ links. (c ∷ text_at within_name links ≡ text_at within_name (with_octet within_name c links)) × (fits_at within_name (with_octet within_name c links) ≡ true))
-  (λ n v ps links h.
+    (λ n v ps links h.
     let other : (c == asterisk) ≡ false = other_octet is_attribute_name_character c asterisk e refl in
     (rw e refl, rw (e, other, e) h))
 
@@ -88,7 +87,7 @@ asterisk_alone (c ∷ n) v ps links h = absurd (false≢true h)
 
 pub step_asterisk : Step within_name asterisk behind_name
 step_asterisk = each_inside behind_name refl (λ l. refl) (λ links. (asterisk ∷ text_at behind_name links ≡ text_at within_name (with_octet within_name asterisk links)) × (fits_at within_name (with_octet within_name asterisk links) ≡ true))
-  asterisk_alone
+    asterisk_alone
 
 equals_within_name_each : (n : List ℕ) (v : Option (List ℕ)) (ps : List Parameter) (links : List Link) → fits_at at_value (link_with n v ps ∷ links) ≡ true → (equals_sign ∷ text_at at_value (link_with n v ps ∷ links) ≡ text_at within_name (with_octet within_name equals_sign (link_with n v ps ∷ links))) × (fits_at within_name (with_octet within_name equals_sign (link_with n v ps ∷ links)) ≡ true)
 unfolding with_octet

@@ -1,6 +1,8 @@
 mod BodyExamples
 mod DocumentExamples
 pub mod DocumentFound
+pub mod DocumentGoes
+pub mod DocumentLaws
 pub mod DocumentPlaces
 pub mod DocumentSteps
 pub mod OnLiterals

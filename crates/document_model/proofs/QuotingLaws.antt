@@ -1,11 +1,9 @@
 -- A quoted text is a quoted string of the grammar, and says what was quoted.
-use Rattle.std.proofs.Common.{◌≡◌, ℕ, Bool, true, false, cond, not, ◌&&◌, ◌||◌, List, [], ◌∷◌, ◌++◌, flat_map, refl, ap, ◌∙◌, append_assoc, arith}
-use Rattle.std.specs.Prelude.{◌==◌}
+use Rattle.std.proofs.Common.{◌≡◌, ℕ, true, false, List, [], ◌∷◌, ◌++◌, flat_map, refl, ap, ◌∙◌, append_assoc, arith}
 use Rattle.std.specs.List.{list_all}
 use Rattle.std.proofs.lemmas.Bool.{and_parts}
 use Rattle.std.proofs.lemmas.Bool.Decides.{nat_tests}
-use Rattle.std.proofs.lemmas.Grind.{common_steps}
-use Rattle.document_model.specs.Characters.{quote_mark, backslash, is_not_control}
+use Rattle.document_model.specs.Characters.{quote_mark, is_not_control}
 use Rattle.document_model.specs.Documents.{closes_quotes, is_quoted_string}
 use Rattle.document_model.specs.Quoting.{content_up_to_quote, escaped_character, quoted, unquoted}
 

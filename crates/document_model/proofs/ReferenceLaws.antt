@@ -1,9 +1,8 @@
 -- A reference has one reading into components, and `reference` finds it.
-use Rattle.std.proofs.Common.{◌≡◌, ℕ, Bool, true, false, cond, not, ◌&&◌, ◌||◌, List, [], ◌∷◌, ◌++◌, Option, Some, None, unwrap_or, is_some, refl, sym, ap, ◌∙◌, append_assoc, arith}
-use Rattle.std.specs.Prelude.{◌==◌}
+use Rattle.std.proofs.Common.{◌≡◌, ℕ, Bool, true, false, List, [], ◌∷◌, ◌++◌, Option, Some, None, unwrap_or, refl, sym, ap, ◌∙◌, append_assoc, arith}
 use Rattle.std.proofs.lemmas.Bool.Decides.{nat_tests}
 use Rattle.document_model.specs.Characters.{colon, slash, question_mark, number_sign}
-use Rattle.document_model.specs.References.{Components, before, behind, from_first, has_octet, marked, without_fragment, without_query, has_colon_in_first_segment, scheme_in, behind_scheme, behind_two_slashes, authority_in, path_in, scheme_text, authority_text, query_text, fragment_text, components, recomposed, IsReference, is_allowed, reference}
+use Rattle.document_model.specs.References.{Components, before, behind, marked, without_fragment, without_query, has_colon_in_first_segment, scheme_in, behind_scheme, behind_two_slashes, authority_in, path_in, scheme_text, authority_text, query_text, fragment_text, components, recomposed, IsReference, is_allowed, reference}
 use Rattle.document_model.proofs.ReferenceCuts.{cut, cut_from, behind_some, has_octet-before_other}
 
 pub some_same : {A : Type 0} {x y : A} → Some x ≡ Some y → x ≡ y
@@ -49,9 +48,9 @@ unfolding recomposed components
 recomposed-components text =
     let hier = without_query text in
     joined text (without_fragment text) hier (behind_scheme hier)
-      (scheme_text (scheme_in hier)) (authority_text (authority_in (behind_scheme hier))) (path_in (behind_scheme hier))
-      (query_text (behind question_mark (without_fragment text))) (fragment_text (behind number_sign text))
-      (cut number_sign text) (cut question_mark (without_fragment text)) (scheme_and_rest hier) (authority_and_path (behind_scheme hier))
+    (scheme_text (scheme_in hier)) (authority_text (authority_in (behind_scheme hier))) (path_in (behind_scheme hier))
+    (query_text (behind question_mark (without_fragment text))) (fragment_text (behind number_sign text))
+    (cut number_sign text) (cut question_mark (without_fragment text)) (scheme_and_rest hier) (authority_and_path (behind_scheme hier))
 
 -- what `reference` gives are components of the text
 pub reference_found : (bytes : List ℕ) (c : Components) → reference bytes ≡ Some c → IsReference bytes c

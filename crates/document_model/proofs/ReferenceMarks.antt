@@ -1,12 +1,12 @@
 -- Which marks cannot stand in the components of a reference.
-use Rattle.std.proofs.Common.{◌≡◌, ℕ, zero, suc, Bool, true, false, cond, not, ◌&&◌, ◌||◌, List, [], ◌∷◌, ◌++◌, Option, Some, None, unwrap_or, refl, sym, ap, ◌∙◌, ◌⊎◌, inl, inr, arith}
+use Rattle.std.proofs.Common.{◌≡◌, ℕ, zero, suc, Bool, true, false, not, ◌&&◌, ◌||◌, List, [], ◌∷◌, Option, Some, None, unwrap_or, refl, sym, ap, ◌∙◌, ◌⊎◌, inl, inr, arith}
 use Rattle.std.specs.Prelude.{◌==◌}
 use Rattle.std.specs.List.{list_all}
 use Rattle.std.specs.Char.{is_ascii_hexdigit, is_ascii_digit}
 use Rattle.std.proofs.lemmas.Bool.{and_parts, or_cases, true≢false, eqb-true}
 use Rattle.std.proofs.lemmas.Bool.Decides.{nat_tests}
-use Rattle.document_model.specs.Characters.{colon, slash, percent_sign, at_sign, left_bracket, right_bracket, is_run_of, is_empty, is_literal_character, is_name_character, is_userinfo_character, is_scheme_character}
-use Rattle.document_model.specs.References.{before, behind, from_first, has_octet, marked, is_text_behind_digits, is_text_of, digits_after, where_given, is_scheme, userinfo_of, behind_userinfo, is_port_text, is_literal_and_port, is_name_and_port, is_host_and_port, is_authority}
+use Rattle.document_model.specs.Characters.{colon, percent_sign, at_sign, left_bracket, right_bracket, is_run_of, is_empty, is_literal_character, is_name_character, is_userinfo_character}
+use Rattle.document_model.specs.References.{before, behind, from_first, has_octet, marked, is_text_behind_digits, is_text_of, digits_after, where_given, userinfo_of, behind_userinfo, is_port_text, is_literal_and_port, is_name_and_port, is_host_and_port, is_authority}
 use Rattle.document_model.proofs.ReferenceCuts.{cut, cut_from, behind_some, behind_none, has_octet-append}
 
 -- an octet that fails a test does not stand in a text of octets that pass it
@@ -86,8 +86,8 @@ no_mark_in_literal mark m (c ∷ cs) h =
     let run = and_parts (not (is_empty inside)) (list_all is_literal_character inside) (all.1) in
     let first : (c == mark) ≡ false = rw (eqb-true c left_bracket (all.0)) m.left in
     no_mark_first mark c cs first
-      (no_mark_in_cut mark right_bracket cs (no_mark_in_run is_literal_character mark m.literal inside (run.1))
-        (no_mark_marked mark right_bracket is_port_text m.right (no_mark_in_port mark m) (behind right_bracket cs) (all.2)))
+    (no_mark_in_cut mark right_bracket cs (no_mark_in_run is_literal_character mark m.literal inside (run.1))
+    (no_mark_marked mark right_bracket is_port_text m.right (no_mark_in_port mark m) (behind right_bracket cs) (all.2)))
 
 no_mark_in_name : (mark : ℕ) → IsNoAuthorityMark mark → (text : List ℕ) → is_name_and_port text ≡ true → has_octet mark text ≡ false
 no_mark_in_name mark m text h =
@@ -113,6 +113,6 @@ no_mark_in_authority mark m text h =
         let some = behind_some at_sign text e in
         let rest : has_octet mark (unwrap_or (behind at_sign text) []) ≡ false = no_mark_in_host mark m (unwrap_or (behind at_sign text) []) (rw some at r) in
         no_mark_in_cut mark at_sign text
-          (no_mark_in_text is_userinfo_character mark m.userinfo m.percent m.hexdigit 0 (before at_sign text) user)
-          (rw some (no_mark_first mark at_sign (unwrap_or (behind at_sign text) []) m.at rest))
+        (no_mark_in_text is_userinfo_character mark m.userinfo m.percent m.hexdigit 0 (before at_sign text) user)
+        (rw some (no_mark_first mark at_sign (unwrap_or (behind at_sign text) []) m.at rest))
     by_at false e u r = no_mark_in_host mark m text (rw (behind_none at_sign text e) at r)

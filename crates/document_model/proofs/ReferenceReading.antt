@@ -1,12 +1,12 @@
 -- The components of a reference are those that its text is taken apart into.
-use Rattle.std.proofs.Common.{◌≡◌, ℕ, zero, suc, Bool, true, false, cond, not, ◌&&◌, ◌||◌, List, [], ◌∷◌, ◌++◌, Option, Some, None, unwrap_or, is_some, refl, sym, ap, ◌∙◌, ◌⊎◌, inl, inr, append_assoc, append-nil, arith}
+use Rattle.std.proofs.Common.{◌≡◌, ℕ, Bool, true, false, not, ◌&&◌, ◌||◌, List, [], ◌∷◌, ◌++◌, Option, Some, None, is_some, refl, sym, ap, ◌∙◌, append_assoc, append-nil, arith}
 use Rattle.std.specs.Prelude.{◌==◌, if◌then◌else◌}
 use Rattle.std.specs.List.{list_all}
 use Rattle.std.specs.Char.{is_ascii_alphabetic}
-use Rattle.std.proofs.lemmas.Bool.{and_parts, or_cases, not-true, false≢true}
+use Rattle.std.proofs.lemmas.Bool.{and_parts, not-true, false≢true}
 use Rattle.std.proofs.lemmas.Bool.Decides.{nat_tests}
-use Rattle.document_model.specs.Characters.{colon, slash, question_mark, number_sign, percent_sign, is_empty, is_scheme_character, is_path_character, is_query_character}
-use Rattle.document_model.specs.References.{Components, before, behind, begins_with, from_first, has_octet, marked, without_fragment, without_query, has_colon_in_first_segment, scheme_in, behind_scheme, behind_two_slashes, authority_in, path_in, scheme_text, authority_text, query_text, fragment_text, components, recomposed, where_given, is_scheme, is_authority, is_text_of, path_fits, IsReference, is_allowed, reference}
+use Rattle.document_model.specs.Characters.{colon, slash, question_mark, number_sign, is_empty, is_scheme_character, is_path_character, is_query_character}
+use Rattle.document_model.specs.References.{Components, before, behind, begins_with, from_first, has_octet, without_fragment, without_query, has_colon_in_first_segment, scheme_in, behind_scheme, behind_two_slashes, authority_in, path_in, scheme_text, authority_text, query_text, fragment_text, components, recomposed, where_given, is_scheme, is_authority, is_text_of, path_fits, IsReference, is_allowed, reference}
 use Rattle.document_model.proofs.ReferenceCuts.{before-marked, behind-marked, has_octet-append}
 use Rattle.document_model.proofs.ReferenceLaws.{some_same}
 use Rattle.document_model.proofs.ReferenceMarks.{no_mark_in_run, no_mark_in_text, no_mark_in_authority, no_mark_first, other_octet, IsNoAuthorityMark}
@@ -36,7 +36,7 @@ colon_behind_scheme : (scheme rest : List ℕ) → is_scheme scheme ≡ true →
 unfolding before
 colon_behind_scheme scheme rest h =
     rw (before-append slash scheme (colon ∷ rest) (no_mark_in_scheme slash refl refl scheme h))
-      (has_octet-append colon scheme (colon ∷ before slash rest) ∙ grind (arith, nat_tests))
+    (has_octet-append colon scheme (colon ∷ before slash rest) ∙ grind (arith, nat_tests))
 
 scheme_read : (scheme : Option (List ℕ)) (rest : List ℕ) → where_given is_scheme scheme ≡ true → (is_some scheme || not (has_colon_in_first_segment rest)) ≡ true
     → (scheme_in (scheme_text scheme ++ rest) ≡ scheme) × (behind_scheme (scheme_text scheme ++ rest) ≡ rest)
@@ -97,26 +97,33 @@ record IsEnd (mark : ℕ) : Type 0 where
 
 end_question_mark : IsEnd question_mark
 end_question_mark = record {
-    alphabetic = refl; scheme = refl; path = refl; slash_octet = refl;
-    authority = record { userinfo = refl; name = refl; literal = refl; digit = refl; hexdigit = refl; percent = refl; colon_octet = refl; at = refl; left = refl; right = refl };
-  }
+  alphabetic = refl;
+  scheme = refl;
+  path = refl;
+  slash_octet = refl;
+  authority = record { userinfo = refl; name = refl; literal = refl; digit = refl; hexdigit = refl; percent = refl; colon_octet = refl; at = refl; left = refl; right = refl };
+}
 
 end_number_sign : IsEnd number_sign
 end_number_sign = record {
-    alphabetic = refl; scheme = refl; path = refl; slash_octet = refl;
-    authority = record { userinfo = refl; name = refl; literal = refl; digit = refl; hexdigit = refl; percent = refl; colon_octet = refl; at = refl; left = refl; right = refl };
-  }
+  alphabetic = refl;
+  scheme = refl;
+  path = refl;
+  slash_octet = refl;
+  authority = record { userinfo = refl; name = refl; literal = refl; digit = refl; hexdigit = refl; percent = refl; colon_octet = refl; at = refl; left = refl; right = refl };
+}
 
 no_end_before_path : (mark : ℕ) → IsEnd mark → (scheme authority : Option (List ℕ)) (path : List ℕ) → where_given is_scheme scheme ≡ true → where_given is_authority authority ≡ true → is_text_of is_path_character path ≡ true
     → has_octet mark (scheme_text scheme ++ (authority_text authority ++ path)) ≡ false
 no_end_before_path mark m scheme authority path s a p =
     no_mark_appended mark (scheme_text scheme) (authority_text authority ++ path) (in_scheme scheme s)
-      (no_mark_appended mark (authority_text authority) path (in_authority authority a)
-        (no_mark_in_text is_path_character mark m.path m.authority.percent m.authority.hexdigit 0 path p))
+    (no_mark_appended mark (authority_text authority) path (in_authority authority a)
+    (no_mark_in_text is_path_character mark m.path m.authority.percent m.authority.hexdigit 0 path p))
   where
     in_scheme : (o : Option (List ℕ)) → where_given is_scheme o ≡ true → has_octet mark (scheme_text o) ≡ false
     in_scheme None h = refl
     in_scheme (Some text) h = no_mark_appended mark text (colon ∷ []) (no_mark_in_scheme mark m.alphabetic m.scheme text h) (no_mark_first mark colon [] m.authority.colon_octet refl)
+
     in_authority : (o : Option (List ℕ)) → where_given is_authority o ≡ true → has_octet mark (authority_text o) ≡ false
     in_authority None h = refl
     in_authority (Some text) h = no_mark_first mark slash (slash ∷ text) m.slash_octet (no_mark_first mark slash text m.slash_octet (no_mark_in_authority mark m.authority text h))
@@ -154,7 +161,7 @@ pub components-recomposed : (c : Components) → is_allowed c ≡ true → compo
 unfolding components recomposed
 components-recomposed c h =
     let all = six_parts (where_given is_scheme c.scheme) (where_given is_authority c.authority) (is_text_of is_path_character c.path) (path_fits c)
-      (where_given (is_text_of is_query_character) c.query) (where_given (is_text_of is_query_character) c.fragment) h in
+    (where_given (is_text_of is_query_character) c.query) (where_given (is_text_of is_query_character) c.fragment) h in
     let s = scheme_text c.scheme in
     let a = authority_text c.authority in
     let q = query_text c.query in
