@@ -28,8 +28,6 @@ halts_before j before after written old mid new (stop.Bad bad) e a h =
     (h.0, written ++ h.1, h.2 ∙ ap (λ (l : List ℕ). l ++ h.1) e ∙ append_assoc before written h.1, Appends-trans old mid new written h.1 a h.3)
 halts_before j before after written old mid new stop.Unwritten e a h =
     (written ++ h.0, subst (λ (l : List ℕ). IsFrontOf l (whole_text j)) (ap (λ (l : List ℕ). l ++ h.0) e ∙ append_assoc before written h.0) h.1, Appends-trans old mid new written h.0 a h.2)
-halts_before j before after written old mid new stop.Unread e a h =
-    (written ++ h.0, subst (λ (l : List ℕ). IsFrontOf l (whole_text j)) (ap (λ (l : List ℕ). l ++ h.0) e ∙ append_assoc before written h.0) h.1, Appends-trans old mid new written h.0 a h.2)
 halts_before j before after written old mid new stop.Starved e a h =
     (written ++ h.0, subst (λ (l : List ℕ). IsFrontOf l (whole_text j)) (ap (λ (l : List ℕ). l ++ h.0) e ∙ append_assoc before written h.0) h.1, Appends-trans old mid new written h.0 a h.2)
 
@@ -110,7 +108,6 @@ line_fed place line session old new (Some stop.Unwritten) o e empty h = λ rest.
     let p = ok_and _ _ h in
     let eq = line_ends place line rest o e ∙ ap (λ (r : Result (List Row) Reason). goes_on r place.rows place.number (λ more. journal more (place.number + 1) (lines_of rest))) p.1 in
     subst (λ (j : Journal). Halts j (text place.rows) old new stop.Unwritten) (sym eq) (unwritten_halts place.rows p.0 (journal p.0 (place.number + 1) (lines_of rest)) old new p.2 (journal_front p.0 (place.number + 1) (lines_of rest)))
-line_fed place line session old new (Some stop.Unread) o e empty h = absurd h
 line_fed place line session old new (Some stop.Starved) o e empty h = λ rest.
     starved_halts place.rows (journal_from place ((line ++ 10 ∷ []) ++ rest)) old new h (journal_front place.rows place.number (lines_of (place.pending ++ ((line ++ 10 ∷ []) ++ rest))))
 

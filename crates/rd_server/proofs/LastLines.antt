@@ -46,7 +46,6 @@ last_at place session old new (Some stop.Unwritten) o some h =
     let p = ok_and (after_line place.rows (line_of place.pending)) (λ (more : List Row). WritesMore place.rows more old new (Some stop.Unwritten)) h in
     subst (λ (j : Journal). Halts j (text place.rows) old new stop.Unwritten) (sym (ends_after place o some ∙ ap (ended place) p.1))
     (unwritten_halts place.rows p.0 (record { rows = p.0; bad = None }) old new p.2 ([], sym (append-nil (text p.0))))
-last_at place session old new (Some stop.Unread) o some h = absurd h
 last_at place session old new (Some stop.Starved) o some h =
     starved_halts place.rows (journal_from place []) old new h (journal_front place.rows place.number (lines_of (place.pending ++ [])))
 
@@ -67,7 +66,6 @@ finished_at : (rows more : List Row) (old mid new : Option (List ℕ)) (sent : L
 finished_at rows more old mid new sent None e a h =
     (refl, sent ++ end_line more, ap (λ (l : List ℕ). l ++ end_line more) e ∙ append_assoc (text rows) sent (end_line more), Appends-trans old mid new sent (end_line more) a h)
 finished_at rows more old mid new sent (Some (stop.Bad bad)) e a h = absurd h
-finished_at rows more old mid new sent (Some stop.Unread) e a h = absurd h
 finished_at rows more old mid new sent (Some stop.Unwritten) e a h =
     let part = take h.0 (end_line more) in (
       sent ++ part,

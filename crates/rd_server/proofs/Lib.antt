@@ -9,3 +9,4 @@ pub mod LineFeeds
 pub mod Fronts
 pub mod Journeys
 pub mod LastLines
+pub mod Saying

@@ -28,7 +28,6 @@ line_done rows number line session old new answer None next done written =
     let here : IsOkAnd {E = Reason} (Ok p.0) P = (p.2, next, (sent_text answer, p.3, written)) in
     subst (λ (r : Result (List Row) Reason). IsOkAnd r P) (sym p.1) here
 line_done rows number line session old new answer (Some (stop.Bad bad)) next done written = absurd written
-line_done rows number line session old new answer (Some stop.Unread) next done written = absurd written
 line_done rows number line session old new answer (Some stop.Unwritten) next done written =
     let p = performed rows _ session.desk answer done in
     let P : List Row → Type 0 = λ more. WritesMore rows more old new (Some stop.Unwritten) in

@@ -25,10 +25,19 @@ pub enum Stop {
     Bad(LineBad),
     /// The output failed.
     Unwritten,
-    /// The source failed.
-    Unread,
     /// Memory was wanted.
     Starved,
+}
+
+/// How the reading of a trace ends.
+#[derive(Clone, Copy, Debug, PartialEq, Eq)]
+pub enum Read {
+    /// The trace was read to its end.
+    End,
+    /// The source failed.
+    Failed,
+    /// The replay stopped before.
+    Stopped(Stop),
 }
 
 /// How a replay ends, with its exit status.

@@ -73,7 +73,7 @@ fn perform(alloc: Global, desk: &mut Desk, line: &[u8]) -> Result<Option<(Peer, 
 }
 
 /// Writes all of some octets, in as many pieces as the sink takes them.
-fn write_all<K: Sink>(out: &mut K, bytes: &[u8]) -> bool
+pub fn write_all<K: Sink>(out: &mut K, bytes: &[u8]) -> bool
     ensures all { result ≡ true → Appends (K.holds out.old) (K.holds out.new) bytes.now }
     ensures front { (n : ℕ) × Appends (K.holds out.old) (K.holds out.new) (take n bytes.now) }
     ensures cause { CountsAll (K.faults out.old) (K.faults out.new) result }
