@@ -13,3 +13,4 @@ pub mod ReferenceLaws
 pub mod ReferenceMarks
 pub mod ReferenceReading
 mod ResolutionExamples
+pub mod Utf8Reading
