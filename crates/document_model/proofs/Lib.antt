@@ -13,4 +13,5 @@ pub mod ReferenceLaws
 pub mod ReferenceMarks
 pub mod ReferenceReading
 mod ResolutionExamples
+pub mod Utf8Found
 pub mod Utf8Reading

@@ -20,35 +20,35 @@ is_utf8_after (r ∷ ranges) [] = false
 is_utf8_after [] (b ∷ bs) = passes (λ ranges. is_utf8_after ranges bs) (tails_of b)
 is_utf8_after (r ∷ ranges) (b ∷ bs) = is_in_range (r.0) (r.1) b && is_utf8_after ranges bs
 
-one_octet : (c : ℕ) → c < 128 → tails_of c ≡ Some []
+pub one_octet : (c : ℕ) → c < 128 → tails_of c ≡ Some []
 unfolding tails_of
 one_octet c h = grind (arith, nat_tests)
 
-two_octets : (b : ℕ) → 0xC2 ≤ b → b ≤ 0xDF → tails_of b ≡ Some (tail ∷ [])
+pub two_octets : (b : ℕ) → 0xC2 ≤ b → b ≤ 0xDF → tails_of b ≡ Some (tail ∷ [])
 unfolding tails_of
 two_octets b l h = grind (arith, nat_tests)
 
-three_octets : (b : ℕ) → 0xE1 ≤ b → b ≤ 0xEF → (b ≡ 0xED → ⊥) → tails_of b ≡ Some (tail ∷ tail ∷ [])
+pub three_octets : (b : ℕ) → 0xE1 ≤ b → b ≤ 0xEF → (b ≡ 0xED → ⊥) → tails_of b ≡ Some (tail ∷ tail ∷ [])
 unfolding tails_of
 three_octets b l h n = grind (arith, nat_tests)
 
-four_octets : (b : ℕ) → 0xF1 ≤ b → b ≤ 0xF3 → tails_of b ≡ Some (tail ∷ tail ∷ tail ∷ [])
+pub four_octets : (b : ℕ) → 0xF1 ≤ b → b ≤ 0xF3 → tails_of b ≡ Some (tail ∷ tail ∷ tail ∷ [])
 unfolding tails_of
 four_octets b l h = grind (arith, nat_tests)
 
-lead_E0 : tails_of 0xE0 ≡ Some ((0xA0, 0xBF) ∷ tail ∷ [])
+pub lead_E0 : tails_of 0xE0 ≡ Some ((0xA0, 0xBF) ∷ tail ∷ [])
 unfolding tails_of
 lead_E0 = refl
 
-lead_ED : tails_of 0xED ≡ Some ((0x80, 0x9F) ∷ tail ∷ [])
+pub lead_ED : tails_of 0xED ≡ Some ((0x80, 0x9F) ∷ tail ∷ [])
 unfolding tails_of
 lead_ED = refl
 
-lead_F0 : tails_of 0xF0 ≡ Some ((0x90, 0xBF) ∷ tail ∷ tail ∷ [])
+pub lead_F0 : tails_of 0xF0 ≡ Some ((0x90, 0xBF) ∷ tail ∷ tail ∷ [])
 unfolding tails_of
 lead_F0 = refl
 
-lead_F4 : tails_of 0xF4 ≡ Some ((0x80, 0x8F) ∷ tail ∷ tail ∷ [])
+pub lead_F4 : tails_of 0xF4 ≡ Some ((0x80, 0x8F) ∷ tail ∷ tail ∷ [])
 unfolding tails_of
 lead_F4 = refl
 
@@ -67,23 +67,23 @@ read_four b c d x r s t rest e f g h = rw (e, f, g, h) refl
 
 -- ---- the octets of a character
 
-encode_one : (c : ℕ) → c < 128 → encode_utf8 c ≡ c ∷ []
+pub encode_one : (c : ℕ) → c < 128 → encode_utf8 c ≡ c ∷ []
 unfolding encode_utf8
 encode_one c h = cond-true _ _ _ (lt-ltb c 128 h)
 
-encode_two : (c : ℕ) → 128 ≤ c → c < 2048 → encode_utf8 c ≡ (192 + c / 64) ∷ (128 + c % 64) ∷ []
+pub encode_two : (c : ℕ) → 128 ≤ c → c < 2048 → encode_utf8 c ≡ (192 + c / 64) ∷ (128 + c % 64) ∷ []
 unfolding encode_utf8
 encode_two c l h = cond-false _ _ _ (le-ltb c 128 l) ∙ cond-true _ _ _ (lt-ltb c 2048 h)
 
-encode_three : (c : ℕ) → 2048 ≤ c → c < 65536 → encode_utf8 c ≡ (224 + c / 4096) ∷ (128 + (c / 64) % 64) ∷ (128 + c % 64) ∷ []
+pub encode_three : (c : ℕ) → 2048 ≤ c → c < 65536 → encode_utf8 c ≡ (224 + c / 4096) ∷ (128 + (c / 64) % 64) ∷ (128 + c % 64) ∷ []
 unfolding encode_utf8
 encode_three c l h = cond-false _ _ _ (le-ltb c 128 (omega arith)) ∙ cond-false _ _ _ (le-ltb c 2048 l) ∙ cond-true _ _ _ (lt-ltb c 65536 h)
 
-encode_four : (c : ℕ) → 65536 ≤ c → encode_utf8 c ≡ (240 + c / 262144) ∷ (128 + (c / 4096) % 64) ∷ (128 + (c / 64) % 64) ∷ (128 + c % 64) ∷ []
+pub encode_four : (c : ℕ) → 65536 ≤ c → encode_utf8 c ≡ (240 + c / 262144) ∷ (128 + (c / 4096) % 64) ∷ (128 + (c / 64) % 64) ∷ (128 + c % 64) ∷ []
 unfolding encode_utf8
 encode_four c l = cond-false _ _ _ (le-ltb c 128 (omega arith)) ∙ cond-false _ _ _ (le-ltb c 2048 (omega arith)) ∙ cond-false _ _ _ (le-ltb c 65536 l)
 
-scalar_of : (c : ℕ) → (c < 0xD800) ⊎ ((0xE000 ≤ c) × (c < 0x11_0000)) → IsScalar c
+pub scalar_of : (c : ℕ) → (c < 0xD800) ⊎ ((0xE000 ≤ c) × (c < 0x11_0000)) → IsScalar c
 scalar_of c h = grind (arith, nat_tests)
 
 of_scalar : (c : ℕ) → IsScalar c → (c < 0xD800) ⊎ ((0xE000 ≤ c) × (c < 0x11_0000))
