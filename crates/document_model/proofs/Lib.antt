@@ -4,6 +4,7 @@ pub mod DocumentFound
 pub mod DocumentGoes
 pub mod DocumentLaws
 pub mod DocumentPlaces
+pub mod DocumentPrefix
 pub mod DocumentSteps
 pub mod OnLiterals
 pub mod QuotingLaws
