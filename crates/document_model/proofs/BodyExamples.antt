@@ -1,12 +1,12 @@
 -- Bodies of registrations, computed.
 use Rattle.std.proofs.Common.{◌≡◌, ℕ, List, [], ◌∷◌, Option, Some, None, Bool, true, false, option_map, map, refl, codes}
 use Rattle.document_model.specs.Quoting.{submitted_links}
-use Rattle.document_model.specs.Bodies.{linked_references, is_within_limited_format}
+use Rattle.document_model.specs.Bodies.{linked_references, is_limited}
 use Rattle.document_model.proofs.OnLiterals.{document_on_literals}
 
 -- whether each link of a body that is accepted so far is within the Limited Link Format
 abbrev limited_links : List ℕ → Option (List Bool)
-limited_links body = option_map (map is_within_limited_format) (linked_references body)
+limited_links body = option_map (map is_limited) (linked_references body)
 
 attributes_without_anchors : submitted_links (codes "<x>;rt=\"a\\\"b\";anchor=\"coap://e/\";obs;anchor=%;ct=0") ≡ Some (record {
   target_ref = codes "x";

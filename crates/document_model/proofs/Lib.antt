@@ -1,4 +1,6 @@
 mod BodyExamples
+mod BodyFaultExamples
+pub mod BodyLaws
 mod DocumentExamples
 pub mod DocumentFound
 pub mod DocumentGoes
@@ -6,8 +8,12 @@ pub mod DocumentLaws
 pub mod DocumentPlaces
 pub mod DocumentPrefix
 pub mod DocumentSteps
+pub mod MatchingLaws
 pub mod OnLiterals
+mod ParameterExamples
 pub mod QuotingLaws
+mod RecordExamples
+pub mod RecordLiterals
 pub mod ReferenceCuts
 mod ReferenceExamples
 pub mod ReferenceLaws
@@ -16,3 +22,5 @@ pub mod ReferenceReading
 mod ResolutionExamples
 pub mod Utf8Found
 pub mod Utf8Reading
+mod WeightExamples
+pub mod Weights

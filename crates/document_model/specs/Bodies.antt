@@ -26,5 +26,5 @@ unfoldable pub linked_references : List ℕ → Option (List SubmittedLink)
 linked_references body = option_and_then (λ links. if list_all has_references links then Some links else None) (submitted_links body)
 
 -- a link without a scheme in its target has none in its anchor: the one rule of the Limited Link Format that is asked
-abbrev pub is_within_limited_format : SubmittedLink → Bool
-is_within_limited_format l = is_uri l.target_ref || where_given (λ anchor. not (is_uri anchor)) l.anchor_ref
+abbrev pub is_limited : SubmittedLink → Bool
+is_limited l = is_uri l.target_ref || where_given (λ anchor. not (is_uri anchor)) l.anchor_ref

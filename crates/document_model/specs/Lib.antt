@@ -7,3 +7,14 @@ pub mod Quoting
 pub mod References
 pub mod ReferenceFaults
 pub mod Resolution
+pub mod Options
+pub mod Faults
+pub mod Parameters
+pub mod Criteria
+pub mod Bases
+pub mod Matching
+pub mod ListingLines
+pub mod Records
+pub mod Refusals
+pub mod Discovery
+pub mod BodyFaults

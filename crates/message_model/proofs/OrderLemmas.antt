@@ -1,0 +1,75 @@
+-- Options in order: what one more at the end adds to their spelling, and which numbers stand among them.
+use Rattle.std.proofs.Common.{◌≡◌, ℕ, ◌≤◌, Bool, true, false, ◌||◌, eqb, List, [], ◌∷◌, ◌++◌, Some, refl, sym, ap, ◌∙◌, append_assoc, arith, inl, inr}
+use Rattle.std.specs.Prelude.{◌==◌}
+use Rattle.std.proofs.lemmas.Bool.{cases_Bool, eqb-true, eq-eqb}
+use Rattle.std.proofs.lemmas.List.{append-nil}
+use Rattle.message_model.specs.Message.{Opt, AreOptionsAfter, end_number}
+use Rattle.message_model.specs.Spelling.{marker, option_spelling, options_spelling, payload_spelling}
+use Rattle.message_model.specs.OptionTable.{stands_in}
+use Rattle.message_model.specs.Reading.{option_at, Tail, with_option, tail_at}
+use Rattle.message_model.proofs.ByteLemmas.{bind_some}
+use Rattle.message_model.proofs.OptionLemmas.{IsOptionAfter}
+use Rattle.message_model.proofs.TailLemmas.{tail_at-option, tail_again}
+
+pub end_number-ge : (before : ℕ) (options : List Opt) → AreOptionsAfter before options → before ≤ end_number before options
+end_number-ge before [] fits = omega arith
+end_number-ge before (option ∷ options) fits =
+    let rises : before ≤ option.0 = fits.0 in
+    omega (arith, end_number-ge option.0 options fits.4)
+
+or_none : (b : Bool) → (b || false) ≡ b
+or_none true = refl
+or_none false = refl
+
+-- Of options in order, one of a number that is not below the last stands there exactly where the last one has it.
+pub stands_in-ascending : (first : Opt) (options : List Opt) (number : ℕ) → AreOptionsAfter first.0 options → end_number first.0 options ≤ number → stands_in number (first ∷ options) ≡ (end_number first.0 options == number)
+stands_in-ascending first [] number fits most = or_none (first.0 == number)
+stands_in-ascending first (option ∷ options) number fits most =
+    let rises : first.0 ≤ option.0 = fits.0 in
+    let ends = end_number-ge option.0 options fits.4 in
+    let others : stands_in number (option ∷ options) ≡ (end_number option.0 options == number) = stands_in-ascending option options number fits.4 most in
+    elim (cases_Bool (eqb first.0 number)) [
+      | inl same ↦
+          let all_same : end_number option.0 options ≡ number = omega (arith, eqb-true _ _ same) in
+          rw (same, eq-eqb _ _ all_same) refl
+      | inr other ↦ rw (other, others) refl
+    ]
+
+-- ---- one more option at the end
+
+pub end_number-push : (before : ℕ) (options : List Opt) (option : Opt) → end_number before (options ++ option ∷ []) ≡ option.0
+end_number-push before [] option = refl
+end_number-push before (first ∷ options) option = end_number-push first.0 options option
+
+pub AreOptionsAfter-push : (before : ℕ) (options : List Opt) (option : Opt) → AreOptionsAfter before options → IsOptionAfter (end_number before options) option → AreOptionsAfter before (options ++ option ∷ [])
+AreOptionsAfter-push before [] option fits last = (last.ascends, last.number, last.size, last.value, tt)
+AreOptionsAfter-push before (first ∷ options) option fits last = (fits.0, fits.1, fits.2, fits.3, AreOptionsAfter-push first.0 options option fits.4 last)
+
+pub options_spelling-push : (before : ℕ) (options : List Opt) (option : Opt) → options_spelling before (options ++ option ∷ []) ≡ options_spelling before options ++ option_spelling (end_number before options) option
+unfolding options_spelling
+options_spelling-push before [] option = append-nil (option_spelling before option)
+options_spelling-push before (first ∷ options) option =
+    ap (λ (t : List ℕ). option_spelling before first ++ t) (options_spelling-push first.0 options option)
+    ∙ sym (append_assoc (option_spelling before first) (options_spelling first.0 options) (option_spelling (end_number first.0 options) option))
+
+-- ---- options with no payload behind them
+
+-- The spelling of options alone is a tail without payload.
+pub options_again : (before : ℕ) (options : List Opt) → AreOptionsAfter before options → tail_at before (options_spelling before options) ≡ Some (options, [])
+unfolding payload_spelling
+options_again before options fits = ap (tail_at before) (sym (append-nil (options_spelling before options))) ∙ tail_again before options [] fits
+
+-- What a tail that begins with an option is made of: that option, and the tail behind it.
+pub record IsMore (before : ℕ) (bytes : List ℕ) (tail : Tail) : Type 0 where
+  pub option : Opt
+  pub rest : List ℕ
+  pub others : Tail
+  pub first_is : option_at before bytes ≡ Some (option, rest)
+  pub others_is : tail_at option.0 rest ≡ Some others
+  pub tail_is : Some (with_option option others) ≡ Some tail
+
+pub tail_parts : (before b : ℕ) (bytes : List ℕ) (tail : Tail) → (b ≡ marker → ⊥) → tail_at before (b ∷ bytes) ≡ Some tail → IsMore before (b ∷ bytes) tail
+tail_parts before b bytes tail other e =
+    let a = bind_some (option_at before (b ∷ bytes)) _ tail (sym (tail_at-option before b bytes other) ∙ e) in
+    let c = bind_some (tail_at a.0.0.0 a.0.1) _ tail a.2 in
+    record { option = a.0.0; rest = a.0.1; others = c.0; first_is = a.1; others_is = c.1; tail_is = c.2 }

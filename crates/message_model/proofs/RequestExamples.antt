@@ -1,0 +1,168 @@
+-- What requests ask for, and which are refused.
+use Rattle.std.specs.Prelude.{◌≡◌, ℕ, List, [], ◌∷◌, ◌++◌, Some, None, codes, refl, replicate}
+use Rattle.message_model.specs.declared.requests.Path.TheVariants as path
+use Rattle.message_model.specs.declared.requests.Refusal.TheVariants as refusal
+use Rattle.message_model.specs.Codes.{get, post, put}
+use Rattle.message_model.specs.Message.{Opt}
+use Rattle.message_model.specs.OptionTable as table
+use Rattle.message_model.specs.OptionTable.{recognized_options, first_bad_option, values}
+use Rattle.message_model.specs.Request.{path_of, observe_in, etags_in, accept_in}
+use Rattle.message_model.specs.Refusals.{refusal_of, refusal_code, refusal_word}
+use Rattle.message_model.specs.RequestKey.{key_in}
+use Rattle.message_model.proofs.Notation.{hex, request}
+use Rattle.message_model.proofs.OnLiterals.{messages_on_literals}
+
+-- The options of a path of one segment, and of two.
+abbrev to_one : List ℕ → List Opt
+to_one first = (table.uri_path, first) ∷ []
+
+abbrev to_two : List ℕ → List ℕ → List Opt
+to_two first second = (table.uri_path, first) ∷ (table.uri_path, second) ∷ []
+
+abbrev to_lookup : List Opt
+to_lookup = to_two (codes "rd-lookup") (codes "res")
+
+-- ---- the refusals, in their order
+
+option_is_refused : refusal_of (request get ((9, []) ∷ []) []) ≡ Some (refusal.BadOption 9)
+unfolding messages_on_literals
+option_is_refused = refl
+
+-- an elective option of an unknown number is passed over
+option_zero_is_passed_over : first_bad_option ((0, []) ∷ []) ≡ None
+unfolding messages_on_literals
+option_zero_is_passed_over = refl
+
+proxy_is_refused : refusal_of (request get ((table.proxy_uri, codes "coap://x") ∷ []) []) ≡ Some refusal.Proxy
+unfolding messages_on_literals
+proxy_is_refused = refl
+
+path_is_refused : refusal_of (request get (to_one (codes "foo")) []) ≡ Some refusal.Path
+unfolding messages_on_literals
+path_is_refused = refl
+
+no_path_is_refused : refusal_of (request get [] []) ≡ Some refusal.Path
+unfolding messages_on_literals
+no_path_is_refused = refl
+
+method_is_refused : refusal_of (request put (to_one (codes "rd")) []) ≡ Some refusal.Method
+unfolding messages_on_literals
+method_is_refused = refl
+
+block_is_refused : refusal_of (request get (to_lookup ++ (table.block2, hex (codes "07")) ∷ []) []) ≡ Some refusal.Block
+unfolding messages_on_literals
+block_is_refused = refl
+
+accept_is_refused : refusal_of (request get (to_lookup ++ (table.accept, hex (codes "32")) ∷ []) []) ≡ Some refusal.Accept
+unfolding messages_on_literals
+accept_is_refused = refl
+
+format_is_refused : refusal_of (request post (to_one (codes "rd") ++ (table.content_format, hex (codes "32")) ∷ (table.uri_query, codes "ep=a") ∷ []) []) ≡ Some refusal.Format
+unfolding messages_on_literals
+format_is_refused = refl
+
+-- what is refused only by its query, or by its payload, has none of these refusals
+registration_is_accepted : refusal_of (request post (to_one (codes "rd")) []) ≡ None
+unfolding messages_on_literals
+registration_is_accepted = refl
+
+update_is_accepted : refusal_of (request post (to_two (codes "rd") (codes "1")) (codes "x")) ≡ None
+unfolding messages_on_literals
+update_is_accepted = refl
+
+-- a registration's block that more follow has the block size, and the last may be shorter
+full_block_is_accepted : refusal_of (request post (to_one (codes "rd") ++ (table.block1, hex (codes "08")) ∷ []) (replicate 16 120)) ≡ None
+unfolding messages_on_literals
+full_block_is_accepted = refl
+
+short_block_is_refused : refusal_of (request post (to_one (codes "rd") ++ (table.block1, hex (codes "08")) ∷ []) (replicate 15 120)) ≡ Some refusal.Block
+unfolding messages_on_literals
+short_block_is_refused = refl
+
+last_block_is_accepted : refusal_of (request post (to_one (codes "rd") ++ (table.block1, hex (codes "10")) ∷ []) (replicate 15 120)) ≡ None
+unfolding messages_on_literals
+last_block_is_accepted = refl
+
+long_block_is_refused : refusal_of (request post (to_one (codes "rd") ++ (table.block1, hex (codes "10")) ∷ []) (replicate 17 120)) ≡ Some refusal.Block
+unfolding messages_on_literals
+long_block_is_refused = refl
+
+-- elsewhere only the exponent of Block1 is looked at
+other_block_is_accepted : refusal_of (request post (to_two (codes "rd") (codes "1") ++ (table.block1, hex (codes "08")) ∷ []) (codes "x")) ≡ None
+unfolding messages_on_literals
+other_block_is_accepted = refl
+
+-- the reply to the option of number 9
+refusal_is_said : (refusal_code (refusal.BadOption 9) ∷ refusal_word (refusal.BadOption 9)) ≡ hex (codes "826f7074696f6e")
+refusal_is_said = refl
+
+-- ---- the option table
+
+-- If-Match and If-None-Match are critical, and not in the table
+if_match_is_refused : first_bad_option ((1, []) ∷ []) ≡ Some 1
+unfolding messages_on_literals
+if_match_is_refused = refl
+
+if_none_match_is_refused : first_bad_option ((5, []) ∷ []) ≡ Some 5
+unfolding messages_on_literals
+if_none_match_is_refused = refl
+
+-- a first Observe of a bad length and a second that is a further occurrence: neither is heeded
+neither_observe_is_heeded : observe_in (request get ((table.observe, hex (codes "00000000")) ∷ (table.observe, []) ∷ []) []) ≡ None
+unfolding messages_on_literals
+neither_observe_is_heeded = refl
+
+observe_is_heeded : observe_in (request get ((table.observe, []) ∷ (table.observe, hex (codes "01")) ∷ []) []) ≡ Some 0
+unfolding messages_on_literals
+observe_is_heeded = refl
+
+-- a second Uri-Host is critical and a further occurrence; a Uri-Host of no byte has a bad length
+second_host_is_refused : first_bad_option ((table.uri_host, codes "a") ∷ (table.uri_host, codes "a") ∷ []) ≡ Some table.uri_host
+unfolding messages_on_literals
+second_host_is_refused = refl
+
+empty_host_is_refused : first_bad_option ((table.uri_host, []) ∷ []) ≡ Some table.uri_host
+unfolding messages_on_literals
+empty_host_is_refused = refl
+
+-- an entity tag of nine bytes is passed over, and the next one is the first
+long_etag_is_passed_over : etags_in (request get ((table.etag, replicate 9 1) ∷ (table.etag, hex (codes "aa")) ∷ []) []) ≡ hex (codes "aa") ∷ []
+unfolding messages_on_literals
+long_etag_is_passed_over = refl
+
+-- leading zero bytes are read
+zeros_are_read : accept_in (request get ((table.accept, hex (codes "0028")) ∷ []) []) ≡ Some 40
+unfolding messages_on_literals
+zeros_are_read = refl
+
+-- ---- paths
+
+core_is_found : path_of (codes ".well-known" ∷ codes "core" ∷ []) ≡ path.Core
+unfolding messages_on_literals
+core_is_found = refl
+
+zero_is_a_location : path_of (codes "rd" ∷ codes "0" ∷ []) ≡ path.Location 0
+unfolding messages_on_literals
+zero_is_a_location = refl
+
+fifteen_digits_are_a_location : path_of (codes "rd" ∷ codes "999999999999999" ∷ []) ≡ path.Location 999999999999999
+unfolding messages_on_literals
+fifteen_digits_are_a_location = refl
+
+sixteen_digits_are_none : path_of (codes "rd" ∷ codes "1000000000000000" ∷ []) ≡ path.Other
+unfolding messages_on_literals
+sixteen_digits_are_none = refl
+
+leading_zero_is_none : path_of (codes "rd" ∷ codes "01" ∷ []) ≡ path.Other
+unfolding messages_on_literals
+leading_zero_is_none = refl
+
+empty_segment_is_none : path_of (codes "rd" ∷ [] ∷ []) ≡ path.Other
+unfolding messages_on_literals
+empty_segment_is_none = refl
+
+-- ---- the key
+
+key_is_made : key_in (request post (to_two (codes "rd") (codes "258") ++ (table.uri_query, codes "lt=1") ∷ []) []) ≡ hex (codes "02030000000000000102046c743d31")
+unfolding messages_on_literals
+key_is_made = refl

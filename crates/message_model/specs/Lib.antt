@@ -1,0 +1,10 @@
+pub mod Numbers
+pub mod Codes
+pub mod Message
+pub mod Spelling
+pub mod Reading
+pub mod OptionTable
+pub mod Blocks
+pub mod Request
+pub mod Refusals
+pub mod RequestKey

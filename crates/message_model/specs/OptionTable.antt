@@ -1,0 +1,133 @@
+-- The options of the directory, and which options of a message are recognized (RFC 7252 sections 5.4 and 5.10).
+use Rattle.std.specs.Prelude.{ℕ, ◌%◌, Bool, true, false, not, ◌&&◌, ◌||◌, List, [], ◌∷◌, length, map, filter, find, Option, Some, None, option_map, ◌==◌, nat_le, if◌then◌else◌}
+use Rattle.std.specs.List.{list_any}
+use Rattle.message_model.specs.Message.{Opt}
+
+-- The numbers of the options (RFC 7252 section 12.2, RFC 7641 section 2, RFC 7959 section 6).
+abbrev pub uri_host : ℕ
+uri_host = 3
+
+abbrev pub etag : ℕ
+etag = 4
+
+abbrev pub observe : ℕ
+observe = 6
+
+abbrev pub uri_port : ℕ
+uri_port = 7
+
+abbrev pub location_path : ℕ
+location_path = 8
+
+abbrev pub uri_path : ℕ
+uri_path = 11
+
+abbrev pub content_format : ℕ
+content_format = 12
+
+abbrev pub uri_query : ℕ
+uri_query = 15
+
+abbrev pub accept : ℕ
+accept = 17
+
+abbrev pub block2 : ℕ
+block2 = 23
+
+abbrev pub block1 : ℕ
+block1 = 27
+
+abbrev pub size2 : ℕ
+size2 = 28
+
+abbrev pub proxy_uri : ℕ
+proxy_uri = 35
+
+abbrev pub proxy_scheme : ℕ
+proxy_scheme = 39
+
+abbrev pub size1 : ℕ
+size1 = 60
+
+-- Of an option: the least and greatest length of its value, and whether it may be repeated (RFC 7252 section 5.10).
+pub record Definition : Type 0 where
+  pub least : ℕ
+  pub most : ℕ
+  pub repeatable : Bool
+
+-- An option that stands at most once.
+abbrev pub at_most_once : ℕ → ℕ → Option Definition
+at_most_once least most = Some (record { least = least; most = most; repeatable = false })
+
+-- An option that may stand more than once.
+abbrev pub any_number : ℕ → ℕ → Option Definition
+any_number least most = Some (record { least = least; most = most; repeatable = true })
+
+-- The table of options (RFC 7252 section 5.10, RFC 7641 section 2, RFC 7959 sections 2.1 and 4).
+unfoldable pub definition_of : ℕ → Option Definition
+definition_of number =
+    if number == uri_host then at_most_once 1 255
+    else if number == etag then any_number 1 8
+    else if number == observe then at_most_once 0 3
+    else if number == uri_port then at_most_once 0 2
+    else if number == location_path then any_number 0 255
+    else if number == uri_path then any_number 0 255
+    else if number == content_format then at_most_once 0 2
+    else if number == uri_query then any_number 0 255
+    else if number == accept then at_most_once 0 2
+    else if number == block2 then at_most_once 0 3
+    else if number == block1 then at_most_once 0 3
+    else if number == size2 then at_most_once 0 4
+    else if number == proxy_uri then at_most_once 1 1034
+    else if number == proxy_scheme then at_most_once 1 255
+    else if number == size1 then at_most_once 0 4
+    else None
+
+-- An option of this number stands among these.
+abbrev pub stands_in : ℕ → List Opt → Bool
+stands_in number options = list_any (λ option. option.0 == number) options
+
+-- The table allows this length, and that it is a further one where it is (RFC 7252 sections 5.4.3 and 5.4.5).
+abbrev pub is_allowed_by : Option Definition → Bool → ℕ → Bool
+is_allowed_by None is_further size = false
+is_allowed_by (Some d) is_further size = nat_le d.least size && nat_le size d.most && (d.repeatable || not is_further)
+
+-- The table has its number and allows its length, and it is no second one where one may stand (RFC 7252 section 5.4).
+-- An earlier option of its number counts, whether or not that one was recognized.
+abbrev pub is_recognized : List Opt → ℕ → ℕ → Bool
+is_recognized before number size = is_allowed_by (definition_of number) (stands_in number before) size
+
+-- Odd numbers are critical (RFC 7252 section 5.4.6).
+abbrev pub is_critical : ℕ → Bool
+is_critical number = number % 2 == 1
+
+-- An option where it stands: the options before it, and the option itself.
+abbrev pub Placed : Type 0
+Placed = List Opt × Opt
+
+-- Each option with the options that stand before it.
+unfoldable pub placed_options : List Opt → List Placed
+placed_options [] = []
+placed_options (option ∷ options) = ([], option) ∷ map (λ p. (option ∷ p.0, p.1)) (placed_options options)
+
+-- It is recognized where it stands.
+abbrev pub is_recognized_there : Placed → Bool
+is_recognized_there p = is_recognized p.0 p.1.0 (length p.1.1)
+
+-- The recognized options, in order (RFC 7252 section 5.4.1).
+unfoldable pub recognized_options : List Opt → List Opt
+recognized_options options = map (λ p. p.1) (filter is_recognized_there (placed_options options))
+
+-- The number of the first critical option that is not recognized (RFC 7252 section 5.4.1).
+unfoldable pub first_bad_option : List Opt → Option ℕ
+first_bad_option options =
+    option_map (λ p. p.1.0) (find (λ p. is_critical p.1.0 && not (is_recognized_there p)) (placed_options options))
+
+-- The values of the recognized options of a number, in order.
+unfoldable pub values : ℕ → List Opt → List (List ℕ)
+values number options = map (λ option. option.1) (filter (λ option. option.0 == number) (recognized_options options))
+
+-- The first of some values.
+abbrev pub first_of : List (List ℕ) → Option (List ℕ)
+first_of [] = None
+first_of (value ∷ others) = Some value

@@ -1,0 +1,142 @@
+-- The message that bytes spell, or the first fault that keeps them from spelling one (RFC 7252 section 3).
+use Rattle.std.specs.Prelude.{ℕ, zero, suc, ◌+◌, ◌*◌, ◌/◌, ◌%◌, Bool, not, ◌&&◌, ◌||◌, List, [], ◌∷◌, length, take, drop, Option, Some, None, option_and_then, Result, Ok, Err, ◌==◌, nat_lt, if◌then◌else◌}
+use Rattle.message_model.specs.declared.messages.Kind4.{Kind4}
+use Rattle.message_model.specs.declared.messages.Kind4.TheVariants.{Con, Non, Ack, Rst}
+use Rattle.message_model.specs.declared.messages.Unread.{Unread}
+use Rattle.message_model.specs.declared.messages.Unread.TheVariants as unread
+use Rattle.message_model.specs.Numbers.{byte_values}
+use Rattle.message_model.specs.Codes.{is_reserved, empty}
+use Rattle.message_model.specs.Message.{Message, Opt, longest_token, last_number}
+use Rattle.message_model.specs.Spelling.{version, marker, first_extended, first_long, long_nibble}
+
+-- A value that bytes begin with, and the bytes behind it; nothing where they begin with none.
+abbrev pub Read : Type 0 → Type 0
+Read A = Option (A × List ℕ)
+
+infixl 10 ◌>>=◌
+abbrev pub ◌>>=◌ : {A B : Type 0} → Option A → (A → Option B) → Option B
+o >>= f = option_and_then f o
+
+-- One byte.
+abbrev pub byte_at : List ℕ → Read ℕ
+byte_at [] = None
+byte_at (b ∷ bytes) = Some (b, bytes)
+
+-- This many bytes.
+abbrev pub bytes_at : ℕ → List ℕ → Read (List ℕ)
+bytes_at n bytes = if nat_lt (length bytes) n then None else Some (take n bytes, drop n bytes)
+
+-- The type with these two bits (RFC 7252 section 3).
+abbrev pub kind_of : ℕ → Kind4
+kind_of n = if n == 0 then Con else if n == 1 then Non else if n == 2 then Ack else Rst
+
+-- The four bytes that each message begins with (RFC 7252 section 3).
+pub record Header : Type 0 where
+  pub kind : Kind4
+  pub token_length : ℕ
+  pub code : ℕ
+  pub mid : ℕ
+
+-- What four bytes of header say (RFC 7252 section 3).
+abbrev pub header_of : ℕ → ℕ → ℕ → ℕ → Header
+header_of first code high low = record {
+  kind = kind_of (first / 16 % 4);
+  token_length = first % 16;
+  code = code;
+  mid = high * byte_values + low;
+}
+
+-- The header and the bytes behind it, unless it is cut off or has another version (RFC 7252 section 3).
+unfoldable pub header_at : List ℕ → Result (Header × List ℕ) Unread
+header_at (first ∷ code ∷ high ∷ low ∷ bytes) =
+    if first / 64 == version then Ok (header_of first code high low, bytes) else Err unread.Version
+header_at bytes = Err unread.Short
+
+-- A delta or a length: its nibble, extended by the bytes behind; 15 is kept for the marker (RFC 7252 section 3.1).
+unfoldable pub extended_at : ℕ → List ℕ → Read ℕ
+extended_at nibble bytes =
+    if nat_lt nibble first_extended then Some (nibble, bytes)
+    else if nibble == first_extended then (do
+      more ← byte_at bytes
+      Some (first_extended + more.0, more.1))
+    else if nibble == long_nibble then (do
+      high ← byte_at bytes
+      low ← byte_at high.1
+      Some (first_long + (high.0 * byte_values + low.0), low.1))
+    else None
+
+-- An option after an option of the number before; its own number is at most 65,535 (RFC 7252 section 3.1).
+unfoldable pub option_at : ℕ → List ℕ → Read Opt
+option_at before bytes = do
+  nibbles ← byte_at bytes
+  delta ← extended_at (nibbles.0 / 16) nibbles.1
+  size ← extended_at (nibbles.0 % 16) delta.1
+  value ← bytes_at size.0 size.1
+  if nat_lt last_number (before + delta.0) then None else Some ((before + delta.0, value.0), value.1)
+
+-- The options and the payload that follow a token.
+abbrev pub Tail : Type 0
+Tail = List Opt × List ℕ
+
+-- What follows the marker: a payload of one byte or more (RFC 7252 section 3).
+abbrev pub payload_at : List ℕ → Option Tail
+payload_at [] = None
+payload_at (b ∷ bytes) = Some ([], b ∷ bytes)
+
+-- A tail with one more option in front.
+abbrev pub with_option : Opt → Tail → Tail
+with_option option tail = (option ∷ tail.0, tail.1)
+
+-- A tail of at most n options: nothing, or the marker and a payload, or an option and a tail after it (RFC 7252 section 3).
+unfoldable pub short_tail : ℕ → ℕ → List ℕ → Option Tail
+short_tail n before [] = Some ([], [])
+short_tail zero before (b ∷ bytes) = if b == marker then payload_at bytes else None
+short_tail (suc n) before (b ∷ bytes) = if b == marker then payload_at bytes else do
+  option ← option_at before (b ∷ bytes)
+  tail ← short_tail n option.0.0 option.1
+  Some (with_option option.0 tail)
+
+-- The tail that all of the bytes are: it has fewer options than bytes (RFC 7252 section 3).
+unfoldable pub tail_at : ℕ → List ℕ → Option Tail
+tail_at before bytes = short_tail (length bytes) before bytes
+
+-- More than a header: a token, or bytes behind the header (RFC 7252 section 4.1).
+abbrev pub is_filled : Header → List ℕ → Bool
+is_filled header bytes = not (header.token_length == 0 && length bytes == 0)
+
+-- No message has a reserved class, a token of 9 bytes or more, or more than a header at 0.00 (RFC 7252 sections 3 and 4.1).
+abbrev pub is_bad_header : Header → List ℕ → Bool
+is_bad_header header bytes =
+    is_reserved header.code || nat_lt longest_token header.token_length || (header.code == empty && is_filled header bytes)
+
+-- The message with these parts.
+abbrev pub message_of : Header → List ℕ → Tail → Message
+message_of header token tail = record {
+  kind = header.kind;
+  code = header.code;
+  mid = header.mid;
+  token = token;
+  options = tail.0;
+  payload = tail.1;
+}
+
+-- The message with this header that the bytes behind it give: a token, then a tail (RFC 7252 section 3).
+unfoldable pub body_at : Header → List ℕ → Option Message
+body_at header bytes = if is_bad_header header bytes then None else do
+  token ← bytes_at header.token_length bytes
+  tail ← tail_at 0 token.1
+  Some (message_of header token.0 tail)
+
+-- Where there is no such message, it is a format error, of this type and Message ID (RFC 7252 section 4.2).
+abbrev pub or_format : Header → Option Message → Result Message Unread
+or_format header None = Err (unread.Format header.kind header.mid)
+or_format header (Some m) = Ok m
+
+-- The message with the header that was read, or the fault of the header.
+abbrev pub with_body : Result (Header × List ℕ) Unread → Result Message Unread
+with_body (Err fault) = Err fault
+with_body (Ok header) = or_format header.0 (body_at header.0 header.1)
+
+-- The message that bytes spell, or the first fault: too short, another version, a format error (RFC 7252 section 3).
+unfoldable pub reading : List ℕ → Result Message Unread
+reading bytes = with_body (header_at bytes)

@@ -1,0 +1,104 @@
+-- The refusals that a request alone decides, in the order in which they are looked for.
+use Rattle.std.specs.Prelude.{ℕ, Bool, true, false, not, ◌&&◌, ◌||◌, List, length, Option, Some, None, is_none, codes, ◌==◌, if◌then◌else◌}
+use Rattle.message_model.specs.declared.blocks.Block.{Block}
+use Rattle.message_model.specs.declared.requests.Path.{Path}
+use Rattle.message_model.specs.declared.requests.Path.TheVariants as path
+use Rattle.message_model.specs.declared.requests.Refusal.{Refusal}
+use Rattle.message_model.specs.declared.requests.Refusal.TheVariants as refusal
+use Rattle.message_model.specs.Codes as code_named
+use Rattle.message_model.specs.Message.{Message}
+use Rattle.message_model.specs.OptionTable.{first_bad_option}
+use Rattle.message_model.specs.Blocks.{block_read, is_misfit}
+use Rattle.message_model.specs.Request.{path_in, accept_in, format_in, block1_in, block2_in, has_proxy, allowed}
+
+-- The number of the format of link documents (RFC 7252 section 12.3).
+abbrev pub link_format : ℕ
+link_format = 40
+
+-- A path that names no resource.
+abbrev pub is_nowhere : Path → Bool
+is_nowhere path.Other = true
+is_nowhere path.Core = false
+is_nowhere path.SimpleRd = false
+is_nowhere path.Rd = false
+is_nowhere (path.Location n) = false
+is_nowhere path.Res = false
+is_nowhere path.Ep = false
+
+abbrev pub is_rd : Path → Bool
+is_rd path.Rd = true
+is_rd path.Core = false
+is_rd path.SimpleRd = false
+is_rd (path.Location n) = false
+is_rd path.Res = false
+is_rd path.Ep = false
+is_rd path.Other = false
+
+-- A registration is a POST to `/rd` (RFC 9176 section 5).
+abbrev pub is_registration : Message → Bool
+is_registration m = m.code == code_named.post && is_rd (path_in m)
+
+-- A Block option with the reserved exponent (RFC 7959 section 2.2).
+abbrev pub says_no_block : Option (List ℕ) → Bool
+says_no_block None = false
+says_no_block (Some value) = is_none (block_read value)
+
+-- A payload of this length does not fit the block that it is said to be.
+abbrev pub does_not_fit : Option Block → ℕ → Bool
+does_not_fit None size = false
+does_not_fit (Some b) size = is_misfit b size
+
+abbrev pub is_misfit_of : Option (List ℕ) → ℕ → Bool
+is_misfit_of None size = false
+is_misfit_of (Some value) size = does_not_fit (block_read value) size
+
+-- A Block option says no block, or the payload of a registration does not fit its Block1 (RFC 7959 sections 2.2 and 2.5).
+abbrev pub has_bad_block : Message → Bool
+has_bad_block m =
+    says_no_block (block1_in m) || says_no_block (block2_in m)
+    || (is_registration m && is_misfit_of (block1_in m) (length m.payload))
+
+-- A format is named, and it is not that of link documents.
+abbrev pub is_other_format : Option ℕ → Bool
+is_other_format None = false
+is_other_format (Some format) = not (format == link_format)
+
+-- The first refusal behind that of an unrecognized critical option: proxy, path, method, block, accept, format.
+unfoldable pub later_refusal : Message → Option Refusal
+later_refusal m =
+    if has_proxy m then Some refusal.Proxy
+    else if is_nowhere (path_in m) then Some refusal.Path
+    else if not (allowed (path_in m) m.code) then Some refusal.Method
+    else if has_bad_block m then Some refusal.Block
+    else if m.code == code_named.get && is_other_format (accept_in m) then Some refusal.Accept
+    else if is_registration m && is_other_format (format_in m) then Some refusal.Format
+    else None
+
+-- The refusal of a first unrecognized critical option, where there is one, and else the next (RFC 7252 section 5.4.1).
+abbrev pub option_refusal_or : Option ℕ → Option Refusal → Option Refusal
+option_refusal_or (Some number) later = Some (refusal.BadOption number)
+option_refusal_or None later = later
+
+-- The first refusal of a request that is looked for before its query.
+unfoldable pub refusal_of : Message → Option Refusal
+refusal_of m = option_refusal_or (first_bad_option m.options) (later_refusal m)
+
+-- The code of a refusal (RFC 7252 section 5.9).
+abbrev pub refusal_code : Refusal → ℕ
+refusal_code (refusal.BadOption number) = code_named.bad_option
+refusal_code refusal.Proxy = code_named.proxying_not_supported
+refusal_code refusal.Path = code_named.not_found
+refusal_code refusal.Method = code_named.method_not_allowed
+refusal_code refusal.Block = code_named.bad_request
+refusal_code refusal.Accept = code_named.not_acceptable
+refusal_code refusal.Format = code_named.unsupported_content_format
+
+-- The diagnostic payload of a refusal (RFC 7252 section 5.5.2).
+abbrev pub refusal_word : Refusal → List ℕ
+refusal_word (refusal.BadOption number) = codes "option"
+refusal_word refusal.Proxy = codes "proxy"
+refusal_word refusal.Path = codes "path"
+refusal_word refusal.Method = codes "method"
+refusal_word refusal.Block = codes "block"
+refusal_word refusal.Accept = codes "accept"
+refusal_word refusal.Format = codes "format"

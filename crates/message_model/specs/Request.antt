@@ -1,0 +1,119 @@
+-- The parts of a request, each found by filtering its options (RFC 7252 section 5.10).
+use Rattle.std.specs.Prelude.{ℕ, ◌+◌, ◌-◌, ◌*◌, Bool, false, not, ◌&&◌, ◌||◌, List, [], ◌∷◌, length, fold, Option, option_map, codes, bytes_eq, ◌==◌, nat_le, if◌then◌else◌}
+use Rattle.std.specs.List.{list_all}
+use Rattle.std.specs.Char.{is_ascii_digit}
+use Rattle.message_model.specs.declared.requests.Path.{Path}
+use Rattle.message_model.specs.declared.requests.Path.TheVariants as path
+use Rattle.message_model.specs.Numbers.{uint_of}
+use Rattle.message_model.specs.Message.{Message}
+use Rattle.message_model.specs.Codes.{get, post, delete}
+use Rattle.message_model.specs.OptionTable as table
+use Rattle.message_model.specs.OptionTable.{values, first_of, stands_in, recognized_options}
+
+-- The digit 0 in ASCII.
+abbrev pub digit_zero : ℕ
+digit_zero = 48
+
+-- A zero that other digits follow.
+abbrev pub has_leading_zero : List ℕ → Bool
+has_leading_zero [] = false
+has_leading_zero (b ∷ []) = false
+has_leading_zero (b ∷ others) = b == digit_zero
+
+-- The most digits of a registration's number.
+abbrev pub most_digits : ℕ
+most_digits = 15
+
+-- A decimal number of 1 to 15 digits without leading zero.
+abbrev pub is_location : List ℕ → Bool
+is_location text =
+    nat_le 1 (length text) && nat_le (length text) most_digits && list_all is_ascii_digit text && not (has_leading_zero text)
+
+-- The number that decimal digits say.
+abbrev pub decimal_value : List ℕ → ℕ
+decimal_value digits = fold (λ n digit. n * 10 + (digit - digit_zero)) 0 digits
+
+-- The registration that is named by the segment behind `rd` (RFC 9176 section 5.3).
+unfoldable pub location_of : List ℕ → Path
+location_of text = if is_location text then path.Location (decimal_value text) else path.Other
+
+-- The resource that the segment behind `.well-known` names (RFC 9176 sections 4.3 and 5.1).
+abbrev pub well_known_of : List ℕ → Path
+well_known_of segment =
+    if bytes_eq segment (codes "core") then path.Core
+    else if bytes_eq segment (codes "rd") then path.SimpleRd
+    else path.Other
+
+-- The resource that the segment behind `rd-lookup` names (RFC 9176 section 6).
+abbrev pub lookup_of : List ℕ → Path
+lookup_of segment =
+    if bytes_eq segment (codes "res") then path.Res
+    else if bytes_eq segment (codes "ep") then path.Ep
+    else path.Other
+
+-- The resource that two segments name.
+abbrev pub path_of_two : List ℕ → List ℕ → Path
+path_of_two first second =
+    if bytes_eq first (codes ".well-known") then well_known_of second
+    else if bytes_eq first (codes "rd") then location_of second
+    else if bytes_eq first (codes "rd-lookup") then lookup_of second
+    else path.Other
+
+-- The resource that the segments of a path name (RFC 9176 sections 4.3, 5 and 6).
+unfoldable pub path_of : List (List ℕ) → Path
+path_of [] = path.Other
+path_of (first ∷ []) = if bytes_eq first (codes "rd") then path.Rd else path.Other
+path_of (first ∷ second ∷ []) = path_of_two first second
+path_of (first ∷ second ∷ third ∷ others) = path.Other
+
+-- The path of a request (RFC 7252 section 5.10.1).
+abbrev pub path_in : Message → Path
+path_in m = path_of (values table.uri_path m.options)
+
+-- The query options of a request, in order (RFC 7252 section 5.10.1).
+abbrev pub queries_in : Message → List (List ℕ)
+queries_in m = values table.uri_query m.options
+
+-- The number that an option says which stands at most once.
+abbrev pub uint_in : ℕ → Message → Option ℕ
+uint_in number m = option_map uint_of (first_of (values number m.options))
+
+-- The Observe option (RFC 7641 section 2).
+abbrev pub observe_in : Message → Option ℕ
+observe_in m = uint_in table.observe m
+
+-- The format that is accepted (RFC 7252 section 5.10.4).
+abbrev pub accept_in : Message → Option ℕ
+accept_in m = uint_in table.accept m
+
+-- The format of the payload (RFC 7252 section 5.10.3).
+abbrev pub format_in : Message → Option ℕ
+format_in m = uint_in table.content_format m
+
+-- The value of Block1, of the payload of a request (RFC 7959 section 2.1).
+abbrev pub block1_in : Message → Option (List ℕ)
+block1_in m = first_of (values table.block1 m.options)
+
+-- The value of Block2, of the payload of a response (RFC 7959 section 2.1).
+abbrev pub block2_in : Message → Option (List ℕ)
+block2_in m = first_of (values table.block2 m.options)
+
+-- The entity tags, in order (RFC 7252 section 5.10.6).
+abbrev pub etags_in : Message → List (List ℕ)
+etags_in m = values table.etag m.options
+
+-- A proxy is asked for (RFC 7252 section 5.10.2).
+abbrev pub has_proxy : Message → Bool
+has_proxy m =
+    stands_in table.proxy_uri (recognized_options m.options)
+    || stands_in table.proxy_scheme (recognized_options m.options)
+
+-- The methods of a resource (RFC 9176 sections 4.3, 5, 5.1, 5.3 and 6).
+abbrev pub allowed : Path → ℕ → Bool
+allowed path.Core code = code == get
+allowed path.SimpleRd code = code == post
+allowed path.Rd code = code == post
+allowed (path.Location n) code = code == post || code == delete
+allowed path.Res code = code == get
+allowed path.Ep code = code == get
+allowed path.Other code = false

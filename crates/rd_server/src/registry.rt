@@ -1,0 +1,51 @@
+// The numbers of registrations.
+ghost use Rattle.std.specs.Prelude.{◌≡◌, ◌^◌, ◌<◌, List, [], IfOk};
+ghost use Rattle.rd_server.specs.Journal.{Row};
+ghost use Rattle.rd_server.specs.Standing.{KeepsNumbers, GivesNumber};
+
+use rd_base::{Bytes, Starved};
+use std::alloc::Global;
+use std::collections::HashMap;
+
+/// One more than the greatest number that a location can have here: its digits fit one option of at most 12 octets.
+const NUMBERS: u64 = 1_000_000_000_000;
+
+/// The numbers of the names that are registered.
+#[derive(Drop)]
+pub struct Registry {
+    numbers: HashMap<Bytes, u64>,
+    drawn: u64,
+}
+
+impl Registry {
+    /// No names.
+    pub fn new(alloc: Global) -> Registry
+        ensures { KeepsNumbers [] result }
+    {
+        Registry {
+            numbers: HashMap::new(alloc),
+            drawn: 0,
+        }
+    }
+
+    /// The number of a name: that which it has, or the next.
+    pub fn number_for(&mut self, name: Bytes) -> Result<u64, Starved>
+        ensures below { IfOk result (λ number. number < 10 ^ 12) }
+        ensures numbers { IfOk result (λ number. (rows : List Row) → KeepsNumbers rows self.old → GivesNumber rows name number self.new) }
+    {
+        if let Some(number) = self.numbers.get(&name) {
+            let number = *number;
+            if number >= NUMBERS {
+                return Err(Starved);
+            }
+            return Ok(number);
+        }
+        let number = self.drawn.checked_add(1).ok_or(Starved)?;
+        if number >= NUMBERS {
+            return Err(Starved);
+        }
+        self.numbers.insert(name, number)?;
+        self.drawn = number;
+        Ok(number)
+    }
+}
