@@ -8,6 +8,7 @@ pub mod DocumentLaws
 pub mod DocumentPlaces
 pub mod DocumentPrefix
 pub mod DocumentSteps
+pub mod FaultWords
 pub mod MatchingLaws
 pub mod OnLiterals
 mod ParameterExamples
