@@ -114,27 +114,27 @@ mark_cases mark text m more h = by_front (take_cases front (marked mark (behind 
 abbrev pub cut_passes : (List ℕ → Bool) → (Option (List ℕ) → Bool) → ℕ → List ℕ → Bool
 cut_passes first second mark text = first (before mark text) && second (behind mark text)
 
-both_pass : (a b : Bool) → a ≡ true → b ≡ true → (a && b) ≡ true
+pub both_pass : (a b : Bool) → a ≡ true → b ≡ true → (a && b) ≡ true
 both_pass a b e f = rw (e, f) refl
 
-first_fails : (a b : Bool) → a ≡ false → (a && b) ≡ false
+pub first_fails : (a b : Bool) → a ≡ false → (a && b) ≡ false
 first_fails a b e = rw e refl
 
-second_fails : (a b : Bool) → a ≡ true → b ≡ false → (a && b) ≡ false
+pub second_fails : (a b : Bool) → a ≡ true → b ≡ false → (a && b) ≡ false
 second_fails a b e f = rw (e, f) refl
 
-passes_alone : (first : List ℕ → Bool) (second : Option (List ℕ) → Bool) (mark : ℕ) → ((text : List ℕ) → first text ≡ true → has_octet mark text ≡ false) → second None ≡ true
+pub passes_alone : (first : List ℕ → Bool) (second : Option (List ℕ) → Bool) (mark : ℕ) → ((text : List ℕ) → first text ≡ true → has_octet mark text ≡ false) → second None ≡ true
     → (text : List ℕ) → first text ≡ true → cut_passes first second mark text ≡ true
 passes_alone first second mark no_mark none text h =
     let without = no_mark text h in
     both_pass (first (before mark text)) (second (behind mark text)) (ap first (before_alone mark text without) ∙ h) (ap second (behind_none mark text without) ∙ none)
 
 -- where the part before the mark does not pass, the fault is in it
-pub front_longest : (first : List ℕ → Bool) (second : Option (List ℕ) → Bool) (mark : ℕ) → ((text : List ℕ) → first text ≡ true → has_octet mark text ≡ false) → second None ≡ true
+pub front_longest_by : (first : List ℕ → Bool) (second : Option (List ℕ) → Bool) (mark : ℕ) → ((text : List ℕ) → first text ≡ true → (more : List ℕ) × (cut_passes first second mark (text ++ more) ≡ true))
     → (text : List ℕ) (n : ℕ) → first (before mark text) ≡ false → IsLongest first (before mark text) n → IsLongest (cut_passes first second mark) text n
-front_longest first second mark no_mark none text n fails l = record {
+front_longest_by first second mark ends text n fails l = record {
     within = let a = length-cut mark text in let b = l.within in omega arith;
-    begins = (l.begins.0, ap (λ (t : List ℕ). cut_passes first second mark (t ++ l.begins.0)) same ∙ passes_alone first second mark no_mark none (take n front ++ l.begins.0) (l.begins.1));
+    begins = (l.begins.0 ++ ended.0, ap (cut_passes first second mark) spelled ∙ ended.1);
     longest = λ m h k more. at_mark m h more (mark_cases mark text m more k);
   }
   where
@@ -142,9 +142,19 @@ front_longest first second mark no_mark none text n fails l = record {
     front = before mark text
     same : take n text ≡ take n front
     same = ap (take n) (cut mark text) ∙ take_within front (marked mark (behind mark text)) n l.within
+    ended : (more : List ℕ) × (cut_passes first second mark ((take n front ++ l.begins.0) ++ more) ≡ true)
+    ended = ends (take n front ++ l.begins.0) (l.begins.1)
+    spelled : take n text ++ (l.begins.0 ++ ended.0) ≡ (take n front ++ l.begins.0) ++ ended.0
+    spelled = ap (λ (t : List ℕ). t ++ (l.begins.0 ++ ended.0)) same ∙ sym (append_assoc (take n front) (l.begins.0) (ended.0))
     at_mark : (m : ℕ) → n < m → (more : List ℕ) → EndsBeforeMark mark text m more ⊎ PastMark mark text m more → cut_passes first second mark (take m text ++ more) ≡ false
     at_mark m h more (inl x) = first_fails (first (before mark (take m text ++ more))) (second (behind mark (take m text ++ more))) (ap first (x.2) ∙ l.longest m h (x.0) (before mark more))
     at_mark m h more (inr p) = first_fails (first (before mark (take m text ++ more))) (second (behind mark (take m text ++ more))) (ap first p.same_front ∙ fails)
+
+-- the same, where nothing need follow that part
+pub front_longest : (first : List ℕ → Bool) (second : Option (List ℕ) → Bool) (mark : ℕ) → ((text : List ℕ) → first text ≡ true → has_octet mark text ≡ false) → second None ≡ true
+    → (text : List ℕ) (n : ℕ) → first (before mark text) ≡ false → IsLongest first (before mark text) n → IsLongest (cut_passes first second mark) text n
+front_longest first second mark no_mark none =
+    front_longest_by first second mark (λ text h. ([], ap (cut_passes first second mark) (append-nil text) ∙ passes_alone first second mark no_mark none text h))
 
 -- where the part before the mark passes, the fault is behind it
 pub behind_longest : (first : List ℕ → Bool) (second : Option (List ℕ) → Bool) (mark : ℕ) (text rest : List ℕ) (n : ℕ) → first (before mark text) ≡ true → behind mark text ≡ Some rest
@@ -178,3 +188,45 @@ behind_longest first second mark text rest n passes e l = record {
         let fails : second (Some (take p.count rest ++ more)) ≡ false = l.longest p.count (omega arith) (subst (λ (r : List ℕ). p.count ≤ length r) (sym same) p.short) more in
         second_fails (first (before mark (take m text ++ more))) (second (behind mark (take m text ++ more))) (ap first p.same_front ∙ passes)
           (ap second p.same_behind ∙ ap (λ (r : List ℕ). second (Some (take p.count r ++ more))) (sym same) ∙ fails)
+
+-- ---- other ways to the longest prefix
+
+-- all of a text that begins one
+pub all_longest : (accepts : List ℕ → Bool) (text : List ℕ) → (more : List ℕ) × (accepts (text ++ more) ≡ true) → IsLongest accepts text (length text)
+all_longest accepts text begun = record {
+    within = omega arith;
+    begins = (begun.0, ap (λ (t : List ℕ). accepts (t ++ begun.0)) (take_all text) ∙ begun.1);
+    longest = λ m h k more. absurd (omega arith);
+  }
+  where
+    take_all : (t : List ℕ) → take (length t) t ≡ t
+    take_all [] = refl
+    take_all (c ∷ cs) = ap (λ (t : List ℕ). c ∷ t) (take_all cs)
+
+-- all of a text that passes
+pub whole_longest : (accepts : List ℕ → Bool) (text : List ℕ) → accepts text ≡ true → IsLongest accepts text (length text)
+whole_longest accepts text h = all_longest accepts text ([], ap accepts (append-nil text) ∙ h)
+
+-- the same test
+pub same_longest : (first second : List ℕ → Bool) → ((text : List ℕ) → second text ≡ first text) → (text : List ℕ) (n : ℕ) → IsLongest first text n → IsLongest second text n
+same_longest first second same text n l = record {
+    within = l.within;
+    begins = (l.begins.0, same (take n text ++ l.begins.0) ∙ l.begins.1);
+    longest = λ m h k more. same (take m text ++ more) ∙ l.longest m h k more;
+  }
+
+-- one octet more in front
+pub cons_longest : (first second : List ℕ → Bool) (c : ℕ) → ((text : List ℕ) → second (c ∷ text) ≡ first text) → (text : List ℕ) (n : ℕ) → IsLongest first text n → IsLongest second (c ∷ text) (suc n)
+cons_longest first second c same text n l = record {
+    within = let a = l.within in omega arith;
+    begins = (l.begins.0, same (take n text ++ l.begins.0) ∙ l.begins.1);
+    longest = λ m. at_count m;
+  }
+  where
+    at_count : (m : ℕ) → suc n < m → m ≤ suc (length text) → (more : List ℕ) → second (take m (c ∷ text) ++ more) ≡ false
+    at_count zero h k more = absurd (omega arith)
+    at_count (suc m) h k more = same (take m text ++ more) ∙ l.longest m (omega arith) (omega arith) more
+
+-- an equal number
+pub longest_at : (accepts : List ℕ → Bool) (text : List ℕ) (m n : ℕ) → m ≡ n → IsLongest accepts text m → IsLongest accepts text n
+longest_at accepts text m n e l = subst (IsLongest accepts text) e l

@@ -8,6 +8,8 @@ pub mod DocumentLaws
 pub mod DocumentPlaces
 pub mod DocumentPrefix
 pub mod DocumentSteps
+pub mod FaultHosts
+pub mod FaultTexts
 pub mod FaultWords
 pub mod MatchingLaws
 pub mod OnLiterals
