@@ -1,16 +1,17 @@
 -- The longest prefixes of hosts with their ports, and of authorities.
-use Rattle.std.proofs.Common.{◌≡◌, ℕ, zero, suc, ◌+◌, ◌<◌, ◌≤◌, max, Bool, true, false, cond, not, ◌&&◌, ◌||◌, List, [], ◌∷◌, ◌++◌, take, length, Option, Some, None, unwrap_or, is_some, refl, sym, ap, ◌∙◌, subst, ◌⊎◌, inl, inr, append-nil, arith}
+use Rattle.std.proofs.Common.{◌≡◌, ℕ, zero, suc, ◌+◌, ◌<◌, ◌≤◌, max, Bool, true, false, cond, not, ◌&&◌, ◌||◌, List, [], ◌∷◌, ◌++◌, take, length, Option, Some, None, unwrap_or, is_some, refl, sym, ap, ◌∙◌, subst, ◌⊎◌, inl, inr, append_assoc, append-nil, arith}
 use Rattle.std.specs.Prelude.{◌==◌, if◌then◌else◌}
 use Rattle.std.specs.List.{list_all, prefix_len}
 use Rattle.std.specs.Char.{is_ascii_hexdigit, is_ascii_digit}
-use Rattle.std.proofs.lemmas.Bool.{and_parts, true≢false, false≢true, eqb-true}
+use Rattle.std.proofs.lemmas.Bool.{and_parts, true≢false, false≢true, eqb-true, cases_lt}
 use Rattle.std.proofs.lemmas.Bool.Decides.{nat_tests}
 use Rattle.document_model.specs.Characters.{percent_sign, colon, at_sign, left_bracket, right_bracket, is_empty, is_run_of, is_name_character, is_literal_character, is_userinfo_character}
 use Rattle.document_model.specs.References.{before, behind, from_first, has_octet, begins_with, marked, where_given, is_text_behind_digits, is_text_of, digits_after, is_port_text, is_literal_and_port, is_name_and_port, is_host_and_port, userinfo_of, behind_userinfo, is_authority}
 use Rattle.document_model.specs.ReferenceFaults.{text_prefix, port_prefix, literal_prefix, name_prefix, host_prefix, authority_prefix}
-use Rattle.document_model.proofs.ReferenceCuts.{cut, behind_some, behind_none, before-marked, behind-marked}
-use Rattle.document_model.proofs.ReferenceMarks.{no_mark_in_text, no_mark_in_run}
-use Rattle.document_model.proofs.FaultWords.{IsLongest, cut_passes, both_pass, first_fails, second_fails, front_longest, front_longest_by, behind_longest, all_longest, whole_longest, same_longest, cons_longest, longest_at, from_first-behind, before_alone, length-cut}
+use Rattle.document_model.proofs.ReferenceCuts.{cut, behind_some, behind_none, has_octet-before, before-marked, behind-marked}
+use Rattle.document_model.proofs.ReferenceLaws.{some_same, none_some}
+use Rattle.document_model.proofs.ReferenceMarks.{no_mark_in_text, no_mark_in_run, no_mark_in_host}
+use Rattle.document_model.proofs.FaultWords.{IsLongest, cut_passes, both_pass, first_fails, second_fails, front_longest, front_longest_by, behind_longest, all_longest, whole_longest, same_longest, cons_longest, longest_at, from_first-behind, before_alone, length-cut, take_front, take_within, EndsBeforeMark, PastMark, mark_cases}
 use Rattle.document_model.proofs.FaultTexts.{text_longest, run_begins, run_within, run_ends, port_longest}
 
 -- ---- registered names
@@ -184,3 +185,118 @@ host_longest (c ∷ cs) = by_bracket (c == left_bracket) refl
           (longest_at is_host_and_port (left_bracket ∷ cs) (suc (inside_prefix cs)) (literal_prefix (c ∷ cs)) (literal_count cs)
             (cons_longest (cut_passes (is_run_of is_literal_character) closes_literal right_bracket) is_host_and_port left_bracket literal_inside cs (inside_prefix cs) (inside_longest cs)))
     by_bracket false e = other_host_longest c cs (name_prefix (c ∷ cs)) e (name_longest (c ∷ cs))
+
+-- ---- authorities
+
+empty_host : is_host_and_port [] ≡ true
+unfolding before from_first
+empty_host = refl
+
+no_at_in_host : (text : List ℕ) → is_host_and_port text ≡ true → has_octet at_sign text ≡ false
+no_at_in_host text h = no_mark_in_host at_sign (record { name = refl; literal = refl; digit = refl; hexdigit = refl; percent = refl; colon_octet = refl; left = refl; right = refl }) text h
+
+no_at_in_userinfo : (text : List ℕ) → is_text_of is_userinfo_character text ≡ true → has_octet at_sign text ≡ false
+no_at_in_userinfo text h = no_mark_in_text is_userinfo_character at_sign refl refl refl 0 text h
+
+has_behind : (mark : ℕ) (text rest : List ℕ) → behind mark text ≡ Some rest → has_octet mark text ≡ true
+has_behind mark text rest e = by_mark (has_octet mark text) refl
+  where
+    by_mark : (b : Bool) → has_octet mark text ≡ b → b ≡ true
+    by_mark true f = refl
+    by_mark false f = absurd (none_some (sym (behind_none mark text f) ∙ e))
+
+authority_alone : (text : List ℕ) → has_octet at_sign text ≡ false → is_authority text ≡ is_host_and_port text
+authority_alone text e = let f = behind_none at_sign text e in rw (e, f) refl
+
+authority_with_user : (text rest : List ℕ) → behind at_sign text ≡ Some rest → is_authority text ≡ (is_text_of is_userinfo_character (before at_sign text) && is_host_and_port rest)
+authority_with_user text rest e = let f = has_behind at_sign text rest e in rw (f, e) refl
+
+user_longest : (text rest : List ℕ) → is_text_of is_userinfo_character (before at_sign text) ≡ true → behind at_sign text ≡ Some rest → IsLongest is_authority text (length (before at_sign text) + 1 + host_prefix rest)
+user_longest text rest u e = record {
+    within = let a = length-cut at_sign text in let b : length (marked at_sign (behind at_sign text)) ≡ suc (length rest) = rw e refl in let c = l.within in omega arith;
+    begins = (l.begins.0, ap (λ (t : List ℕ). is_authority (t ++ l.begins.0)) taken ∙ ap is_authority (append_assoc front (at_sign ∷ take n rest) (l.begins.0)) ∙ authority_with_user begun ended (behind-marked at_sign front (Some ended) no_mark) ∙ both_pass (is_text_of is_userinfo_character (before at_sign begun)) (is_host_and_port ended) (ap (is_text_of is_userinfo_character) (before-marked at_sign front (Some ended) no_mark) ∙ u) (l.begins.1));
+    longest = λ m h k more. at_mark m h more (mark_cases at_sign text m more k);
+  }
+  where
+    front : List ℕ
+    front = before at_sign text
+    n : ℕ
+    n = host_prefix rest
+    l : IsLongest is_host_and_port rest n
+    l = host_longest rest
+    no_mark : has_octet at_sign front ≡ false
+    no_mark = has_octet-before at_sign text
+    ended : List ℕ
+    ended = take n rest ++ l.begins.0
+    begun : List ℕ
+    begun = front ++ at_sign ∷ ended
+    taken : take (length front + 1 + n) text ≡ front ++ at_sign ∷ take n rest
+    taken =
+        let count : length front + 1 + n ≡ length front + suc n = omega arith in
+        ap (λ (i : ℕ). take i text) count ∙ ap (take (length front + suc n)) (cut at_sign text ∙ ap (λ (o : Option (List ℕ)). front ++ marked at_sign o) e) ∙ take_front front (at_sign ∷ rest) (suc n)
+    at_mark : (m : ℕ) → length front + 1 + n < m → (more : List ℕ) → EndsBeforeMark at_sign text m more ⊎ PastMark at_sign text m more → is_authority (take m text ++ more) ≡ false
+    at_mark m h more (inl x) = let y = x.0 in absurd (omega arith)
+    at_mark m h more (inr p) =
+        let same : rest ≡ p.rest = some_same (sym e ∙ p.is_behind) in
+        let w = p.whole in
+        let fails : is_host_and_port (take p.count rest ++ more) ≡ false = l.longest p.count (omega arith) (subst (λ (r : List ℕ). p.count ≤ length r) (sym same) p.short) more in
+        authority_with_user (take m text ++ more) (take p.count p.rest ++ more) p.same_behind
+          ∙ second_fails (is_text_of is_userinfo_character (before at_sign (take m text ++ more))) (is_host_and_port (take p.count p.rest ++ more)) (ap (is_text_of is_userinfo_character) p.same_front ∙ u) (ap (λ (r : List ℕ). is_host_and_port (take p.count r ++ more)) (sym same) ∙ fails)
+
+-- user information or a host, where no user information stands before an `@`
+either_longest : (text : List ℕ) → ((rest : List ℕ) → behind at_sign text ≡ Some rest → is_text_of is_userinfo_character (before at_sign text) ≡ false)
+    → IsLongest is_authority text (max (text_prefix is_userinfo_character (before at_sign text)) (host_prefix (before at_sign text)))
+either_longest text no_user = record {
+    within = let a = length-cut at_sign text in let b = user.within in let c = host.within in omega arith;
+    begins = by_order (cases_lt p q);
+    longest = λ m h k more. at_mark m h more (mark_cases at_sign text m more k);
+  }
+  where
+    front : List ℕ
+    front = before at_sign text
+    p : ℕ
+    p = text_prefix is_userinfo_character front
+    q : ℕ
+    q = host_prefix front
+    user : IsLongest (is_text_of is_userinfo_character) front p
+    user = text_longest is_userinfo_character front
+    host : IsLongest is_host_and_port front q
+    host = host_longest front
+    taken : (n : ℕ) → n ≤ length front → take n text ≡ take n front
+    taken n h = ap (take n) (cut at_sign text) ∙ take_within front (marked at_sign (behind at_sign text)) n h
+    by_order : (p < q) ⊎ (q ≤ p) → (more : List ℕ) × (is_authority (take (max p q) text ++ more) ≡ true)
+    by_order (inl h) =
+        let count : max p q ≡ q = omega arith in
+        let y : List ℕ = take q front ++ host.begins.0 in
+        (host.begins.0, ap (λ (i : ℕ). is_authority (take i text ++ host.begins.0)) count ∙ ap (λ (t : List ℕ). is_authority (t ++ host.begins.0)) (taken q host.within) ∙ authority_alone y (no_at_in_host y (host.begins.1)) ∙ host.begins.1)
+    by_order (inr h) =
+        let count : max p q ≡ p = omega arith in
+        let y : List ℕ = take p front ++ user.begins.0 in
+        let no_at = no_at_in_userinfo y (user.begins.1) in
+        (user.begins.0 ++ at_sign ∷ [], ap (λ (i : ℕ). is_authority (take i text ++ (user.begins.0 ++ at_sign ∷ []))) count ∙ ap (λ (t : List ℕ). is_authority (t ++ (user.begins.0 ++ at_sign ∷ []))) (taken p user.within)
+          ∙ ap is_authority (sym (append_assoc (take p front) (user.begins.0) (at_sign ∷ []))) ∙ authority_with_user (y ++ at_sign ∷ []) [] (behind-marked at_sign y (Some []) no_at)
+          ∙ both_pass (is_text_of is_userinfo_character (before at_sign (y ++ at_sign ∷ []))) (is_host_and_port []) (ap (is_text_of is_userinfo_character) (before-marked at_sign y (Some []) no_at) ∙ user.begins.1) empty_host)
+    at_mark : (m : ℕ) → max p q < m → (more : List ℕ) → EndsBeforeMark at_sign text m more ⊎ PastMark at_sign text m more → is_authority (take m text ++ more) ≡ false
+    at_mark m h more (inl x) = by_at (has_octet at_sign (take m text ++ more)) refl
+      where
+        by_at : (b : Bool) → has_octet at_sign (take m text ++ more) ≡ b → is_authority (take m text ++ more) ≡ false
+        by_at false e = authority_alone (take m text ++ more) e ∙ ap (λ (t : List ℕ). is_host_and_port (t ++ more)) (x.1) ∙ host.longest m (omega arith) (x.0) more
+        by_at true e =
+            let rest = unwrap_or (behind at_sign (take m text ++ more)) [] in
+            authority_with_user (take m text ++ more) rest (behind_some at_sign (take m text ++ more) e)
+              ∙ first_fails (is_text_of is_userinfo_character (before at_sign (take m text ++ more))) (is_host_and_port rest) (ap (is_text_of is_userinfo_character) (x.2) ∙ user.longest m (omega arith) (x.0) (before at_sign more))
+    at_mark m h more (inr r) =
+        authority_with_user (take m text ++ more) (take r.count r.rest ++ more) r.same_behind
+          ∙ first_fails (is_text_of is_userinfo_character (before at_sign (take m text ++ more))) (is_host_and_port (take r.count r.rest ++ more)) (ap (is_text_of is_userinfo_character) r.same_front ∙ no_user r.rest r.is_behind)
+
+pub authority_longest : (text : List ℕ) → IsLongest is_authority text (authority_prefix text)
+unfolding authority_prefix
+authority_longest text = by_user (is_text_of is_userinfo_character (before at_sign text)) refl (has_octet at_sign text) refl
+  where
+    front : List ℕ
+    front = before at_sign text
+    by_user : (b : Bool) → is_text_of is_userinfo_character front ≡ b → (d : Bool) → has_octet at_sign text ≡ d
+        → IsLongest is_authority text (if b && d then length front + 1 + host_prefix (unwrap_or (behind at_sign text) []) else max (text_prefix is_userinfo_character front) (host_prefix front))
+    by_user true e true f = user_longest text (unwrap_or (behind at_sign text) []) e (behind_some at_sign text f)
+    by_user true e false f = either_longest text (λ rest x. absurd (none_some (sym (behind_none at_sign text f) ∙ x)))
+    by_user false e d f = either_longest text (λ rest x. e)

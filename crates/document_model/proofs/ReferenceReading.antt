@@ -85,7 +85,7 @@ six_parts a b c d e f h =
 
 no_slash_in_authority : (authority : Option (List ℕ)) → where_given is_authority authority ≡ true → where_given (λ a. not (has_octet slash a)) authority ≡ true
 no_slash_in_authority None h = refl
-no_slash_in_authority (Some a) h = rw (no_mark_in_authority slash (record { userinfo = refl; name = refl; literal = refl; digit = refl; hexdigit = refl; percent = refl; colon_octet = refl; at = refl; left = refl; right = refl }) a h) refl
+no_slash_in_authority (Some a) h = rw (no_mark_in_authority slash (record { host = record { name = refl; literal = refl; digit = refl; hexdigit = refl; percent = refl; colon_octet = refl; left = refl; right = refl }; userinfo = refl; at = refl }) a h) refl
 
 -- a mark that ends a component which may not have it
 pub record IsEnd (mark : ℕ) : Type 0 where
@@ -101,7 +101,7 @@ end_question_mark = record {
   scheme = refl;
   path = refl;
   slash_octet = refl;
-  authority = record { userinfo = refl; name = refl; literal = refl; digit = refl; hexdigit = refl; percent = refl; colon_octet = refl; at = refl; left = refl; right = refl };
+  authority = record { host = record { name = refl; literal = refl; digit = refl; hexdigit = refl; percent = refl; colon_octet = refl; left = refl; right = refl }; userinfo = refl; at = refl };
 }
 
 pub end_number_sign : IsEnd number_sign
@@ -110,7 +110,7 @@ end_number_sign = record {
   scheme = refl;
   path = refl;
   slash_octet = refl;
-  authority = record { userinfo = refl; name = refl; literal = refl; digit = refl; hexdigit = refl; percent = refl; colon_octet = refl; at = refl; left = refl; right = refl };
+  authority = record { host = record { name = refl; literal = refl; digit = refl; hexdigit = refl; percent = refl; colon_octet = refl; left = refl; right = refl }; userinfo = refl; at = refl };
 }
 
 pub no_end_before_path : (mark : ℕ) → IsEnd mark → (scheme authority : Option (List ℕ)) (path : List ℕ) → where_given is_scheme scheme ≡ true → where_given is_authority authority ≡ true → is_text_of is_path_character path ≡ true
@@ -118,11 +118,11 @@ pub no_end_before_path : (mark : ℕ) → IsEnd mark → (scheme authority : Opt
 no_end_before_path mark m scheme authority path s a p =
     no_mark_appended mark (scheme_text scheme) (authority_text authority ++ path) (in_scheme scheme s)
     (no_mark_appended mark (authority_text authority) path (in_authority authority a)
-    (no_mark_in_text is_path_character mark m.path m.authority.percent m.authority.hexdigit 0 path p))
+    (no_mark_in_text is_path_character mark m.path m.authority.host.percent m.authority.host.hexdigit 0 path p))
   where
     in_scheme : (o : Option (List ℕ)) → where_given is_scheme o ≡ true → has_octet mark (scheme_text o) ≡ false
     in_scheme None h = refl
-    in_scheme (Some text) h = no_mark_appended mark text (colon ∷ []) (no_mark_in_scheme mark m.alphabetic m.scheme text h) (no_mark_first mark colon [] m.authority.colon_octet refl)
+    in_scheme (Some text) h = no_mark_appended mark text (colon ∷ []) (no_mark_in_scheme mark m.alphabetic m.scheme text h) (no_mark_first mark colon [] m.authority.host.colon_octet refl)
 
     in_authority : (o : Option (List ℕ)) → where_given is_authority o ≡ true → has_octet mark (authority_text o) ≡ false
     in_authority None h = refl
