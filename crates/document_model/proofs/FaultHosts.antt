@@ -198,7 +198,7 @@ no_at_in_host text h = no_mark_in_host at_sign (record { name = refl; literal = 
 no_at_in_userinfo : (text : List ℕ) → is_text_of is_userinfo_character text ≡ true → has_octet at_sign text ≡ false
 no_at_in_userinfo text h = no_mark_in_text is_userinfo_character at_sign refl refl refl 0 text h
 
-has_behind : (mark : ℕ) (text rest : List ℕ) → behind mark text ≡ Some rest → has_octet mark text ≡ true
+pub has_behind : (mark : ℕ) (text rest : List ℕ) → behind mark text ≡ Some rest → has_octet mark text ≡ true
 has_behind mark text rest e = by_mark (has_octet mark text) refl
   where
     by_mark : (b : Bool) → has_octet mark text ≡ b → b ≡ true

@@ -9,6 +9,8 @@ pub mod DocumentPlaces
 pub mod DocumentPrefix
 pub mod DocumentSteps
 pub mod FaultHosts
+pub mod FaultPaths
+pub mod FaultSchemes
 pub mod FaultTexts
 pub mod FaultWords
 pub mod MatchingLaws

@@ -25,7 +25,7 @@ scheme_and_rest text = by_colon (has_colon_in_first_segment text) refl
     by_colon true e = rw e (colon_cut text e ∙ sym (append_assoc (before colon text) (colon ∷ []) (unwrap_or (behind colon text) [])))
     by_colon false e = rw e refl
 
-two_slashes : (text rest : List ℕ) → behind_two_slashes text ≡ Some rest → text ≡ slash ∷ slash ∷ rest
+pub two_slashes : (text rest : List ℕ) → behind_two_slashes text ≡ Some rest → text ≡ slash ∷ slash ∷ rest
 two_slashes [] rest h = grind (arith, nat_tests)
 two_slashes (c ∷ []) rest h = grind (arith, nat_tests)
 two_slashes (c ∷ d ∷ cs) rest h = grind (arith, nat_tests)
