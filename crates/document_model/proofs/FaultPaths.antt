@@ -25,7 +25,7 @@ no_slash : (text : List ℕ) → is_authority text ≡ true → has_octet slash 
 no_slash text h = no_mark_in_authority slash (record { host = record { name = refl; literal = refl; digit = refl; hexdigit = refl; percent = refl; colon_octet = refl; left = refl; right = refl }; userinfo = refl; at = refl }) text h
 
 -- of an authority and a path
-pub behind_slashes_prefix : List ℕ → ℕ
+unfoldable pub behind_slashes_prefix : List ℕ → ℕ
 behind_slashes_prefix text =
     if is_authority (before slash text) then length (before slash text) + text_prefix is_path_character (from_first slash text) else authority_prefix (before slash text)
 
@@ -139,7 +139,7 @@ pub record IsLongestRest (text : List ℕ) (n : ℕ) : Type 0 where
   pub prefix : IsLongest rest_passes text n
   pub no_colon : has_colon_in_first_segment text ≡ false → has_colon_in_first_segment (take n text ++ prefix.begins.0) ≡ false
 
-pub rest_prefix : List ℕ → ℕ
+unfoldable pub rest_prefix : List ℕ → ℕ
 rest_prefix text = by_slashes (behind_two_slashes text)
   where
     by_slashes : Option (List ℕ) → ℕ

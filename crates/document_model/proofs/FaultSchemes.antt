@@ -215,7 +215,7 @@ alone_longest text c = record {
         by_colon false e = front_alone whole e ∙ l.longest m h k more
 
 -- of what stands before a query
-pub front_prefix : List ℕ → ℕ
+unfoldable pub front_prefix : List ℕ → ℕ
 front_prefix text =
     if has_colon_in_first_segment text
     then (if is_scheme (before colon text) then suc (length (before colon text)) + rest_prefix (unwrap_or (behind colon text) []) else text_prefix is_path_character (before colon text))

@@ -21,6 +21,7 @@ mod RecordExamples
 pub mod RecordLiterals
 pub mod ReferenceCuts
 mod ReferenceExamples
+pub mod ReferenceFaultLaws
 pub mod ReferenceLaws
 pub mod ReferenceMarks
 pub mod ReferenceReading

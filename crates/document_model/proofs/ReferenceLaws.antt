@@ -18,7 +18,7 @@ colon_cut text h =
     let here = behind_some colon text (has_octet-before_other slash colon text h) in
     cut colon text ∙ ap (λ (o : Option (List ℕ)). before colon text ++ marked colon o) here
 
-scheme_and_rest : (text : List ℕ) → text ≡ scheme_text (scheme_in text) ++ behind_scheme text
+pub scheme_and_rest : (text : List ℕ) → text ≡ scheme_text (scheme_in text) ++ behind_scheme text
 scheme_and_rest text = by_colon (has_colon_in_first_segment text) refl
   where
     by_colon : (b : Bool) → has_colon_in_first_segment text ≡ b → text ≡ scheme_text (scheme_in text) ++ behind_scheme text
@@ -30,7 +30,7 @@ two_slashes [] rest h = grind (arith, nat_tests)
 two_slashes (c ∷ []) rest h = grind (arith, nat_tests)
 two_slashes (c ∷ d ∷ cs) rest h = grind (arith, nat_tests)
 
-authority_and_path : (text : List ℕ) → text ≡ authority_text (authority_in text) ++ path_in text
+pub authority_and_path : (text : List ℕ) → text ≡ authority_text (authority_in text) ++ path_in text
 authority_and_path text = by_slashes (behind_two_slashes text) refl
   where
     by_slashes : (o : Option (List ℕ)) → behind_two_slashes text ≡ o → text ≡ authority_text (authority_in text) ++ path_in text

@@ -128,7 +128,7 @@ no_end_before_path mark m scheme authority path s a p =
     in_authority None h = refl
     in_authority (Some text) h = no_mark_first mark slash (slash ∷ text) m.slash_octet (no_mark_first mark slash text m.slash_octet (no_mark_in_authority mark m.authority text h))
 
-no_number_sign_in_query : (query : Option (List ℕ)) → where_given (is_text_of is_query_character) query ≡ true → has_octet number_sign (query_text query) ≡ false
+pub no_number_sign_in_query : (query : Option (List ℕ)) → where_given (is_text_of is_query_character) query ≡ true → has_octet number_sign (query_text query) ≡ false
 no_number_sign_in_query None h = refl
 no_number_sign_in_query (Some text) h = no_mark_first number_sign question_mark text refl (no_mark_in_text is_query_character number_sign refl refl refl 0 text h)
 
