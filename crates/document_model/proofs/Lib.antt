@@ -13,6 +13,7 @@ pub mod FaultPaths
 pub mod FaultSchemes
 pub mod FaultTexts
 pub mod FaultWords
+mod LongExamples
 pub mod MatchingLaws
 pub mod OnLiterals
 mod ParameterExamples
