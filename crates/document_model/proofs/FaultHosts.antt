@@ -1,12 +1,11 @@
 -- The longest prefixes of hosts with their ports, and of authorities.
-use Rattle.std.proofs.Common.{◌≡◌, ℕ, zero, suc, ◌+◌, ◌<◌, ◌≤◌, max, Bool, true, false, cond, not, ◌&&◌, ◌||◌, List, [], ◌∷◌, ◌++◌, take, length, Option, Some, None, unwrap_or, is_some, refl, sym, ap, ◌∙◌, subst, ◌⊎◌, inl, inr, append_assoc, append-nil, arith}
+use Rattle.std.proofs.Common.{◌≡◌, ℕ, zero, suc, ◌+◌, ◌<◌, ◌≤◌, max, Bool, true, false, not, ◌&&◌, ◌||◌, List, [], ◌∷◌, ◌++◌, take, length, Option, Some, None, unwrap_or, refl, sym, ap, ◌∙◌, subst, ◌⊎◌, inl, inr, append_assoc, append-nil, arith}
 use Rattle.std.specs.Prelude.{◌==◌, if◌then◌else◌}
 use Rattle.std.specs.List.{list_all, prefix_len}
-use Rattle.std.specs.Char.{is_ascii_hexdigit, is_ascii_digit}
-use Rattle.std.proofs.lemmas.Bool.{and_parts, true≢false, false≢true, eqb-true, cases_lt}
-use Rattle.std.proofs.lemmas.Bool.Decides.{nat_tests}
-use Rattle.document_model.specs.Characters.{percent_sign, colon, at_sign, left_bracket, right_bracket, is_empty, is_run_of, is_name_character, is_literal_character, is_userinfo_character}
-use Rattle.document_model.specs.References.{before, behind, from_first, has_octet, begins_with, marked, where_given, is_text_behind_digits, is_text_of, digits_after, is_port_text, is_literal_and_port, is_name_and_port, is_host_and_port, userinfo_of, behind_userinfo, is_authority}
+use Rattle.std.specs.Char.{is_ascii_digit}
+use Rattle.std.proofs.lemmas.Bool.{and_parts, eqb-true, cases_lt}
+use Rattle.document_model.specs.Characters.{colon, at_sign, left_bracket, right_bracket, is_empty, is_run_of, is_name_character, is_literal_character, is_userinfo_character}
+use Rattle.document_model.specs.References.{before, behind, from_first, has_octet, marked, is_text_of, is_port_text, is_literal_and_port, is_name_and_port, is_host_and_port, is_authority}
 use Rattle.document_model.specs.ReferenceFaults.{text_prefix, port_prefix, literal_prefix, name_prefix, host_prefix, authority_prefix}
 use Rattle.document_model.proofs.ReferenceCuts.{cut, behind_some, behind_none, has_octet-before, before-marked, behind-marked}
 use Rattle.document_model.proofs.ReferenceLaws.{some_same, none_some}
@@ -24,10 +23,10 @@ no_colon_in_name text h = no_mark_in_text is_name_character colon refl refl refl
 
 digits_longest : (text : List ℕ) → IsLongest (list_all is_ascii_digit) text (prefix_len is_ascii_digit text)
 digits_longest text = record {
-    within = run_within is_ascii_digit text;
-    begins = ([], ap (list_all is_ascii_digit) (append-nil (take (prefix_len is_ascii_digit text) text)) ∙ run_begins is_ascii_digit text);
-    longest = λ m h k more. run_ends is_ascii_digit text m more h k;
-  }
+  within = run_within is_ascii_digit text;
+  begins = ([], ap (list_all is_ascii_digit) (append-nil (take (prefix_len is_ascii_digit text) text)) ∙ run_begins is_ascii_digit text);
+  longest = λ m h k more. run_ends is_ascii_digit text m more h k;
+}
 
 name_cut_longest : (text : List ℕ) → IsLongest (cut_passes (is_text_of is_name_character) port_behind colon) text (name_prefix text)
 unfolding port_behind
@@ -35,6 +34,7 @@ name_cut_longest text = by_name (is_text_of is_name_character (before colon text
   where
     front : List ℕ
     front = before colon text
+
     by_name : (b : Bool) → is_text_of is_name_character front ≡ b → IsLongest (cut_passes (is_text_of is_name_character) port_behind colon) text (if b then length front + port_prefix (from_first colon text) else text_prefix is_name_character front)
     by_name false e = front_longest (is_text_of is_name_character) port_behind colon no_colon_in_name refl text (text_prefix is_name_character front) e (text_longest is_name_character front)
     by_name true e = by_port (behind colon text) refl
@@ -45,11 +45,11 @@ name_cut_longest text = by_name (is_text_of is_name_character (before colon text
             let b : length (marked colon (behind colon text)) ≡ 0 = rw f refl in
             let p : port_prefix (from_first colon text) ≡ 0 = ap port_prefix (from_first-behind colon text) ∙ rw f refl in
             longest_at (cut_passes (is_text_of is_name_character) port_behind colon) text (length text) (length front + port_prefix (from_first colon text)) (omega arith)
-              (whole_longest (cut_passes (is_text_of is_name_character) port_behind colon) text (both_pass (is_text_of is_name_character front) (port_behind (behind colon text)) e (ap port_behind f)))
+            (whole_longest (cut_passes (is_text_of is_name_character) port_behind colon) text (both_pass (is_text_of is_name_character front) (port_behind (behind colon text)) e (ap port_behind f)))
         by_port (Some rest) f =
             let p : port_prefix (from_first colon text) ≡ suc (prefix_len is_ascii_digit rest) = ap port_prefix (from_first-behind colon text) ∙ rw f refl in
             longest_at (cut_passes (is_text_of is_name_character) port_behind colon) text (suc (length front) + prefix_len is_ascii_digit rest) (length front + port_prefix (from_first colon text)) (omega arith)
-              (behind_longest (is_text_of is_name_character) port_behind colon text rest (prefix_len is_ascii_digit rest) e f (digits_longest rest))
+            (behind_longest (is_text_of is_name_character) port_behind colon text rest (prefix_len is_ascii_digit rest) e f (digits_longest rest))
 
 name_longest : (text : List ℕ) → IsLongest is_name_and_port text (name_prefix text)
 unfolding port_behind
@@ -72,13 +72,14 @@ list_all-push test (d ∷ text) c h e = let parts = and_parts (test d) (list_all
 
 literal_run_longest : (text : List ℕ) → IsLongest (is_run_of is_literal_character) text (prefix_len is_literal_character text)
 literal_run_longest text = record {
-    within = run_within is_literal_character text;
-    begins = (48 ∷ [], both_pass (not (is_empty (front ++ 48 ∷ []))) (list_all is_literal_character (front ++ 48 ∷ [])) (ap not (is_empty-push front 48)) (list_all-push is_literal_character front 48 (run_begins is_literal_character text) refl));
-    longest = λ m h k more. no_run (take m text ++ more) (run_ends is_literal_character text m more h k);
-  }
+  within = run_within is_literal_character text;
+  begins = (48 ∷ [], both_pass (not (is_empty (front ++ 48 ∷ []))) (list_all is_literal_character (front ++ 48 ∷ [])) (ap not (is_empty-push front 48)) (list_all-push is_literal_character front 48 (run_begins is_literal_character text) refl));
+  longest = λ m h k more. no_run (take m text ++ more) (run_ends is_literal_character text m more h k);
+}
   where
     front : List ℕ
     front = take (prefix_len is_literal_character text) text
+
     no_run : (t : List ℕ) → list_all is_literal_character t ≡ false → is_run_of is_literal_character t ≡ false
     no_run t e = by_empty (not (is_empty t))
       where
@@ -92,9 +93,11 @@ no_bracket_in_run text h = no_mark_in_run is_literal_character right_bracket ref
 literal_ends : (text : List ℕ) → is_run_of is_literal_character text ≡ true → (more : List ℕ) × (cut_passes (is_run_of is_literal_character) closes_literal right_bracket (text ++ more) ≡ true)
 unfolding closes_literal
 literal_ends text h =
-    let no_mark = no_bracket_in_run text h in
-    (right_bracket ∷ [], both_pass (is_run_of is_literal_character (before right_bracket (text ++ right_bracket ∷ []))) (closes_literal (behind right_bracket (text ++ right_bracket ∷ [])))
-      (ap (is_run_of is_literal_character) (before-marked right_bracket text (Some []) no_mark) ∙ h) (ap closes_literal (behind-marked right_bracket text (Some []) no_mark)))
+    let no_mark = no_bracket_in_run text h in (
+      right_bracket ∷ [],
+      both_pass (is_run_of is_literal_character (before right_bracket (text ++ right_bracket ∷ []))) (closes_literal (behind right_bracket (text ++ right_bracket ∷ [])))
+          (ap (is_run_of is_literal_character) (before-marked right_bracket text (Some []) no_mark) ∙ h) (ap closes_literal (behind-marked right_bracket text (Some []) no_mark)),
+    )
 
 -- of what stands behind an opening bracket
 inside_prefix : List ℕ → ℕ
@@ -113,18 +116,19 @@ inside_longest cs = by_run (is_run_of is_literal_character front) refl (has_octe
   where
     front : List ℕ
     front = before right_bracket cs
+
     by_run : (b : Bool) → is_run_of is_literal_character front ≡ b → (d : Bool) → has_octet right_bracket cs ≡ d
         → IsLongest (cut_passes (is_run_of is_literal_character) closes_literal right_bracket) cs (if b && d then suc (length front) + port_prefix (unwrap_or (behind right_bracket cs) []) else prefix_len is_literal_character front)
     by_run false e d f = front_longest_by (is_run_of is_literal_character) closes_literal right_bracket literal_ends cs (prefix_len is_literal_character front) e (literal_run_longest front)
     by_run true e true f =
         behind_longest (is_run_of is_literal_character) closes_literal right_bracket cs (unwrap_or (behind right_bracket cs) []) (port_prefix (unwrap_or (behind right_bracket cs) [])) e (behind_some right_bracket cs f)
-          (port_longest (unwrap_or (behind right_bracket cs) []))
+        (port_longest (unwrap_or (behind right_bracket cs) []))
     by_run true e false f =
         let alone : front ≡ cs = before_alone right_bracket cs f in
         let run : is_run_of is_literal_character cs ≡ true = ap (is_run_of is_literal_character) (sym alone) ∙ e in
         let count : length cs ≡ prefix_len is_literal_character front = sym (ap (prefix_len is_literal_character) alone ∙ all_run cs ((and_parts (not (is_empty cs)) (list_all is_literal_character cs) run).1)) in
         longest_at (cut_passes (is_run_of is_literal_character) closes_literal right_bracket) cs (length cs) (prefix_len is_literal_character front) count
-          (all_longest (cut_passes (is_run_of is_literal_character) closes_literal right_bracket) cs (literal_ends cs run))
+        (all_longest (cut_passes (is_run_of is_literal_character) closes_literal right_bracket) cs (literal_ends cs run))
 
 -- ---- hosts
 
@@ -134,15 +138,19 @@ literal_inside cs = by_mark (has_octet right_bracket cs) refl
   where
     run : Bool
     run = is_run_of is_literal_character (before right_bracket cs)
+
     or_false : (a : Bool) → (a || false) ≡ a
     or_false true = refl
     or_false false = refl
+
     and_true : (a : Bool) → (a && true) ≡ a
     and_true true = refl
     and_true false = refl
+
     and_false : (a : Bool) → (a && false) ≡ false
     and_false true = refl
     and_false false = refl
+
     by_mark : (b : Bool) → has_octet right_bracket cs ≡ b → is_host_and_port (left_bracket ∷ cs) ≡ cut_passes (is_run_of is_literal_character) closes_literal right_bracket cs
     by_mark true e = let f = behind_some right_bracket cs e in or_false (is_literal_and_port (left_bracket ∷ cs)) ∙ rw (e, f) (and_true (run && is_port_text (unwrap_or (behind right_bracket cs) [])))
     by_mark false e = let f = behind_none right_bracket cs e in or_false (is_literal_and_port (left_bracket ∷ cs)) ∙ rw (e, f) (and_false (run && true) ∙ sym (and_false run))
@@ -161,14 +169,15 @@ no_literal c cs e = rw e refl
 
 other_host_longest : (c : ℕ) (cs : List ℕ) (n : ℕ) → (c == left_bracket) ≡ false → IsLongest is_name_and_port (c ∷ cs) n → IsLongest is_host_and_port (c ∷ cs) n
 other_host_longest c cs n e l = record {
-    within = l.within;
-    begins = (l.begins.0, or_true (is_literal_and_port (take n (c ∷ cs) ++ l.begins.0)) (is_name_and_port (take n (c ∷ cs) ++ l.begins.0)) (l.begins.1));
-    longest = λ m. at_count m;
-  }
+  within = l.within;
+  begins = (l.begins.0, or_true (is_literal_and_port (take n (c ∷ cs) ++ l.begins.0)) (is_name_and_port (take n (c ∷ cs) ++ l.begins.0)) (l.begins.1));
+  longest = λ m. at_count m;
+}
   where
     or_true : (a b : Bool) → b ≡ true → (a || b) ≡ true
     or_true true b h = refl
     or_true false b h = h
+
     at_count : (m : ℕ) → n < m → m ≤ suc (length cs) → (more : List ℕ) → is_host_and_port (take m (c ∷ cs) ++ more) ≡ false
     at_count zero h k more = absurd (omega arith)
     at_count (suc m) h k more = rw (no_literal c (take m cs ++ more) e) (l.longest (suc m) h k more)
@@ -182,8 +191,8 @@ host_longest (c ∷ cs) = by_bracket (c == left_bracket) refl
     by_bracket true e =
         let same : c ≡ left_bracket = eqb-true c left_bracket e in
         subst (λ (d : ℕ). IsLongest is_host_and_port (d ∷ cs) (literal_prefix (c ∷ cs))) (sym same)
-          (longest_at is_host_and_port (left_bracket ∷ cs) (suc (inside_prefix cs)) (literal_prefix (c ∷ cs)) (literal_count cs)
-            (cons_longest (cut_passes (is_run_of is_literal_character) closes_literal right_bracket) is_host_and_port left_bracket literal_inside cs (inside_prefix cs) (inside_longest cs)))
+        (longest_at is_host_and_port (left_bracket ∷ cs) (suc (inside_prefix cs)) (literal_prefix (c ∷ cs)) (literal_count cs)
+        (cons_longest (cut_passes (is_run_of is_literal_character) closes_literal right_bracket) is_host_and_port left_bracket literal_inside cs (inside_prefix cs) (inside_longest cs)))
     by_bracket false e = other_host_longest c cs (name_prefix (c ∷ cs)) e (name_longest (c ∷ cs))
 
 -- ---- authorities
@@ -213,27 +222,34 @@ authority_with_user text rest e = let f = has_behind at_sign text rest e in rw (
 
 user_longest : (text rest : List ℕ) → is_text_of is_userinfo_character (before at_sign text) ≡ true → behind at_sign text ≡ Some rest → IsLongest is_authority text (length (before at_sign text) + 1 + host_prefix rest)
 user_longest text rest u e = record {
-    within = let a = length-cut at_sign text in let b : length (marked at_sign (behind at_sign text)) ≡ suc (length rest) = rw e refl in let c = l.within in omega arith;
-    begins = (l.begins.0, ap (λ (t : List ℕ). is_authority (t ++ l.begins.0)) taken ∙ ap is_authority (append_assoc front (at_sign ∷ take n rest) (l.begins.0)) ∙ authority_with_user begun ended (behind-marked at_sign front (Some ended) no_mark) ∙ both_pass (is_text_of is_userinfo_character (before at_sign begun)) (is_host_and_port ended) (ap (is_text_of is_userinfo_character) (before-marked at_sign front (Some ended) no_mark) ∙ u) (l.begins.1));
-    longest = λ m h k more. at_mark m h more (mark_cases at_sign text m more k);
-  }
+  within = let a = length-cut at_sign text in let b : length (marked at_sign (behind at_sign text)) ≡ suc (length rest) = rw e refl in let c = l.within in omega arith;
+  begins = (l.begins.0, ap (λ (t : List ℕ). is_authority (t ++ l.begins.0)) taken ∙ ap is_authority (append_assoc front (at_sign ∷ take n rest) (l.begins.0)) ∙ authority_with_user begun ended (behind-marked at_sign front (Some ended) no_mark) ∙ both_pass (is_text_of is_userinfo_character (before at_sign begun)) (is_host_and_port ended) (ap (is_text_of is_userinfo_character) (before-marked at_sign front (Some ended) no_mark) ∙ u) (l.begins.1));
+  longest = λ m h k more. at_mark m h more (mark_cases at_sign text m more k);
+}
   where
     front : List ℕ
     front = before at_sign text
+
     n : ℕ
     n = host_prefix rest
+
     l : IsLongest is_host_and_port rest n
     l = host_longest rest
+
     no_mark : has_octet at_sign front ≡ false
     no_mark = has_octet-before at_sign text
+
     ended : List ℕ
     ended = take n rest ++ l.begins.0
+
     begun : List ℕ
     begun = front ++ at_sign ∷ ended
+
     taken : take (length front + 1 + n) text ≡ front ++ at_sign ∷ take n rest
     taken =
         let count : length front + 1 + n ≡ length front + suc n = omega arith in
         ap (λ (i : ℕ). take i text) count ∙ ap (take (length front + suc n)) (cut at_sign text ∙ ap (λ (o : Option (List ℕ)). front ++ marked at_sign o) e) ∙ take_front front (at_sign ∷ rest) (suc n)
+
     at_mark : (m : ℕ) → length front + 1 + n < m → (more : List ℕ) → EndsBeforeMark at_sign text m more ⊎ PastMark at_sign text m more → is_authority (take m text ++ more) ≡ false
     at_mark m h more (inl x) = let y = x.0 in absurd (omega arith)
     at_mark m h more (inr p) =
@@ -241,29 +257,35 @@ user_longest text rest u e = record {
         let w = p.whole in
         let fails : is_host_and_port (take p.count rest ++ more) ≡ false = l.longest p.count (omega arith) (subst (λ (r : List ℕ). p.count ≤ length r) (sym same) p.short) more in
         authority_with_user (take m text ++ more) (take p.count p.rest ++ more) p.same_behind
-          ∙ second_fails (is_text_of is_userinfo_character (before at_sign (take m text ++ more))) (is_host_and_port (take p.count p.rest ++ more)) (ap (is_text_of is_userinfo_character) p.same_front ∙ u) (ap (λ (r : List ℕ). is_host_and_port (take p.count r ++ more)) (sym same) ∙ fails)
+        ∙ second_fails (is_text_of is_userinfo_character (before at_sign (take m text ++ more))) (is_host_and_port (take p.count p.rest ++ more)) (ap (is_text_of is_userinfo_character) p.same_front ∙ u) (ap (λ (r : List ℕ). is_host_and_port (take p.count r ++ more)) (sym same) ∙ fails)
 
 -- user information or a host, where no user information stands before an `@`
 either_longest : (text : List ℕ) → ((rest : List ℕ) → behind at_sign text ≡ Some rest → is_text_of is_userinfo_character (before at_sign text) ≡ false)
     → IsLongest is_authority text (max (text_prefix is_userinfo_character (before at_sign text)) (host_prefix (before at_sign text)))
 either_longest text no_user = record {
-    within = let a = length-cut at_sign text in let b = user.within in let c = host.within in omega arith;
-    begins = by_order (cases_lt p q);
-    longest = λ m h k more. at_mark m h more (mark_cases at_sign text m more k);
-  }
+  within = let a = length-cut at_sign text in let b = user.within in let c = host.within in omega arith;
+  begins = by_order (cases_lt p q);
+  longest = λ m h k more. at_mark m h more (mark_cases at_sign text m more k);
+}
   where
     front : List ℕ
     front = before at_sign text
+
     p : ℕ
     p = text_prefix is_userinfo_character front
+
     q : ℕ
     q = host_prefix front
+
     user : IsLongest (is_text_of is_userinfo_character) front p
     user = text_longest is_userinfo_character front
+
     host : IsLongest is_host_and_port front q
     host = host_longest front
+
     taken : (n : ℕ) → n ≤ length front → take n text ≡ take n front
     taken n h = ap (take n) (cut at_sign text) ∙ take_within front (marked at_sign (behind at_sign text)) n h
+
     by_order : (p < q) ⊎ (q ≤ p) → (more : List ℕ) × (is_authority (take (max p q) text ++ more) ≡ true)
     by_order (inl h) =
         let count : max p q ≡ q = omega arith in
@@ -272,10 +294,13 @@ either_longest text no_user = record {
     by_order (inr h) =
         let count : max p q ≡ p = omega arith in
         let y : List ℕ = take p front ++ user.begins.0 in
-        let no_at = no_at_in_userinfo y (user.begins.1) in
-        (user.begins.0 ++ at_sign ∷ [], ap (λ (i : ℕ). is_authority (take i text ++ (user.begins.0 ++ at_sign ∷ []))) count ∙ ap (λ (t : List ℕ). is_authority (t ++ (user.begins.0 ++ at_sign ∷ []))) (taken p user.within)
-          ∙ ap is_authority (sym (append_assoc (take p front) (user.begins.0) (at_sign ∷ []))) ∙ authority_with_user (y ++ at_sign ∷ []) [] (behind-marked at_sign y (Some []) no_at)
-          ∙ both_pass (is_text_of is_userinfo_character (before at_sign (y ++ at_sign ∷ []))) (is_host_and_port []) (ap (is_text_of is_userinfo_character) (before-marked at_sign y (Some []) no_at) ∙ user.begins.1) empty_host)
+        let no_at = no_at_in_userinfo y (user.begins.1) in (
+          user.begins.0 ++ at_sign ∷ [],
+          ap (λ (i : ℕ). is_authority (take i text ++ (user.begins.0 ++ at_sign ∷ []))) count ∙ ap (λ (t : List ℕ). is_authority (t ++ (user.begins.0 ++ at_sign ∷ []))) (taken p user.within)
+              ∙ ap is_authority (sym (append_assoc (take p front) (user.begins.0) (at_sign ∷ []))) ∙ authority_with_user (y ++ at_sign ∷ []) [] (behind-marked at_sign y (Some []) no_at)
+              ∙ both_pass (is_text_of is_userinfo_character (before at_sign (y ++ at_sign ∷ []))) (is_host_and_port []) (ap (is_text_of is_userinfo_character) (before-marked at_sign y (Some []) no_at) ∙ user.begins.1) empty_host,
+        )
+
     at_mark : (m : ℕ) → max p q < m → (more : List ℕ) → EndsBeforeMark at_sign text m more ⊎ PastMark at_sign text m more → is_authority (take m text ++ more) ≡ false
     at_mark m h more (inl x) = by_at (has_octet at_sign (take m text ++ more)) refl
       where
@@ -284,10 +309,10 @@ either_longest text no_user = record {
         by_at true e =
             let rest = unwrap_or (behind at_sign (take m text ++ more)) [] in
             authority_with_user (take m text ++ more) rest (behind_some at_sign (take m text ++ more) e)
-              ∙ first_fails (is_text_of is_userinfo_character (before at_sign (take m text ++ more))) (is_host_and_port rest) (ap (is_text_of is_userinfo_character) (x.2) ∙ user.longest m (omega arith) (x.0) (before at_sign more))
+            ∙ first_fails (is_text_of is_userinfo_character (before at_sign (take m text ++ more))) (is_host_and_port rest) (ap (is_text_of is_userinfo_character) (x.2) ∙ user.longest m (omega arith) (x.0) (before at_sign more))
     at_mark m h more (inr r) =
         authority_with_user (take m text ++ more) (take r.count r.rest ++ more) r.same_behind
-          ∙ first_fails (is_text_of is_userinfo_character (before at_sign (take m text ++ more))) (is_host_and_port (take r.count r.rest ++ more)) (ap (is_text_of is_userinfo_character) r.same_front ∙ no_user r.rest r.is_behind)
+        ∙ first_fails (is_text_of is_userinfo_character (before at_sign (take m text ++ more))) (is_host_and_port (take r.count r.rest ++ more)) (ap (is_text_of is_userinfo_character) r.same_front ∙ no_user r.rest r.is_behind)
 
 pub authority_longest : (text : List ℕ) → IsLongest is_authority text (authority_prefix text)
 unfolding authority_prefix
@@ -295,6 +320,7 @@ authority_longest text = by_user (is_text_of is_userinfo_character (before at_si
   where
     front : List ℕ
     front = before at_sign text
+
     by_user : (b : Bool) → is_text_of is_userinfo_character front ≡ b → (d : Bool) → has_octet at_sign text ≡ d
         → IsLongest is_authority text (if b && d then length front + 1 + host_prefix (unwrap_or (behind at_sign text) []) else max (text_prefix is_userinfo_character front) (host_prefix front))
     by_user true e true f = user_longest text (unwrap_or (behind at_sign text) []) e (behind_some at_sign text f)

@@ -1,20 +1,15 @@
 -- The longest prefixes of what stands before a query: a scheme or none, an authority or none, and a path.
-use Rattle.std.proofs.Common.{◌≡◌, ℕ, zero, suc, ◌+◌, ◌<◌, ◌≤◌, Bool, true, false, cond, not, ◌&&◌, ◌||◌, List, [], ◌∷◌, ◌++◌, take, length, Option, Some, None, unwrap_or, is_some, refl, sym, ap, ◌∙◌, subst, ◌⊎◌, inl, inr, append_assoc, append-nil, arith}
+use Rattle.std.proofs.Common.{◌≡◌, ℕ, zero, suc, ◌+◌, ◌<◌, ◌≤◌, Bool, true, false, cond, ◌&&◌, ◌||◌, List, [], ◌∷◌, ◌++◌, take, length, Option, Some, None, refl, sym, ap, ◌∙◌, subst, arith}
 use Rattle.std.specs.Prelude.{◌==◌, if◌then◌else◌}
-use Rattle.std.specs.List.{list_all}
-use Rattle.std.specs.Char.{is_ascii_alphabetic}
-use Rattle.std.proofs.lemmas.Bool.{and_parts, true≢false, false≢true, eqb-true, cases_lt}
-use Rattle.std.proofs.lemmas.Bool.Decides.{nat_tests}
-use Rattle.document_model.specs.Characters.{percent_sign, colon, slash, is_path_character, is_scheme_character}
-use Rattle.document_model.specs.References.{before, behind, from_first, has_octet, marked, where_given, is_text_behind_digits, is_text_of, digits_after, is_authority, is_scheme, has_colon_in_first_segment, scheme_in, behind_scheme, behind_two_slashes, authority_in, path_in}
+use Rattle.std.proofs.lemmas.Bool.{true≢false, eqb-true}
+use Rattle.document_model.specs.Characters.{percent_sign, colon, slash, is_path_character}
+use Rattle.document_model.specs.References.{before, behind, from_first, has_octet, marked, where_given, is_text_behind_digits, is_text_of, digits_after, is_authority, has_colon_in_first_segment, behind_two_slashes, authority_in, path_in}
 use Rattle.document_model.specs.ReferenceFaults.{text_prefix, authority_prefix, prefix_behind_digits}
-use Rattle.document_model.proofs.ReferenceCuts.{cut, behind_some, behind_none, has_octet-before, before-marked, behind-marked, has_octet-append}
-use Rattle.document_model.proofs.ReferenceLaws.{some_same, none_some, two_slashes}
+use Rattle.document_model.proofs.ReferenceLaws.{none_some, two_slashes}
 use Rattle.document_model.proofs.ReferenceMarks.{no_mark_in_authority}
-use Rattle.document_model.proofs.ReferenceReading.{before-append}
-use Rattle.document_model.proofs.FaultWords.{IsLongest, cut_passes, both_pass, first_fails, second_fails, front_longest, behind_longest, whole_longest, cons_longest, longest_at, from_first-behind, before_alone, length-cut, take_front, take_within, EndsBeforeMark, PastMark, mark_cases, has_octet-take}
+use Rattle.document_model.proofs.FaultWords.{IsLongest, cut_passes, both_pass, first_fails, front_longest, behind_longest, whole_longest, cons_longest, longest_at, from_first-behind, length-cut}
 use Rattle.document_model.proofs.FaultTexts.{text_longest, text_begins, zeros}
-use Rattle.document_model.proofs.FaultHosts.{authority_longest, has_behind}
+use Rattle.document_model.proofs.FaultHosts.{authority_longest}
 
 -- ---- authorities and paths
 
@@ -35,6 +30,7 @@ behind_slashes_longest text = by_authority (is_authority (before slash text)) re
   where
     front : List ℕ
     front = before slash text
+
     by_authority : (b : Bool) → is_authority front ≡ b → IsLongest (cut_passes is_authority path_behind slash) text (if b then length front + text_prefix is_path_character (from_first slash text) else authority_prefix front)
     by_authority false e = front_longest is_authority path_behind slash no_slash refl text (authority_prefix front) e (authority_longest front)
     by_authority true e = by_path (behind slash text) refl
@@ -45,11 +41,11 @@ behind_slashes_longest text = by_authority (is_authority (before slash text)) re
             let b : length (marked slash (behind slash text)) ≡ 0 = rw f refl in
             let p : text_prefix is_path_character (from_first slash text) ≡ 0 = ap (text_prefix is_path_character) (from_first-behind slash text) ∙ rw f refl in
             longest_at (cut_passes is_authority path_behind slash) text (length text) (length front + text_prefix is_path_character (from_first slash text)) (omega arith)
-              (whole_longest (cut_passes is_authority path_behind slash) text (both_pass (is_authority front) (path_behind (behind slash text)) e (ap path_behind f)))
+            (whole_longest (cut_passes is_authority path_behind slash) text (both_pass (is_authority front) (path_behind (behind slash text)) e (ap path_behind f)))
         by_path (Some rest) f =
             let p : text_prefix is_path_character (from_first slash text) ≡ suc (text_prefix is_path_character rest) = ap (text_prefix is_path_character) (from_first-behind slash text) ∙ rw f refl in
             longest_at (cut_passes is_authority path_behind slash) text (suc (length front) + text_prefix is_path_character rest) (length front + text_prefix is_path_character (from_first slash text)) (omega arith)
-              (behind_longest is_authority path_behind slash text rest (text_prefix is_path_character rest) e f (text_longest is_path_character rest))
+            (behind_longest is_authority path_behind slash text rest (text_prefix is_path_character rest) e f (text_longest is_path_character rest))
 
 -- what stands behind a scheme, or all of it: an authority or none, and a path
 abbrev pub rest_passes : List ℕ → Bool
@@ -62,7 +58,7 @@ rest_behind_slashes text = ap (λ (x : List ℕ). is_authority (before slash tex
 pub slashes_longest : (text : List ℕ) → IsLongest rest_passes (slash ∷ slash ∷ text) (suc (suc (behind_slashes_prefix text)))
 slashes_longest text =
     cons_longest (λ t. rest_passes (slash ∷ t)) rest_passes slash (λ t. refl) (slash ∷ text) (suc (behind_slashes_prefix text))
-      (cons_longest (cut_passes is_authority path_behind slash) (λ t. rest_passes (slash ∷ t)) slash rest_behind_slashes text (behind_slashes_prefix text) (behind_slashes_longest text))
+    (cons_longest (cut_passes is_authority path_behind slash) (λ t. rest_passes (slash ∷ t)) slash rest_behind_slashes text (behind_slashes_prefix text) (behind_slashes_longest text))
 
 -- ---- paths alone
 

@@ -1,11 +1,9 @@
 -- The longest prefixes of texts with percent escapes, of ports, names, IP literals and hosts.
-use Rattle.std.proofs.Common.{◌≡◌, ℕ, zero, suc, ◌+◌, ◌<◌, ◌≤◌, Bool, true, false, cond, ◌&&◌, ◌||◌, List, [], ◌∷◌, ◌++◌, take, length, Option, Some, None, unwrap_or, refl, sym, ap, ◌∙◌, subst, ◌⊎◌, inl, inr, append-nil, arith}
+use Rattle.std.proofs.Common.{◌≡◌, ℕ, zero, suc, ◌+◌, ◌<◌, ◌≤◌, Bool, true, false, cond, ◌&&◌, ◌||◌, List, [], ◌∷◌, ◌++◌, take, length, refl, ap, ◌∙◌, append-nil, arith}
 use Rattle.std.specs.Prelude.{◌==◌}
 use Rattle.std.specs.List.{list_all, prefix_len}
 use Rattle.std.specs.Char.{is_ascii_hexdigit, is_ascii_digit}
-use Rattle.std.proofs.lemmas.Bool.{and_parts, true≢false, false≢true, eqb-true}
-use Rattle.std.proofs.lemmas.Bool.Decides.{nat_tests}
-use Rattle.document_model.specs.Characters.{percent_sign, colon, is_name_character}
+use Rattle.document_model.specs.Characters.{percent_sign, colon}
 use Rattle.document_model.specs.References.{is_text_behind_digits, is_text_of, digits_after, is_port_text}
 use Rattle.document_model.specs.ReferenceFaults.{prefix_behind_digits, text_prefix, port_prefix}
 use Rattle.document_model.proofs.FaultWords.{IsLongest}
@@ -40,6 +38,7 @@ text_begins test zero (c ∷ cs) = by_test (c == percent_sign || test c) refl (t
   where
     n : ℕ
     n = prefix_behind_digits test (digits_after c) cs
+
     by_test : (b : Bool) → (c == percent_sign || test c) ≡ b → (k : ℕ) × (is_text_behind_digits test (digits_after c) (take n cs ++ zeros k) ≡ true)
         → (k : ℕ) × (is_text_behind_digits test 0 (take (cond b (suc n) 0) (c ∷ cs) ++ zeros k) ≡ true)
     by_test true e h = (h.0, rw e (h.1))
@@ -48,6 +47,7 @@ text_begins test (suc d) (c ∷ cs) = by_test (is_ascii_hexdigit c) refl (text_b
   where
     n : ℕ
     n = prefix_behind_digits test d cs
+
     by_test : (b : Bool) → is_ascii_hexdigit c ≡ b → (k : ℕ) × (is_text_behind_digits test d (take n cs ++ zeros k) ≡ true)
         → (k : ℕ) × (is_text_behind_digits test (suc d) (take (cond b (suc n) 0) (c ∷ cs) ++ zeros k) ≡ true)
     by_test true e h = (h.0, rw e (h.1))
@@ -60,6 +60,7 @@ text_ends test zero (c ∷ cs) (suc m) more h k = by_test (c == percent_sign || 
   where
     n : ℕ
     n = prefix_behind_digits test (digits_after c) cs
+
     by_test : (b : Bool) → cond b (suc n) 0 < suc m → (n < m → is_text_behind_digits test (digits_after c) (take m cs ++ more) ≡ false) → (b && is_text_behind_digits test (digits_after c) (take m cs ++ more)) ≡ false
     by_test true x f = f (omega arith)
     by_test false x f = refl
@@ -67,16 +68,17 @@ text_ends test (suc d) (c ∷ cs) (suc m) more h k = by_test (is_ascii_hexdigit 
   where
     n : ℕ
     n = prefix_behind_digits test d cs
+
     by_test : (b : Bool) → cond b (suc n) 0 < suc m → (n < m → is_text_behind_digits test d (take m cs ++ more) ≡ false) → (b && is_text_behind_digits test d (take m cs ++ more)) ≡ false
     by_test true x f = f (omega arith)
     by_test false x f = refl
 
 pub text_longest : (test : ℕ → Bool) (text : List ℕ) → IsLongest (is_text_of test) text (text_prefix test text)
 text_longest test text = let b = text_begins test 0 text in record {
-    within = text_within test 0 text;
-    begins = (zeros (b.0), b.1);
-    longest = λ m h k more. text_ends test 0 text m more h k;
-  }
+  within = text_within test 0 text;
+  begins = (zeros (b.0), b.1);
+  longest = λ m h k more. text_ends test 0 text m more h k;
+}
 
 -- ---- characters alone
 
@@ -113,19 +115,19 @@ port_longest (c ∷ cs) = by_colon (c == colon) refl
   where
     by_colon : (b : Bool) → (c == colon) ≡ b → IsLongest is_port_text (c ∷ cs) (cond b (suc (prefix_len is_ascii_digit cs)) 0)
     by_colon true e = record {
-        within = let a = run_within is_ascii_digit cs in omega arith;
-        begins = ([], rw e (ap (list_all is_ascii_digit) (append-nil (take (prefix_len is_ascii_digit cs) cs)) ∙ run_begins is_ascii_digit cs));
-        longest = λ m. at_colon m;
-      }
+      within = let a = run_within is_ascii_digit cs in omega arith;
+      begins = ([], rw e (ap (list_all is_ascii_digit) (append-nil (take (prefix_len is_ascii_digit cs) cs)) ∙ run_begins is_ascii_digit cs));
+      longest = λ m. at_colon m;
+    }
       where
         at_colon : (m : ℕ) → suc (prefix_len is_ascii_digit cs) < m → m ≤ suc (length cs) → (more : List ℕ) → is_port_text (take m (c ∷ cs) ++ more) ≡ false
         at_colon zero h k more = absurd (omega arith)
         at_colon (suc m) h k more = rw e (run_ends is_ascii_digit cs m more (omega arith) (omega arith))
     by_colon false e = record {
-        within = omega arith;
-        begins = ([], refl);
-        longest = λ m. at_other m;
-      }
+      within = omega arith;
+      begins = ([], refl);
+      longest = λ m. at_other m;
+    }
       where
         at_other : (m : ℕ) → 0 < m → m ≤ suc (length cs) → (more : List ℕ) → is_port_text (take m (c ∷ cs) ++ more) ≡ false
         at_other zero h k more = absurd (omega arith)

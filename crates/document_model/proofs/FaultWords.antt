@@ -1,10 +1,8 @@
 -- The longest prefix of a text that begins a text of a kind, and how it is found in parts of the text.
-use Rattle.std.proofs.Common.{◌≡◌, ℕ, zero, suc, ◌+◌, ◌-◌, ◌<◌, ◌≤◌, Bool, true, false, cond, ◌&&◌, ◌||◌, List, [], ◌∷◌, ◌++◌, take, length, replicate, Option, Some, None, refl, sym, ap, ◌∙◌, subst, ◌⊎◌, inl, inr, append_assoc, append-nil, zero-add, arith}
-use Rattle.std.specs.Prelude.{◌==◌}
-use Rattle.std.proofs.lemmas.Bool.{and_parts, true≢false, false≢true, eqb-true}
+use Rattle.std.proofs.Common.{◌≡◌, ℕ, zero, suc, ◌+◌, ◌<◌, ◌≤◌, Bool, true, false, ◌&&◌, List, [], ◌∷◌, ◌++◌, take, length, Option, Some, None, refl, sym, ap, ◌∙◌, subst, ◌⊎◌, inl, inr, append_assoc, append-nil, zero-add, arith}
 use Rattle.std.proofs.lemmas.Bool.Decides.{nat_tests}
 use Rattle.std.proofs.lemmas.List.{length-append}
-use Rattle.document_model.specs.References.{before, behind, from_first, has_octet, marked, where_given}
+use Rattle.document_model.specs.References.{before, behind, from_first, has_octet, marked}
 use Rattle.document_model.proofs.ReferenceCuts.{cut, behind_none, has_octet-before, before-marked, behind-marked}
 use Rattle.document_model.proofs.ReferenceLaws.{some_same}
 use Rattle.document_model.proofs.ReferenceReading.{before-append}
@@ -79,10 +77,13 @@ mark_cases mark text m more h = by_front (take_cases front (marked mark (behind 
   where
     front : List ℕ
     front = before mark text
+
     no_mark : has_octet mark front ≡ false
     no_mark = has_octet-before mark text
+
     taken : take m text ≡ take m (front ++ marked mark (behind mark text))
     taken = ap (take m) (cut mark text)
+
     past : (o : Option (List ℕ)) → behind mark text ≡ o → length front < m → Reaches front (marked mark o) m → PastMark mark text m more
     past None e l r = let a = length-cut mark text in let b : length (marked mark (behind mark text)) ≡ 0 = rw e refl in absurd (omega arith)
     past (Some rest) e l r = at_count r.behind_front refl
@@ -94,7 +95,7 @@ mark_cases mark text m more h = by_front (take_cases front (marked mark (behind 
             let a = length-cut mark text in
             let b : length (marked mark (behind mark text)) ≡ suc (length rest) = rw e refl in
             let y : take m text ++ more ≡ front ++ mark ∷ (take j rest ++ more) =
-              ap (λ (x : List ℕ). x ++ more) (taken ∙ ap (λ (o : Option (List ℕ)). take m (front ++ marked mark o)) e ∙ r.parts ∙ ap (λ (i : ℕ). front ++ take i (mark ∷ rest)) f) ∙ append_assoc front (mark ∷ take j rest) more in
+            ap (λ (x : List ℕ). x ++ more) (taken ∙ ap (λ (o : Option (List ℕ)). take m (front ++ marked mark o)) e ∙ r.parts ∙ ap (λ (i : ℕ). front ++ take i (mark ∷ rest)) f) ∙ append_assoc front (mark ∷ take j rest) more in
             record {
               rest = rest;
               count = j;
@@ -104,6 +105,7 @@ mark_cases mark text m more h = by_front (take_cases front (marked mark (behind 
               same_front = ap (before mark) y ∙ before-marked mark front (Some (take j rest ++ more)) no_mark;
               same_behind = ap (behind mark) y ∙ behind-marked mark front (Some (take j rest ++ more)) no_mark;
             }
+
     by_front : ((m ≤ length front) × (take m (front ++ marked mark (behind mark text)) ≡ take m front)) ⊎ ((length front < m) × Reaches front (marked mark (behind mark text)) m) → EndsBeforeMark mark text m more ⊎ PastMark mark text m more
     by_front (inl x) =
         let same : take m text ≡ take m front = taken ∙ x.1 in
@@ -133,19 +135,23 @@ passes_alone first second mark no_mark none text h =
 pub front_longest_by : (first : List ℕ → Bool) (second : Option (List ℕ) → Bool) (mark : ℕ) → ((text : List ℕ) → first text ≡ true → (more : List ℕ) × (cut_passes first second mark (text ++ more) ≡ true))
     → (text : List ℕ) (n : ℕ) → first (before mark text) ≡ false → IsLongest first (before mark text) n → IsLongest (cut_passes first second mark) text n
 front_longest_by first second mark ends text n fails l = record {
-    within = let a = length-cut mark text in let b = l.within in omega arith;
-    begins = (l.begins.0 ++ ended.0, ap (cut_passes first second mark) spelled ∙ ended.1);
-    longest = λ m h k more. at_mark m h more (mark_cases mark text m more k);
-  }
+  within = let a = length-cut mark text in let b = l.within in omega arith;
+  begins = (l.begins.0 ++ ended.0, ap (cut_passes first second mark) spelled ∙ ended.1);
+  longest = λ m h k more. at_mark m h more (mark_cases mark text m more k);
+}
   where
     front : List ℕ
     front = before mark text
+
     same : take n text ≡ take n front
     same = ap (take n) (cut mark text) ∙ take_within front (marked mark (behind mark text)) n l.within
+
     ended : (more : List ℕ) × (cut_passes first second mark ((take n front ++ l.begins.0) ++ more) ≡ true)
     ended = ends (take n front ++ l.begins.0) (l.begins.1)
+
     spelled : take n text ++ (l.begins.0 ++ ended.0) ≡ (take n front ++ l.begins.0) ++ ended.0
     spelled = ap (λ (t : List ℕ). t ++ (l.begins.0 ++ ended.0)) same ∙ sym (append_assoc (take n front) (l.begins.0) (ended.0))
+
     at_mark : (m : ℕ) → n < m → (more : List ℕ) → EndsBeforeMark mark text m more ⊎ PastMark mark text m more → cut_passes first second mark (take m text ++ more) ≡ false
     at_mark m h more (inl x) = first_fails (first (before mark (take m text ++ more))) (second (behind mark (take m text ++ more))) (ap first (x.2) ∙ l.longest m h (x.0) (before mark more))
     at_mark m h more (inr p) = first_fails (first (before mark (take m text ++ more))) (second (behind mark (take m text ++ more))) (ap first p.same_front ∙ fails)
@@ -160,25 +166,31 @@ front_longest first second mark no_mark none =
 pub behind_longest : (first : List ℕ → Bool) (second : Option (List ℕ) → Bool) (mark : ℕ) (text rest : List ℕ) (n : ℕ) → first (before mark text) ≡ true → behind mark text ≡ Some rest
     → IsLongest (λ t. second (Some t)) rest n → IsLongest (cut_passes first second mark) text (suc (length (before mark text)) + n)
 behind_longest first second mark text rest n passes e l = record {
-    within = let a = length-cut mark text in let b : length (marked mark (behind mark text)) ≡ suc (length rest) = rw e refl in let c = l.within in omega arith;
-    begins = (l.begins.0, both_pass (first (before mark begun)) (second (behind mark begun)) (ap (λ (t : List ℕ). first (before mark t)) spelled ∙ ap first (before-marked mark front (Some ended) no_mark) ∙ passes) (ap (λ (t : List ℕ). second (behind mark t)) spelled ∙ ap second (behind-marked mark front (Some ended) no_mark) ∙ l.begins.1));
-    longest = λ m h k more. at_mark m h more (mark_cases mark text m more k);
-  }
+  within = let a = length-cut mark text in let b : length (marked mark (behind mark text)) ≡ suc (length rest) = rw e refl in let c = l.within in omega arith;
+  begins = (l.begins.0, both_pass (first (before mark begun)) (second (behind mark begun)) (ap (λ (t : List ℕ). first (before mark t)) spelled ∙ ap first (before-marked mark front (Some ended) no_mark) ∙ passes) (ap (λ (t : List ℕ). second (behind mark t)) spelled ∙ ap second (behind-marked mark front (Some ended) no_mark) ∙ l.begins.1));
+  longest = λ m h k more. at_mark m h more (mark_cases mark text m more k);
+}
   where
     front : List ℕ
     front = before mark text
+
     no_mark : has_octet mark front ≡ false
     no_mark = has_octet-before mark text
+
     ended : List ℕ
     ended = take n rest ++ l.begins.0
+
     begun : List ℕ
     begun = take (suc (length front) + n) text ++ l.begins.0
+
     whole : text ≡ front ++ mark ∷ rest
     whole = cut mark text ∙ ap (λ (o : Option (List ℕ)). front ++ marked mark o) e
+
     spelled : begun ≡ front ++ mark ∷ ended
     spelled =
         let count : suc (length front) + n ≡ length front + suc n = omega arith in
         ap (λ (t : List ℕ). t ++ l.begins.0) (ap (λ (i : ℕ). take i text) count ∙ ap (take (length front + suc n)) whole ∙ take_front front (mark ∷ rest) (suc n)) ∙ append_assoc front (mark ∷ take n rest) (l.begins.0)
+
     at_mark : (m : ℕ) → suc (length front) + n < m → (more : List ℕ) → EndsBeforeMark mark text m more ⊎ PastMark mark text m more → cut_passes first second mark (take m text ++ more) ≡ false
     at_mark m h more (inl x) = let y = x.0 in absurd (omega arith)
     at_mark m h more (inr p) =
@@ -187,17 +199,17 @@ behind_longest first second mark text rest n passes e l = record {
         let s = p.short in
         let fails : second (Some (take p.count rest ++ more)) ≡ false = l.longest p.count (omega arith) (subst (λ (r : List ℕ). p.count ≤ length r) (sym same) p.short) more in
         second_fails (first (before mark (take m text ++ more))) (second (behind mark (take m text ++ more))) (ap first p.same_front ∙ passes)
-          (ap second p.same_behind ∙ ap (λ (r : List ℕ). second (Some (take p.count r ++ more))) (sym same) ∙ fails)
+        (ap second p.same_behind ∙ ap (λ (r : List ℕ). second (Some (take p.count r ++ more))) (sym same) ∙ fails)
 
 -- ---- other ways to the longest prefix
 
 -- all of a text that begins one
 pub all_longest : (accepts : List ℕ → Bool) (text : List ℕ) → (more : List ℕ) × (accepts (text ++ more) ≡ true) → IsLongest accepts text (length text)
 all_longest accepts text begun = record {
-    within = omega arith;
-    begins = (begun.0, ap (λ (t : List ℕ). accepts (t ++ begun.0)) (take_all text) ∙ begun.1);
-    longest = λ m h k more. absurd (omega arith);
-  }
+  within = omega arith;
+  begins = (begun.0, ap (λ (t : List ℕ). accepts (t ++ begun.0)) (take_all text) ∙ begun.1);
+  longest = λ m h k more. absurd (omega arith);
+}
   where
     take_all : (t : List ℕ) → take (length t) t ≡ t
     take_all [] = refl
@@ -210,18 +222,18 @@ whole_longest accepts text h = all_longest accepts text ([], ap accepts (append-
 -- the same test
 pub same_longest : (first second : List ℕ → Bool) → ((text : List ℕ) → second text ≡ first text) → (text : List ℕ) (n : ℕ) → IsLongest first text n → IsLongest second text n
 same_longest first second same text n l = record {
-    within = l.within;
-    begins = (l.begins.0, same (take n text ++ l.begins.0) ∙ l.begins.1);
-    longest = λ m h k more. same (take m text ++ more) ∙ l.longest m h k more;
-  }
+  within = l.within;
+  begins = (l.begins.0, same (take n text ++ l.begins.0) ∙ l.begins.1);
+  longest = λ m h k more. same (take m text ++ more) ∙ l.longest m h k more;
+}
 
 -- one octet more in front
 pub cons_longest : (first second : List ℕ → Bool) (c : ℕ) → ((text : List ℕ) → second (c ∷ text) ≡ first text) → (text : List ℕ) (n : ℕ) → IsLongest first text n → IsLongest second (c ∷ text) (suc n)
 cons_longest first second c same text n l = record {
-    within = let a = l.within in omega arith;
-    begins = (l.begins.0, same (take n text ++ l.begins.0) ∙ l.begins.1);
-    longest = λ m. at_count m;
-  }
+  within = let a = l.within in omega arith;
+  begins = (l.begins.0, same (take n text ++ l.begins.0) ∙ l.begins.1);
+  longest = λ m. at_count m;
+}
   where
     at_count : (m : ℕ) → suc n < m → m ≤ suc (length text) → (more : List ℕ) → second (take m (c ∷ text) ++ more) ≡ false
     at_count zero h k more = absurd (omega arith)

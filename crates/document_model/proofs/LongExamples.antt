@@ -1,5 +1,5 @@
 -- Long texts, computed.
-use Rattle.std.proofs.Common.{◌≡◌, ℕ, List, [], ◌∷◌, ◌++◌, replicate, flat_map, Option, None, refl, codes}
+use Rattle.std.proofs.Common.{◌≡◌, ℕ, List, ◌++◌, replicate, flat_map, None, refl, codes}
 use Rattle.document_model.specs.DocumentReading.{document, good_prefix}
 use Rattle.document_model.specs.Resolution.{resolved}
 use Rattle.document_model.proofs.OnLiterals.{document_on_literals}
