@@ -22,7 +22,7 @@ use Rattle.rd_server.proofs.LineFeeds.{cut-append, lines_first, lines_begin}
 use Rattle.rd_server.proofs.Fronts.{front_take, front_behind, front_nothing, front_trans, journal_front, whole_front}
 
 -- what stops behind a place, seen from the place before it
-halts_before : (j : Journal) (before after written : List ℕ) (old mid new : Option (List ℕ)) (halt : Stop) → after ≡ before ++ written → Appends old mid written
+pub halts_before : (j : Journal) (before after written : List ℕ) (old mid new : Option (List ℕ)) (halt : Stop) → after ≡ before ++ written → Appends old mid written
     → Halts j after mid new halt → Halts j before old new halt
 halts_before j before after written old mid new (stop.Bad bad) e a h =
     (h.0, written ++ h.1, h.2 ∙ ap (λ (l : List ℕ). l ++ h.1) e ∙ append_assoc before written h.1, Appends-trans old mid new written h.1 a h.3)

@@ -10,3 +10,5 @@ pub mod Fronts
 pub mod Journeys
 pub mod LastLines
 pub mod Saying
+pub mod Whole
+pub mod Accounts

@@ -6,7 +6,7 @@ ghost use Rattle.std.specs.List.{AllByRecursion};
 ghost use Rattle.rd_server.specs.Journal as journals;
 ghost use Rattle.rd_server.specs.Endings as ends;
 ghost use Rattle.rd_server.specs.Endings.{IsWritten, EndsBy, CountsReads, CountsWrites, IsReported};
-ghost use Rattle.rd_server.specs.Going.{Place, IsAt, ReadsAll, CountsFailed, CountsStopped};
+ghost use Rattle.rd_server.specs.Going.{Place, IsAt, ReadsAll, CountsFailed, CountsStopped, start};
 
 use crate::endings::{LineBad, Read, Reason, Status, Stop};
 use crate::sessions::{Session, write_all};
@@ -52,6 +52,30 @@ fn status_of(stop: Stop) -> Status
     }
 }
 
+/// Does the trace of a source in a session that stands at its beginning.
+fn run_in<S: Source, K: Sink>(
+    session: &mut Session,
+    alloc: Global,
+    source: &mut S,
+    out: &mut K,
+) -> Status
+    requires { IsAt start session.old }
+    ensures written { IfSome (S.left source.old) (λ bytes. IsWritten (journals.journal_of bytes) (K.holds out.old) (K.holds out.new) result) }
+    ensures reads { CountsReads (S.faults source.old) (S.faults source.new) result }
+    ensures writes { CountsWrites (K.faults out.old) (K.faults out.new) result }
+    ensures all_read { result ≡ Status.Done → IsAtEnd (S.left source.new) }
+    ensures usage { ends.IsNoUsage result }
+{
+    match read_all(session, alloc, source, out) {
+        Read::Failed => Status::ReadFault,
+        Read::Stopped(stop) => status_of(stop),
+        Read::End => match session.finish(alloc, out) {
+            None => Status::Done,
+            Some(stop) => status_of(stop),
+        },
+    }
+}
+
 /// Does the trace of a source.
 fn run<S: Source, K: Sink>(alloc: Global, source: &mut S, out: &mut K) -> Status
     ensures written { IfSome (S.left source.old) (λ bytes. IsWritten (journals.journal_of bytes) (K.holds out.old) (K.holds out.new) result) }
@@ -61,14 +85,7 @@ fn run<S: Source, K: Sink>(alloc: Global, source: &mut S, out: &mut K) -> Status
     ensures usage { ends.IsNoUsage result }
 {
     let mut session = Session::new(alloc);
-    match read_all(&mut session, alloc, source, out) {
-        Read::Failed => Status::ReadFault,
-        Read::Stopped(stop) => status_of(stop),
-        Read::End => match session.finish(alloc, out) {
-            None => Status::Done,
-            Some(stop) => status_of(stop),
-        },
-    }
+    run_in(&mut session, alloc, source, out)
 }
 
 /// Whether the words are none, or the one word for one worker.
