@@ -91,3 +91,12 @@ status_of stop.Starved = status.Memory
 abbrev pub IsNoUsage : Status → Type 0
 IsNoUsage status.Usage = ⊥
 IsNoUsage _ = Unit {0}
+
+-- the exit status of the program
+abbrev pub code_of : Status → ℕ
+code_of status.Done = 0
+code_of status.ReadFault = 1
+code_of status.WriteFault = 2
+code_of status.Usage = 3
+code_of (status.Line bad) = 4
+code_of status.Memory = 5

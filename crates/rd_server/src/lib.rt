@@ -11,4 +11,4 @@ mod replaying;
 mod sessions;
 
 pub use endings::{LineBad, Reason, Status};
-pub use replaying::replay;
+pub use replaying::{replay, report};

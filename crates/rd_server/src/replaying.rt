@@ -112,8 +112,8 @@ fn line_text(alloc: Global, bad: LineBad) -> Result<Bytes, Starved>
     Ok(Bytes::of(text.into_bytes()))
 }
 
-/// Says on the error sink how a replay ended. What can't be said there is left out.
-fn report<E: Sink>(alloc: Global, err: &mut E, status: Status)
+/// Says on the error sink how a replay ended: nothing for `Done`. What can't be said there is left out.
+pub fn report<E: Sink>(alloc: Global, err: &mut E, status: Status)
     ensures { IsReported (E.holds err.old) (E.holds err.new) status }
 {
     match status {
