@@ -38,3 +38,6 @@ pub use submitted::{SubmittedLink, SubmittedLinks};
 pub use sure_ends::{SureSink, SureSource};
 pub use tags::Tag;
 pub use texts::Text;
+
+#[cfg(test)]
+mod ends_tests;
