@@ -1,3 +1,8 @@
+pub mod Pairs
+pub mod Lists
+pub mod ReplayLaws
+pub mod LegalLaws
+pub mod NumberLaws
 pub mod OnLiterals
 pub mod Samples
 mod LeaseExamples
