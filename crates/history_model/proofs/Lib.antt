@@ -3,6 +3,10 @@ pub mod Lists
 pub mod ReplayLaws
 pub mod LegalLaws
 pub mod NumberLaws
+pub mod Acceptance
+pub mod NameLaws
+pub mod SweepLaws
+pub mod LimitLaws
 pub mod OnLiterals
 pub mod Samples
 mod LeaseExamples

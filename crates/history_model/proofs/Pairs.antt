@@ -80,3 +80,12 @@ AllPairs-from_recursion R [] h i j d below inside = absurd (omega arith)
 AllPairs-from_recursion R (x ∷ xs) h i zero d below inside = absurd (omega arith)
 AllPairs-from_recursion R (x ∷ xs) h zero (suc j) d below inside = All-from_recursion (R x) xs h.0 j d (omega arith)
 AllPairs-from_recursion R (x ∷ xs) h (suc i) (suc j) d below inside = AllPairs-from_recursion R xs h.1 i j d (omega arith) (omega arith)
+
+-- where something is known of each element too
+pub pairs_known : {X : Type 0} (P : X → Type 0) (R S : X → X → Type 0) → ((x y : X) → P x → P y → R x y → S x y) → (xs : List X) → AllByRecursion P xs → PairsByRecursion R xs → PairsByRecursion S xs
+pairs_known P R S step [] known h = tt
+pairs_known P R S step (x ∷ xs) known h = (each_both P (R x) (S x) (λ y p r. step x y known.0 p r) xs known.1 h.0, pairs_known P R S step xs known.1 h.1)
+
+pub pairs_both : {X : Type 0} (R S T : X → X → Type 0) → ((x y : X) → R x y → S x y → T x y) → (xs : List X) → PairsByRecursion R xs → PairsByRecursion S xs → PairsByRecursion T xs
+pairs_both R S T both [] h k = tt
+pairs_both R S T both (x ∷ xs) h k = (each_both (R x) (S x) (T x) (both x) xs h.0 k.0, pairs_both R S T both xs h.1 k.1)
