@@ -7,6 +7,9 @@ pub mod Acceptance
 pub mod NameLaws
 pub mod SweepLaws
 pub mod LimitLaws
+pub mod TagOctets
+pub mod TagLaws
+pub mod VersionLaws
 pub mod OnLiterals
 pub mod Samples
 mod LeaseExamples

@@ -1,5 +1,7 @@
 -- Legal histories: moments do not fall, and no entry is refused behind those before it.
-use Rattle.std.specs.Prelude.{◌≡◌, ℕ, ◌≤◌, List, ◌∷◌, ◌++◌, None}
+use Rattle.std.specs.Prelude.{◌≡◌, ℕ, ◌<◌, ◌≤◌, List, ◌∷◌, ◌++◌, None, IfSome, ⊤}
+use Rattle.history_model.specs.declared.entries.Change.{Change}
+use Rattle.history_model.specs.declared.entries.Change.TheVariants as change
 use Rattle.history_model.specs.declared.entries.Entry.{Entry}
 use Rattle.history_model.specs.Live.{last_moment}
 use Rattle.history_model.specs.Refusals.{change_refusal}
@@ -16,3 +18,9 @@ IsLegalFrom first history = (before after : List Entry) (entry : Entry) → befo
 -- a history in which each entry may come behind those before it
 abbrev pub IsLegal : List Entry → Type 0
 IsLegal history = IsLegalFrom 0 history
+
+-- a lifetime that a change gives is not 0 (RFC 9176 section 5, lt)
+abbrev pub IsLasting : Change → Type 0
+IsLasting (change.Register params links) = 0 < params.lt
+IsLasting (change.Update number given) = IfSome given.lt (λ lt. 0 < lt)
+IsLasting (change.Remove number) = ⊤
