@@ -75,7 +75,7 @@ abbrev NoneNumbered : ℕ → List Record → Type 0
 NoneNumbered number records = AllByRecursion (λ r. r.number ≡ number → ⊥) records
 
 -- where one record has the number, no later one has
-apart : (r : Record) (number : ℕ) (records : List Record) → r.number ≡ number → AllByRecursion (IsBelow r) records → NoneNumbered number records
+pub apart : (r : Record) (number : ℕ) (records : List Record) → r.number ≡ number → AllByRecursion (IsBelow r) records → NoneNumbered number records
 apart r number records same below = each_weaker (IsBelow r) (λ other. other.number ≡ number → ⊥) (λ other lower again. omega arith) records below
 
 none_found : (number : ℕ) (test : Record → Bool) (records : List Record) → NoneNumbered number records → list_any (is_numbered number) (filter test records) ≡ true → ⊥
@@ -99,7 +99,7 @@ live_numbered moment number (r ∷ rs) pairs there = by (is_live_at moment r) (i
     by true false l n h more = (λ _. l, more (let rest = rw n at h in rest))
     by false n l same h more = (λ same. absurd (none_found number (is_live_at moment) rs (apart r number rs same pairs.0) h), more h)
 
-none_named : (name : Name) (moment number : ℕ) (records : List Record) → NoneNumbered number records → number_named name moment records ≡ Some number → ⊥
+pub none_named : (name : Name) (moment number : ℕ) (records : List Record) → NoneNumbered number records → number_named name moment records ≡ Some number → ⊥
 none_named name moment number [] none e = cc
 none_named name moment number (r ∷ rs) none e = by (is_live_named name moment r) e (none_named name moment number rs none.1)
   where

@@ -10,6 +10,8 @@ pub mod LimitLaws
 pub mod TagOctets
 pub mod TagLaws
 pub mod VersionLaws
+pub mod LocationLaws
+pub mod ListingLaws
 pub mod OnLiterals
 pub mod Samples
 mod LeaseExamples
