@@ -1,8 +1,7 @@
 -- What is known of an entry that meets no refusal: what it does to the records.
-use Rattle.std.proofs.Common.{◌≡◌, ℕ, ◌+◌, ◌<◌, ◌≤◌, Bool, true, false, not, ◌&&◌, ◌||◌, cond, List, [], ◌∷◌, ◌++◌, map, filter, find, Option, Some, None, option_map, Decides, bytes_eq, nat_le, refl, sym, ap, ap₂, subst, ◌∙◌, arith, eqb-true, eq-eqb, ltb-true, lt-ltb}
-use Rattle.std.specs.Prelude.{◌==◌}
+use Rattle.std.proofs.Common.{◌≡◌, ℕ, ◌+◌, ◌<◌, ◌≤◌, Bool, true, false, not, cond, List, [], ◌∷◌, ◌++◌, filter, find, Option, Some, None, option_map, Decides, bytes_eq, nat_le, refl, sym, ap, ap₂, ◌∙◌, arith, eqb-true, ltb-true, lt-ltb}
 use Rattle.std.specs.List.{AllByRecursion, list_any}
-use Rattle.std.proofs.lemmas.Bool.{true≢false, false≢true, and_parts, and_from, not-false}
+use Rattle.std.proofs.lemmas.Bool.{false≢true, and_parts, and_from, not-false}
 use Rattle.std.proofs.lemmas.Slice.Eq.{bytes_eq-Decides}
 use Rattle.rd_base.specs.declared.parameters.RegParams.{RegParams}
 use Rattle.rd_base.specs.declared.parameters.UpdateParams.{UpdateParams}
@@ -16,9 +15,9 @@ use Rattle.history_model.specs.declared.entries.Entry.{Entry}
 use Rattle.history_model.specs.Leases.{lapse, is_live_at, live_among}
 use Rattle.history_model.specs.Names.{is_same_sector, is_same_name}
 use Rattle.history_model.specs.Replay.{State, is_numbered, is_live_named, number_named, with_changed, registered_under, changed, apply}
-use Rattle.history_model.specs.Refusals.{max_entries, has_number, is_gone, is_full_of_records, is_full_of_text, only_live, refusal_in}
+use Rattle.history_model.specs.Refusals.{max_entries, has_number, is_gone, is_full_of_records, is_full_of_text, text_behind, refusal_in}
 use Rattle.history_model.proofs.Pairs.{PairsByRecursion, each_weaker}
-use Rattle.history_model.proofs.NumberLaws.{IsBelow, IsNumbered}
+use Rattle.history_model.proofs.NumberLaws.{IsBelow, HasRisingNumbers}
 
 -- ---- names
 
@@ -51,7 +50,7 @@ is_live_before before moment r order live = let above : moment < lapse r = ltb-t
 pub record Accepted (state : State) (entries : ℕ) (entry : Entry) : Type 0 where
   pub there : is_gone (live_among entry.moment.0 state.records) entry.change ≡ false
   pub room : is_full_of_records (live_among entry.moment.0 state.records) entry.change ≡ false
-  pub text : is_full_of_text (apply (only_live entry.moment.0 state) entry).records entry.change ≡ false
+  pub text : is_full_of_text (text_behind state entry) entry.change ≡ false
   pub counted : nat_le max_entries entries ≡ false
 
 none_of_four : {A : Type 0} (a b c d : Bool) (w x y z : A) → cond a (Some w) (cond b (Some x) (cond c (Some y) (cond d (Some z) None))) ≡ None → (a ≡ false) × (b ≡ false) × (c ≡ false) × (d ≡ false)
@@ -65,7 +64,7 @@ pub accepted : (state : State) (entries : ℕ) (entry : Entry) → refusal_in st
 unfolding refusal_in
 accepted state entries entry e =
     let all = none_of_four (is_gone (live_among entry.moment.0 state.records) entry.change) (is_full_of_records (live_among entry.moment.0 state.records) entry.change)
-    (is_full_of_text (apply (only_live entry.moment.0 state) entry).records entry.change) (nat_le max_entries entries) _ _ _ _ e in
+    (is_full_of_text (text_behind state entry) entry.change) (nat_le max_entries entries) _ _ _ _ e in
     record { there = all.0; room = all.1; text = all.2; counted = all.3 }
 
 -- ---- the record that an entry is about
@@ -167,7 +166,7 @@ updated_again number entry given records known = each_weaker _ (λ r. r.number �
     (λ r live same. record { live = live same; number = refl; name = refl; granted = refl }) records known
 
 -- what holds behind each kind of accepted change, holds behind an accepted entry
-pub by_accepted : (P : State → Type 0) (state : State) (entries : ℕ) (entry : Entry) → IsNumbered state → Accepted state entries entry
+pub by_accepted : (P : State → Type 0) (state : State) (entries : ℕ) (entry : Entry) → HasRisingNumbers state → Accepted state entries entry
     → ((number : ℕ) (new : Record → Record) → RenewsNumbered entry.moment.0 number new state.records → P (record state { records = with_changed number new state.records }))
     → ((r : Record) → r.number ≡ state.drawn + 1 → r.granted.0 ≡ entry.moment.0 → NoneNamed entry.moment.0 r.name state.records → P (record { records = state.records ++ r ∷ []; drawn = state.drawn + 1 }))
     → ((number : ℕ) → P (record state { records = filter (λ r. not (is_numbered number r)) state.records }))

@@ -1,6 +1,5 @@
 -- Leases, numbers and updates, computed.
-use Rattle.std.proofs.Common.{◌≡◌, ℕ, List, [], ◌∷◌, ◌++◌, map, codes, refl, Some, None}
-use Rattle.rd_base.specs.declared.attributes.Pair.{Pair}
+use Rattle.std.proofs.Common.{◌≡◌, List, [], ◌∷◌, ◌++◌, map, codes, refl, Some, None, arith}
 use Rattle.document_model.specs.ListingLines.{weight}
 use Rattle.history_model.specs.declared.entries.Entry.{Entry}
 use Rattle.history_model.specs.declared.refusals.Refusal.TheVariants as refusal
@@ -9,6 +8,8 @@ use Rattle.history_model.specs.Replay.{replay}
 use Rattle.history_model.specs.Live.{live}
 use Rattle.history_model.specs.Listing.{tag}
 use Rattle.history_model.specs.Refusals.{change_refusal}
+use Rattle.history_model.specs.Legal.{IsLegal}
+use Rattle.history_model.proofs.LegalLaws.{IsLegalFrom-nil, IsLegalFrom_push}
 use Rattle.history_model.proofs.OnLiterals.{history_on_literals}
 use Rattle.history_model.proofs.Samples.{device, moved, registers, updates, removes, for_ten_minutes, two_links, registers_two, resources, by_lux, lux, live_numbers}
 
@@ -133,3 +134,12 @@ updated_lapse = refl
 renewed_lapse : map lapse (replay (registers_two 1000 ∷ updates 2000 device 1 [] ∷ [])).records ≡ 602_000 ∷ []
 unfolding history_on_literals
 renewed_lapse = refl
+
+-- a registration, an update and a removal are a legal history
+legal : IsLegal (registers_two 1000 ∷ updates 2000 moved 1 (codes "lt=60" ∷ []) ∷ removes 61_999 1 ∷ [])
+unfolding history_on_literals
+legal = IsLegalFrom_push 0 (registers_two 1000 ∷ updates 2000 moved 1 (codes "lt=60" ∷ []) ∷ []) (removes 61_999 1)
+    (IsLegalFrom_push 0 (registers_two 1000 ∷ []) (updates 2000 moved 1 (codes "lt=60" ∷ []))
+    (IsLegalFrom_push 0 [] (registers_two 1000) (IsLegalFrom-nil 0) (record { in_time = omega arith; body = (two_links, refl, refl); accepted = refl }))
+    (record { in_time = omega arith; body = tt; accepted = refl }))
+    (record { in_time = omega arith; body = tt; accepted = refl })

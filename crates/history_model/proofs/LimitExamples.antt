@@ -1,7 +1,6 @@
 -- What is refused at the limits, computed.
-use Rattle.std.proofs.Common.{◌≡◌, ℕ, ◌+◌, ◌-◌, ◌^◌, List, [], ◌∷◌, ◌++◌, codes, decimal, replicate, refl, Some, None}
-use Rattle.std.specs.Prelude.{filter}
-use Rattle.std.specs.List.{concat, range_with_len}
+use Rattle.std.proofs.Common.{◌≡◌, ℕ, ◌-◌, ◌^◌, [], ◌∷◌, ◌++◌, codes, decimal, refl, Some, None}
+use Rattle.std.specs.List.{range_with_len}
 use Rattle.std.proofs.Common.{map}
 use Rattle.rd_base.specs.declared.records.Record.{Record}
 use Rattle.document_model.specs.Parameters.{registration_values}
@@ -11,7 +10,7 @@ use Rattle.history_model.specs.declared.refusals.Refusal.TheVariants as refusal
 use Rattle.history_model.specs.Replay.{State}
 use Rattle.history_model.specs.Refusals.{refusal_in, change_refusal}
 use Rattle.history_model.proofs.OnLiterals.{history_on_literals}
-use Rattle.history_model.proofs.Samples.{device, registers, updates, removes, registers_two}
+use Rattle.history_model.proofs.Samples.{device, registers, removes, registers_two}
 
 -- two entries below the limit one registration is accepted
 last_entry : change_refusal (2 ^ 48 - 2) [] (registers_two 1000) ≡ None

@@ -1,13 +1,10 @@
 -- How many registrations are live, what they weigh together, and how many entries there are.
-use Rattle.std.proofs.Common.{◌≡◌, ℕ, ◌+◌, ◌-◌, ◌^◌, ◌<◌, ◌≤◌, Bool, true, false, not, ◌&&◌, ◌||◌, cond, List, [], ◌∷◌, ◌++◌, map, filter, length, length-append, Option, Some, None, nat_le, nat_lt, refl, sym, ap, subst, ◌∙◌, arith}
-use Rattle.std.specs.List.{AllByRecursion, list_any}
-use Rattle.std.proofs.lemmas.Bool.{true≢false, false≢true, leb-false, ltb-false, and_cases, false_from_ne_true}
+use Rattle.std.proofs.Common.{◌≡◌, ℕ, ◌+◌, ◌<◌, ◌≤◌, Bool, true, false, not, ◌&&◌, List, [], ◌∷◌, map, filter, length, length-append, Option, Some, None, nat_le, nat_lt, refl, sym, ap, subst, ◌∙◌, arith}
+use Rattle.std.specs.List.{AllByRecursion}
+use Rattle.std.proofs.lemmas.Bool.{true≢false, leb-false, ltb-false, false_from_ne_true}
 use Rattle.std.proofs.lemmas.List.{length-map}
-use Rattle.rd_base.specs.declared.parameters.RegParams.{RegParams}
-use Rattle.rd_base.specs.declared.parameters.UpdateParams.{UpdateParams}
 use Rattle.rd_base.specs.declared.records.Name.{Name}
 use Rattle.rd_base.specs.declared.records.Record.{Record}
-use Rattle.rd_base.specs.declared.submitted.SubmittedLink.{SubmittedLink}
 use Rattle.document_model.specs.ListingLines.{weight}
 use Rattle.document_model.specs.Records.{registered, updated}
 use Rattle.history_model.specs.declared.entries.Change.{Change}
@@ -15,15 +12,15 @@ use Rattle.history_model.specs.declared.entries.Change.TheVariants as change
 use Rattle.history_model.specs.declared.entries.Entry.{Entry}
 use Rattle.history_model.specs.Leases.{is_live_at, live_among}
 use Rattle.history_model.specs.Names.{is_same_name}
-use Rattle.history_model.specs.Replay.{State, is_numbered, number_named, with_changed, registered_under, changed, apply, replay}
+use Rattle.history_model.specs.Replay.{State, is_numbered, number_named, registered_under, changed, apply, replay}
 use Rattle.history_model.specs.Live.{live, last_moment}
-use Rattle.history_model.specs.Legal.{IsNext, IsLegalFrom}
+use Rattle.history_model.specs.Legal.{IsLegalFrom}
 use Rattle.history_model.specs.Refusals.{max_registrations, max_text, max_entries, has_name, text_of, is_full_of_records, is_full_of_text, only_live}
-use Rattle.history_model.proofs.Pairs.{each_both, each_passes}
+use Rattle.history_model.proofs.Pairs.{each_passes}
 use Rattle.history_model.proofs.Lists.{length-filter-le, sum_by-filter-le}
-use Rattle.history_model.proofs.ReplayLaws.{replay-nil, replay_push, last_moment-nil, last_moment_push}
+use Rattle.history_model.proofs.ReplayLaws.{replay-nil, replay_push, last_moment_push}
 use Rattle.history_model.proofs.LegalLaws.{by_legal_pushes}
-use Rattle.history_model.proofs.NumberLaws.{IsNumbered, replay-IsNumbered}
+use Rattle.history_model.proofs.NumberLaws.{HasRisingNumbers, replay-HasRisingNumbers}
 use Rattle.history_model.proofs.Acceptance.{is_same_name-Decides, not_named, Accepted}
 use Rattle.history_model.proofs.NameLaws.{behind_change, next-Accepted}
 use Rattle.history_model.proofs.SweepLaws.{live_among_live, only_live-apply}
@@ -58,7 +55,7 @@ has_room false named e same = refl
 
 -- what an accepted entry makes of the live records is bounded
 changed-IsBounded : (entry : Entry) (state : State) → AllByRecursion (λ r. is_live_at entry.moment.0 r ≡ true) state.records → IsBounded state.records
-    → (c : Change) → is_full_of_records state.records c ≡ false → is_full_of_text (changed state entry.moment entry.peer c).records c ≡ false → IsBounded (changed state entry.moment entry.peer c).records
+    → (c : Change) → is_full_of_records state.records c ≡ false → is_full_of_text (text_of (changed state entry.moment entry.peer c).records) c ≡ false → IsBounded (changed state entry.moment entry.peer c).records
 changed-IsBounded entry state live bounded (change.Register params links) room text = of_number (number_named params.name entry.moment.0 state.records) refl text
   where
     of_number : (o : Option ℕ) → number_named params.name entry.moment.0 state.records ≡ o → nat_lt max_text (text_of (registered_under o state entry.moment entry.peer params links).records) ≡ false
@@ -78,7 +75,7 @@ changed-IsBounded entry state live bounded (change.Update number given) room tex
     record { count = omega (arith, same); text = ltb-false _ _ text }
 changed-IsBounded entry state live bounded (change.Remove number) room text = IsBounded-filter (λ r. not (is_numbered number r)) state.records bounded
 
-apply-IsBounded : (state : State) (entries : ℕ) (entry : Entry) → IsNumbered state → Accepted state entries entry → IsBounded (live_among entry.moment.0 state.records) → IsBounded (live_among entry.moment.0 (apply state entry).records)
+apply-IsBounded : (state : State) (entries : ℕ) (entry : Entry) → HasRisingNumbers state → Accepted state entries entry → IsBounded (live_among entry.moment.0 state.records) → IsBounded (live_among entry.moment.0 (apply state entry).records)
 unfolding apply
 apply-IsBounded state entries entry numbered accepts bounded =
     let moment = entry.moment.0 in
@@ -89,7 +86,7 @@ apply-IsBounded state entries entry numbered accepts bounded =
 replay-IsBounded : (first : ℕ) (history : List Entry) → IsLegalFrom first history → IsBounded (live_among (last_moment history) (replay history).records)
 replay-IsBounded first = by_legal_pushes first (λ h. IsBounded (live_among (last_moment h) (replay h).records)) (rw replay-nil (record { count = omega arith; text = omega arith }))
     (λ h e legal next before. rw (replay_push h e, last_moment_push h e)
-    (apply-IsBounded (replay h) (first + length h) e (replay-IsNumbered h) (next-Accepted first h e next)
+    (apply-IsBounded (replay h) (first + length h) e (replay-HasRisingNumbers h) (next-Accepted first h e next)
     (subst IsBounded (live_among_live (last_moment h) e.moment.0 (replay h).records next.in_time) (IsBounded-filter (is_live_at e.moment.0) (live_among (last_moment h) (replay h).records) before))))
 
 -- after a legal history so many records at most are live, and they weigh so much together at most

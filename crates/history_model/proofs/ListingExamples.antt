@@ -1,5 +1,5 @@
 -- Listings and tags of histories, computed.
-use Rattle.std.proofs.Common.{◌≡◌, ℕ, List, [], ◌∷◌, ◌++◌, codes, refl}
+use Rattle.std.proofs.Common.{◌≡◌, [], ◌∷◌, ◌++◌, codes, refl}
 use Rattle.rd_base.specs.declared.queries.Kind.TheVariants as kind
 use Rattle.document_model.specs.Criteria.{lookup_values}
 use Rattle.history_model.specs.declared.entries.Entry.{Entry}

@@ -1,10 +1,10 @@
 -- No listing is longer than its live records weigh.
-use Rattle.std.proofs.Common.{◌≡◌, ℕ, ◌+◌, ◌≤◌, List, [], ◌∷◌, ◌++◌, map, length, sum_by, refl, sym, ap, ◌∙◌, arith}
+use Rattle.std.proofs.Common.{◌≡◌, ℕ, ◌+◌, ◌≤◌, List, [], ◌∷◌, ◌++◌, map, length, refl, ap, ◌∙◌, arith}
 use Rattle.std.proofs.lemmas.List.{map-append}
 use Rattle.std.proofs.lemmas.List.Sums.{sum_by-cons, sum_by-append}
 use Rattle.rd_base.specs.declared.queries.Query.{Query}
 use Rattle.rd_base.specs.declared.records.Record.{Record}
-use Rattle.document_model.specs.ListingLines.{part, weight, shown}
+use Rattle.document_model.specs.ListingLines.{part, weight}
 use Rattle.document_model.proofs.Weights.{room_of, length-shown, room_of-part}
 use Rattle.history_model.specs.declared.entries.Entry.{Entry}
 use Rattle.history_model.specs.Live.{live, last_moment}

@@ -1,25 +1,18 @@
 -- The number in the location of a registration: behind it, the live record of its name has that number.
-use Rattle.std.proofs.Common.{◌≡◌, ℕ, ◌+◌, ◌<◌, ◌≤◌, Bool, true, false, ◌&&◌, cond, List, [], ◌∷◌, ◌++◌, map, find, Option, Some, None, option_map, unwrap_or, refl, sym, ap, subst, ◌∙◌, arith, eqb-true, eq-eqb, ne_eqb}
-use Rattle.std.specs.Prelude.{◌==◌}
-use Rattle.std.specs.Option.{option_or}
-use Rattle.std.specs.List.{AllByRecursion}
-use Rattle.std.proofs.lemmas.Bool.{true≢false, and_parts, and_from}
+use Rattle.std.proofs.Common.{◌≡◌, ℕ, ◌+◌, ◌<◌, Bool, true, false, cond, List, [], ◌∷◌, find, Option, Some, None, option_map, unwrap_or, refl, sym, ap, subst, ◌∙◌, arith, eq-eqb}
+use Rattle.std.proofs.lemmas.Bool.{true≢false, and_from}
 use Rattle.std.proofs.lemmas.List.Folds.{find-append}
 use Rattle.rd_base.specs.declared.parameters.RegParams.{RegParams}
 use Rattle.rd_base.specs.declared.records.Name.{Name}
 use Rattle.rd_base.specs.declared.records.Record.{Record}
 use Rattle.rd_base.specs.declared.submitted.SubmittedLink.{SubmittedLink}
 use Rattle.document_model.specs.Records.{registered}
-use Rattle.history_model.specs.declared.entries.Change.{Change}
 use Rattle.history_model.specs.declared.entries.Change.TheVariants as change
 use Rattle.history_model.specs.declared.entries.Entry.{Entry}
-use Rattle.history_model.specs.Leases.{is_live_at}
-use Rattle.history_model.specs.Names.{is_same_name}
 use Rattle.history_model.specs.Replay.{State, is_numbered, is_live_named, number_named, number_for, with_changed, registered_under, changed, apply}
 use Rattle.history_model.proofs.Pairs.{PairsByRecursion}
-use Rattle.history_model.proofs.NumberLaws.{IsBelow, IsNumbered}
-use Rattle.history_model.proofs.Acceptance.{is_same_name-Decides, apart, none_named}
-use Rattle.history_model.proofs.NameLaws.{behind_change}
+use Rattle.history_model.proofs.NumberLaws.{IsBelow, HasRisingNumbers}
+use Rattle.history_model.proofs.Acceptance.{is_same_name-Decides}
 use Rattle.history_model.proofs.VersionLaws.{registered_live}
 
 -- a registration is found by its name, at its moment
@@ -45,7 +38,7 @@ no_value f None e = refl
 no_value f (Some x) e = absurd cc
 
 -- behind a registration the live record of its name has the number that it was to have
-pub number_named-apply : (state : State) (entry : Entry) (params : RegParams) (links : List SubmittedLink) → IsNumbered state → entry.change ≡ change.Register params links → 0 < params.lt
+pub number_named-apply : (state : State) (entry : Entry) (params : RegParams) (links : List SubmittedLink) → HasRisingNumbers state → entry.change ≡ change.Register params links → 0 < params.lt
     → number_named params.name entry.moment.0 (apply state entry).records ≡ Some (number_for params.name entry.moment.0 state)
 unfolding apply registered
 number_named-apply state entry params links numbered same lasts =

@@ -1,20 +1,19 @@
 -- The names of live records differ, and no record was granted later than the last entry.
-use Rattle.std.proofs.Common.{◌≡◌, ◌≢◌, ℕ, ◌+◌, ◌<◌, ◌≤◌, Bool, true, false, not, cond, List, [], ◌∷◌, ◌++◌, length, map, filter, None, refl, sym, subst, ◌∙◌, arith, eqb-true}
-use Rattle.std.specs.Prelude.{◌==◌}
+use Rattle.std.proofs.Common.{◌≡◌, ◌≢◌, ℕ, ◌+◌, ◌≤◌, Bool, true, false, not, cond, List, length, refl, sym, ◌∙◌, arith, eqb-true}
 use Rattle.std.specs.List.{AllByRecursion}
 use Rattle.std.proofs.lemmas.Bool.{true≢false}
 use Rattle.rd_base.specs.declared.records.Record.{Record}
 use Rattle.history_model.specs.declared.entries.Entry.{Entry}
 use Rattle.history_model.specs.Leases.{is_live_at, live_among}
-use Rattle.history_model.specs.Replay.{State, is_numbered, with_changed, apply, replay}
+use Rattle.history_model.specs.Replay.{State, is_numbered, apply, replay}
 use Rattle.history_model.specs.Live.{HaveDistinctNames, live, last_moment}
 use Rattle.history_model.specs.Legal.{IsNext, IsLegalFrom}
 use Rattle.history_model.specs.Refusals.{change_refusal}
-use Rattle.history_model.proofs.Pairs.{PairsByRecursion, each_weaker, each_both, each_map, each_filter, each_push, each_passes, pairs_weaker, pairs_filter, pairs_push, pairs_map, pairs_known, AllPairs-from_recursion}
-use Rattle.history_model.proofs.ReplayLaws.{KeepsNumber, replay-nil, replay_push, last_moment-nil, last_moment_push, by_change}
+use Rattle.history_model.proofs.Pairs.{PairsByRecursion, each_weaker, each_map, each_filter, each_push, each_passes, pairs_weaker, pairs_filter, pairs_push, pairs_map, pairs_known, AllPairs-from_recursion}
+use Rattle.history_model.proofs.ReplayLaws.{KeepsNumber, replay-nil, replay_push, last_moment_push, by_change}
 use Rattle.history_model.proofs.LegalLaws.{by_legal_pushes}
-use Rattle.history_model.proofs.NumberLaws.{IsNumbered, replay-IsNumbered}
-use Rattle.history_model.proofs.Acceptance.{is_live_before, Accepted, accepted, Renews, RenewsNumbered, NoneNamed, by_accepted}
+use Rattle.history_model.proofs.NumberLaws.{HasRisingNumbers, replay-HasRisingNumbers}
+use Rattle.history_model.proofs.Acceptance.{is_live_before, Accepted, accepted, Renews, by_accepted}
 
 -- an entry that may come next meets no refusal in the state that its history made
 pub next-Accepted : (first : ℕ) (history : List Entry) (entry : Entry) → IsNext first history entry → Accepted (replay history) (first + length history) entry
@@ -41,7 +40,7 @@ behind_change_known moment number new r renews = by (is_numbered number r) refl
     by false e = (refl, λ live. live)
 
 -- an accepted entry leaves the names of live records apart
-pub apply-AreApart : (state : State) (entries : ℕ) (entry : Entry) → IsNumbered state → Accepted state entries entry → PairsByRecursion (AreApart entry.moment.0) state.records
+pub apply-AreApart : (state : State) (entries : ℕ) (entry : Entry) → HasRisingNumbers state → Accepted state entries entry → PairsByRecursion (AreApart entry.moment.0) state.records
     → PairsByRecursion (AreApart entry.moment.0) (apply state entry).records
 apply-AreApart state entries entry numbered accepts before =
     let moment = entry.moment.0 in
@@ -64,7 +63,7 @@ apart_later before moment records order = pairs_weaker (AreApart before) (AreApa
 pub replay-AreApart : (first : ℕ) (history : List Entry) → IsLegalFrom first history → PairsByRecursion (AreApart (last_moment history)) (replay history).records
 replay-AreApart first = by_legal_pushes first (λ h. PairsByRecursion (AreApart (last_moment h)) (replay h).records) (rw replay-nil tt)
     (λ h e legal next before. rw (replay_push h e, last_moment_push h e)
-    (apply-AreApart (replay h) (first + length h) e (replay-IsNumbered h) (next-Accepted first h e next) (apart_later (last_moment h) e.moment.0 (replay h).records next.in_time before)))
+    (apply-AreApart (replay h) (first + length h) e (replay-HasRisingNumbers h) (next-Accepted first h e next) (apart_later (last_moment h) e.moment.0 (replay h).records next.in_time before)))
 
 -- the records that are live at a moment not below the last have distinct names
 pub live-HaveDistinctNames : (first : ℕ) (history : List Entry) (moment : ℕ) → IsLegalFrom first history → last_moment history ≤ moment → HaveDistinctNames (live history moment)

@@ -25,12 +25,12 @@ abbrev pub IsDrawn : ℕ → Record → Type 0
 IsDrawn drawn r = (0 < r.number) × (r.number ≤ drawn)
 
 -- the records stand in ascending number, and each number was drawn
-pub record IsNumbered (state : State) : Type 0 where
+pub record HasRisingNumbers (state : State) : Type 0 where
   pub ascending : PairsByRecursion IsBelow state.records
   pub each_drawn : AllByRecursion (IsDrawn state.drawn) state.records
 
-replaced-IsNumbered : (state : State) (moment number : ℕ) (new : Record → Record) → KeepsNumber moment number new → IsNumbered state → IsNumbered (record state { records = with_changed number new state.records })
-replaced-IsNumbered state moment number new keeps before =
+replaced-HasRisingNumbers : (state : State) (moment number : ℕ) (new : Record → Record) → KeepsNumber moment number new → HasRisingNumbers state → HasRisingNumbers (record state { records = with_changed number new state.records })
+replaced-HasRisingNumbers state moment number new keeps before =
     let f : Record → Record = λ r. cond (is_numbered number r) (new r) r in
     let same : (r : Record) → (f r).number ≡ r.number = changed_number moment number new keeps in
     record {
@@ -38,33 +38,33 @@ replaced-IsNumbered state moment number new keeps before =
       each_drawn = each_map (IsDrawn state.drawn) f state.records (each_weaker (IsDrawn state.drawn) (λ r. IsDrawn state.drawn (f r)) (λ r drawn. let a = same r in let low = drawn.0 in let high = drawn.1 in (omega arith, omega arith)) state.records before.each_drawn);
     }
 
-appended-IsNumbered : (state : State) (r : Record) → r.number ≡ state.drawn + 1 → IsNumbered state → IsNumbered (record { records = state.records ++ r ∷ []; drawn = state.drawn + 1 })
-appended-IsNumbered state r next before = record {
+appended-HasRisingNumbers : (state : State) (r : Record) → r.number ≡ state.drawn + 1 → HasRisingNumbers state → HasRisingNumbers (record { records = state.records ++ r ∷ []; drawn = state.drawn + 1 })
+appended-HasRisingNumbers state r next before = record {
   ascending = pairs_push IsBelow state.records r before.ascending (each_weaker (IsDrawn state.drawn) (λ other. IsBelow other r) (λ other drawn. let high = drawn.1 in omega arith) state.records before.each_drawn);
   each_drawn = each_push (IsDrawn (state.drawn + 1)) state.records r
       (each_weaker (IsDrawn state.drawn) (IsDrawn (state.drawn + 1)) (λ other drawn. let low = drawn.0 in let high = drawn.1 in (omega arith, omega arith)) state.records before.each_drawn)
       (omega arith, omega arith);
 }
 
-pub apply-IsNumbered : (state : State) (entry : Entry) → IsNumbered state → IsNumbered (apply state entry)
-apply-IsNumbered state entry before = by_change IsNumbered state entry
-    (λ number new keeps. replaced-IsNumbered state entry.moment.0 number new keeps before)
-    (λ r next _. appended-IsNumbered state r next before)
+pub apply-HasRisingNumbers : (state : State) (entry : Entry) → HasRisingNumbers state → HasRisingNumbers (apply state entry)
+apply-HasRisingNumbers state entry before = by_change HasRisingNumbers state entry
+    (λ number new keeps. replaced-HasRisingNumbers state entry.moment.0 number new keeps before)
+    (λ r next _. appended-HasRisingNumbers state r next before)
     (λ number. record {
       ascending = pairs_filter IsBelow (λ r. not (is_numbered number r)) state.records before.ascending;
       each_drawn = each_filter (IsDrawn state.drawn) (λ r. not (is_numbered number r)) state.records before.each_drawn;
     })
 
 -- the records of a history stand in ascending number, each number is above 0, and none is above the last that was drawn
-pub replay-IsNumbered : (history : List Entry) → IsNumbered (replay history)
-replay-IsNumbered history = by_pushes (λ h. IsNumbered (replay h)) (rw replay-nil (record { ascending = tt; each_drawn = tt })) (λ h e before. subst IsNumbered (sym (replay_push h e)) (apply-IsNumbered (replay h) e before)) history
+pub replay-HasRisingNumbers : (history : List Entry) → HasRisingNumbers (replay history)
+replay-HasRisingNumbers history = by_pushes (λ h. HasRisingNumbers (replay h)) (rw replay-nil (record { ascending = tt; each_drawn = tt })) (λ h e before. subst HasRisingNumbers (sym (replay_push h e)) (apply-HasRisingNumbers (replay h) e before)) history
 
 pub replay-AreAscending : (history : List Entry) → AreAscending (replay history).records
-replay-AreAscending history = AllPairs-from_recursion IsBelow (replay history).records (replay-IsNumbered history).ascending
+replay-AreAscending history = AllPairs-from_recursion IsBelow (replay history).records (replay-HasRisingNumbers history).ascending
 
 pub live-AreAscending : (history : List Entry) (moment : ℕ) → AreAscending (live history moment)
 unfolding live
-live-AreAscending history moment = AllPairs-from_recursion IsBelow (live_among moment (replay history).records) (pairs_filter IsBelow (is_live_at moment) (replay history).records (replay-IsNumbered history).ascending)
+live-AreAscending history moment = AllPairs-from_recursion IsBelow (live_among moment (replay history).records) (pairs_filter IsBelow (is_live_at moment) (replay history).records (replay-HasRisingNumbers history).ascending)
 
 -- ---- how many are drawn
 

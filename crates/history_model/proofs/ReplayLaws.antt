@@ -1,6 +1,5 @@
 -- The entries of a history, one after the other, and what one of them makes of a state.
-use Rattle.std.proofs.Common.{◌≡◌, ℕ, ◌+◌, Bool, true, false, not, cond, List, [], ◌∷◌, ◌++◌, map, filter, length, fold, Option, Some, None, refl, sym, ap, subst, ◌∙◌, eqb-true}
-use Rattle.std.specs.Prelude.{◌==◌}
+use Rattle.std.proofs.Common.{◌≡◌, ℕ, ◌+◌, Bool, true, false, not, cond, List, [], ◌∷◌, ◌++◌, filter, Option, Some, None, refl, sym, eqb-true}
 use Rattle.std.proofs.lemmas.List.Sums.{fold_push}
 use Rattle.rd_base.specs.declared.moments.Moment.{Moment}
 use Rattle.rd_base.specs.declared.parameters.RegParams.{RegParams}
@@ -14,7 +13,6 @@ use Rattle.history_model.specs.declared.entries.Change.TheVariants as change
 use Rattle.history_model.specs.declared.entries.Entry.{Entry}
 use Rattle.history_model.specs.Replay.{State, empty, is_numbered, number_named, with_changed, registered_under, changed, apply, replay}
 use Rattle.history_model.specs.Live.{last_moment}
-use Rattle.history_model.proofs.Lists.{by_pushes}
 
 -- ---- histories
 
@@ -37,6 +35,22 @@ unfolding last_moment
 last_moment_push history entry = fold_push (λ (before : ℕ) (e : Entry). e.moment.0) 0 history entry
 
 -- ---- what an entry makes
+
+-- by the kind of the change
+pub apply-Register : (state : State) (now : Moment) (worker : ℕ) (peer : Peer) (params : RegParams) (links : List SubmittedLink)
+    → apply state (record { moment = now; worker = worker; peer = peer; change = change.Register params links }) ≡ registered_under (number_named params.name now.0 state.records) state now peer params links
+unfolding apply
+apply-Register state now worker peer params links = refl
+
+pub apply-Update : (state : State) (now : Moment) (worker : ℕ) (peer : Peer) (number : ℕ) (given : UpdateParams)
+    → apply state (record { moment = now; worker = worker; peer = peer; change = change.Update number given }) ≡ record { records = with_changed number (updated now peer given) state.records; drawn = state.drawn }
+unfolding apply
+apply-Update state now worker peer number given = refl
+
+pub apply-Remove : (state : State) (now : Moment) (worker : ℕ) (peer : Peer) (number : ℕ)
+    → apply state (record { moment = now; worker = worker; peer = peer; change = change.Remove number }) ≡ record { records = filter (λ r. not (is_numbered number r)) state.records; drawn = state.drawn }
+unfolding apply
+apply-Remove state now worker peer number = refl
 
 -- where each record of the number keeps it, and is granted at the moment
 pub record KeepsNumber (moment number : ℕ) (new : Record → Record) : Type 0 where

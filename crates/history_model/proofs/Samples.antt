@@ -1,5 +1,5 @@
 -- Entries and lookups that the examples speak of.
-use Rattle.std.proofs.Common.{ℕ, List, [], ◌∷◌, ◌++◌, map, codes, unwrap_or}
+use Rattle.std.proofs.Common.{ℕ, List, [], ◌∷◌, map, codes, unwrap_or}
 use Rattle.rd_base.specs.declared.peers.Host.TheVariants as host
 use Rattle.rd_base.specs.declared.peers.Peer.{Peer}
 use Rattle.rd_base.specs.declared.queries.Kind.TheVariants as kind

@@ -1,11 +1,9 @@
 -- What has lapsed may be dropped before an entry: what is live behind it is the same.
-use Rattle.std.proofs.Common.{◌≡◌, ℕ, ◌+◌, ◌≤◌, Bool, true, false, not, cond, List, [], ◌∷◌, ◌++◌, map, filter, Option, Some, None, option_map, refl, sym, ap, ◌∙◌, eqb-true}
-use Rattle.std.specs.Prelude.{◌==◌}
+use Rattle.std.proofs.Common.{◌≡◌, ℕ, ◌+◌, ◌≤◌, Bool, true, false, not, cond, List, [], ◌∷◌, ◌++◌, filter, Option, Some, None, option_map, refl, sym, ap, ◌∙◌, eqb-true}
 use Rattle.std.specs.List.{AllByRecursion}
 use Rattle.std.proofs.lemmas.Bool.{true≢false, and_parts, not-false}
 use Rattle.std.proofs.lemmas.List.Elements.{filter-append}
 use Rattle.rd_base.specs.declared.parameters.RegParams.{RegParams}
-use Rattle.rd_base.specs.declared.parameters.UpdateParams.{UpdateParams}
 use Rattle.rd_base.specs.declared.records.Name.{Name}
 use Rattle.rd_base.specs.declared.records.Record.{Record}
 use Rattle.rd_base.specs.declared.submitted.SubmittedLink.{SubmittedLink}
@@ -19,7 +17,7 @@ use Rattle.history_model.specs.Replay.{State, is_numbered, is_live_named, number
 use Rattle.history_model.specs.Refusals.{is_gone, only_live}
 use Rattle.history_model.proofs.Pairs.{each_weaker, each_passes}
 use Rattle.history_model.proofs.Lists.{filter_all, filter_stronger, filter_changed, filter_swapped, find-filter}
-use Rattle.history_model.proofs.NumberLaws.{IsNumbered}
+use Rattle.history_model.proofs.NumberLaws.{HasRisingNumbers}
 use Rattle.history_model.proofs.Acceptance.{is_live_before, Accepted, live_numbered, named_numbered}
 use Rattle.history_model.proofs.NameLaws.{behind_change}
 
@@ -62,7 +60,7 @@ removed_live swept number records =
     filter_swapped test kept records ∙ ap (filter kept) (sym twice) ∙ sym (filter_swapped test kept (filter test records))
 
 -- what had lapsed at a moment not above that of an accepted entry may be dropped before it
-pub only_live-apply : (swept : ℕ) (state : State) (entries : ℕ) (entry : Entry) → IsNumbered state → Accepted state entries entry → swept ≤ entry.moment.0
+pub only_live-apply : (swept : ℕ) (state : State) (entries : ℕ) (entry : Entry) → HasRisingNumbers state → Accepted state entries entry → swept ≤ entry.moment.0
     → only_live swept (apply state entry) ≡ only_live swept (apply (only_live swept state) entry)
 unfolding apply
 only_live-apply swept state entries entry numbered accepts order = of_change entry.change accepts.there

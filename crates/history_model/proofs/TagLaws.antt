@@ -1,5 +1,5 @@
 -- A tag tells the front and the live records of one history: so equal tags mean equal listings.
-use Rattle.std.proofs.Common.{◌≡◌, ℕ, ◌+◌, ◌-◌, ◌^◌, ◌<◌, ◌≤◌, Bool, true, false, not, List, ◌++◌, map, filter, length, take, nat_lt, nat_le, refl, sym, ap, subst, ◌∙◌, ◌⊎◌, inl, inr, arith, take_at}
+use Rattle.std.proofs.Common.{◌≡◌, ℕ, ◌+◌, ◌^◌, ◌<◌, ◌≤◌, not, List, map, filter, length, take, nat_lt, nat_le, refl, sym, ap, subst, ◌∙◌, ◌⊎◌, inl, inr, arith, take_at}
 use Rattle.std.proofs.lemmas.Bool.{cases_lt}
 use Rattle.std.proofs.lemmas.Bool.Decides.{nat_tests}
 use Rattle.std.proofs.lemmas.List.Filters.{length-filter_both}
@@ -10,7 +10,7 @@ use Rattle.history_model.specs.declared.entries.Entry.{Entry}
 use Rattle.history_model.specs.Leases.{lapse, is_live_at, live_among}
 use Rattle.history_model.specs.Replay.{replay}
 use Rattle.history_model.specs.Live.{IsFront, live, last_moment}
-use Rattle.history_model.specs.Listing.{lines_of, all_lines, listing, lapsed_since, tag_octets, tag_from}
+use Rattle.history_model.specs.Listing.{lines_of, all_lines, listing, lapsed_since, tag_from}
 use Rattle.history_model.specs.Legal.{IsLegalFrom}
 use Rattle.history_model.specs.Refusals.{max_entries}
 use Rattle.history_model.proofs.Lists.{filter_full}

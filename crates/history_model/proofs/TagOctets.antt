@@ -1,6 +1,6 @@
 -- The octets of a tag tell its two numbers.
-use Rattle.std.proofs.Common.{◌≡◌, ℕ, ◌+◌, ◌*◌, ◌/◌, ◌%◌, ◌^◌, ◌<◌, ◌≤◌, List, [], ◌∷◌, ◌++◌, length, take, drop, refl, sym, ap, ◌∙◌, arith, w16, w64, take_at, drop_at}
-use Rattle.std.specs.Int.{byte_at, bytes_high_first, to_be_bytes, from_be_bytes}
+use Rattle.std.proofs.Common.{◌≡◌, ℕ, ◌/◌, ◌%◌, ◌^◌, ◌<◌, List, ◌∷◌, take, drop, refl, sym, ap, ◌∙◌, arith, w16, w64}
+use Rattle.std.specs.Int.{bytes_high_first, to_be_bytes, from_be_bytes}
 use Rattle.std.proofs.lemmas.Nat.{div_below, from_be_bytes-to_be_bytes_2, from_be_bytes-to_be_bytes_8}
 use Rattle.history_model.specs.Listing.{tag_octets}
 

@@ -1,8 +1,7 @@
 -- Versions: what one stands for, behind an entry and behind a sweep, and what it answers.
-use Rattle.std.proofs.Common.{◌≡◌, ℕ, ◌+◌, ◌*◌, ◌<◌, ◌≤◌, Bool, true, false, not, ◌&&◌, cond, List, [], ◌∷◌, ◌++◌, map, filter, length, length-append, Option, Some, None, IfSome, unwrap_or, nat_lt, nat_le, refl, sym, ap, ap₂, subst, ◌∙◌, arith, eqb-true, ltb-true, lt-ltb}
-use Rattle.std.specs.Prelude.{◌==◌}
+use Rattle.std.proofs.Common.{◌≡◌, ℕ, ◌+◌, ◌*◌, ◌<◌, ◌≤◌, Bool, true, false, not, ◌&&◌, cond, List, [], ◌∷◌, ◌++◌, filter, length, length-append, Option, Some, None, IfSome, unwrap_or, nat_lt, nat_le, refl, sym, ap, ap₂, ◌∙◌, arith, eqb-true, ltb-true, lt-ltb}
 use Rattle.std.specs.List.{AllByRecursion}
-use Rattle.std.proofs.lemmas.Bool.{not-false, ltb-false, leb-true, leb-false, lt-leb, true≢false, false≢true}
+use Rattle.std.proofs.lemmas.Bool.{and_parts, not-false, ltb-false, leb-true, leb-false, lt-leb}
 use Rattle.rd_base.specs.declared.parameters.RegParams.{RegParams}
 use Rattle.rd_base.specs.declared.parameters.UpdateParams.{UpdateParams}
 use Rattle.rd_base.specs.declared.queries.Query.{Query}
@@ -13,20 +12,19 @@ use Rattle.document_model.specs.Records.{registered, updated}
 use Rattle.history_model.specs.declared.entries.Change.{Change}
 use Rattle.history_model.specs.declared.entries.Change.TheVariants as change
 use Rattle.history_model.specs.declared.entries.Entry.{Entry}
-use Rattle.history_model.specs.declared.refusals.Refusal.{Refusal}
-use Rattle.history_model.specs.Leases.{lapse, is_live_at, live_among}
+use Rattle.history_model.specs.Leases.{lapse, is_live_at, live_among, lapsing_among, lapsed_between}
 use Rattle.history_model.specs.Replay.{State, is_numbered, number_named, number_for, registered_under, changed, apply, replay}
 use Rattle.history_model.specs.Live.{live, last_moment}
 use Rattle.history_model.specs.Listing.{lines_of, all_lines, lapsed_since, tag_octets, tag_from}
-use Rattle.history_model.specs.Legal.{IsNext, IsLegalFrom, IsLasting}
+use Rattle.history_model.specs.Legal.{IsLegalFrom, IsLasting}
 use Rattle.history_model.specs.Refusals.{is_gone, only_live, refusal_in, change_refusal}
 use Rattle.history_model.specs.Versions.{Version, state_of, StandsFor}
 use Rattle.history_model.proofs.Pairs.{each_weaker, each_both, each_map, each_filter, each_push, each_passes, pairs_filter}
-use Rattle.history_model.proofs.Lists.{filter_all}
-use Rattle.history_model.proofs.ReplayLaws.{replay-nil, replay_push, last_moment-nil, last_moment_push}
-use Rattle.history_model.proofs.NumberLaws.{IsBelow, IsDrawn, IsNumbered, replay-IsNumbered}
+use Rattle.history_model.proofs.Lists.{filter_all, filter_stronger}
+use Rattle.history_model.proofs.ReplayLaws.{replay_push, last_moment_push}
+use Rattle.history_model.proofs.NumberLaws.{IsBelow, IsDrawn, HasRisingNumbers, replay-HasRisingNumbers}
 use Rattle.history_model.proofs.Acceptance.{is_live_before, Accepted, accepted, live_numbered}
-use Rattle.history_model.proofs.NameLaws.{next-Accepted, behind_change, IsGrantedBy, replay-IsGrantedBy}
+use Rattle.history_model.proofs.NameLaws.{behind_change, IsGrantedBy, replay-IsGrantedBy}
 use Rattle.history_model.proofs.SweepLaws.{live_among_live, number_named-live, only_live-apply}
 
 -- ---- refusals
@@ -54,7 +52,7 @@ updated_live swept entry given r order lasts granted live = lt-ltb swept (entry.
     by None lasts = let above : entry.moment.0 < lapse r = ltb-true _ _ live in omega arith
 
 -- what an accepted entry makes of records that are live at a moment not above its own is live then
-apply-live : (swept : ℕ) (state : State) (entries : ℕ) (entry : Entry) → IsNumbered state → Accepted state entries entry → IsLasting entry.change → swept ≤ entry.moment.0
+apply-live : (swept : ℕ) (state : State) (entries : ℕ) (entry : Entry) → HasRisingNumbers state → Accepted state entries entry → IsLasting entry.change → swept ≤ entry.moment.0
     → AllByRecursion (IsGrantedBy entry.moment.0) state.records → AllByRecursion (λ r. is_live_at swept r ≡ true) state.records → AllByRecursion (λ r. is_live_at swept r ≡ true) (apply state entry).records
 unfolding apply
 apply-live swept state entries entry numbered accepts lasts order granted live = of_change entry.change accepts.there lasts
@@ -89,18 +87,18 @@ Accepted-only_live : (swept : ℕ) (state : State) (entries : ℕ) (entry : Entr
 Accepted-only_live swept state entries entry order e = accepted (only_live swept state) entries entry (refusal_in-only_live swept state entries entry order ∙ e)
 
 -- the records that are left are numbered as they were
-only_live-IsNumbered : (swept : ℕ) (state : State) → IsNumbered state → IsNumbered (only_live swept state)
-only_live-IsNumbered swept state numbered = record {
+only_live-HasRisingNumbers : (swept : ℕ) (state : State) → HasRisingNumbers state → HasRisingNumbers (only_live swept state)
+only_live-HasRisingNumbers swept state numbered = record {
   ascending = pairs_filter IsBelow (is_live_at swept) state.records numbered.ascending;
   each_drawn = each_filter (IsDrawn state.drawn) (is_live_at swept) state.records numbered.each_drawn;
 }
 
 -- what has lapsed may be dropped before an accepted entry or behind it
-pub apply-only_live : (swept : ℕ) (state : State) (entries : ℕ) (entry : Entry) → IsNumbered state → refusal_in state entries entry ≡ None → IsLasting entry.change → swept ≤ entry.moment.0
+pub apply-only_live : (swept : ℕ) (state : State) (entries : ℕ) (entry : Entry) → HasRisingNumbers state → refusal_in state entries entry ≡ None → IsLasting entry.change → swept ≤ entry.moment.0
     → AllByRecursion (IsGrantedBy entry.moment.0) state.records → apply (only_live swept state) entry ≡ only_live swept (apply state entry)
 apply-only_live swept state entries entry numbered e lasts order granted =
     let left = only_live swept state in
-    let all_live = apply-live swept left entries entry (only_live-IsNumbered swept state numbered) (Accepted-only_live swept state entries entry order e) lasts order
+    let all_live = apply-live swept left entries entry (only_live-HasRisingNumbers swept state numbered) (Accepted-only_live swept state entries entry order e) lasts order
     (each_filter (IsGrantedBy entry.moment.0) (is_live_at swept) state.records granted) (each_passes (is_live_at swept) state.records) in
     let kept : only_live swept (apply left entry) ≡ apply left entry = ap (λ (records : List Record). with_records (apply left entry).drawn records) (filter_all (is_live_at swept) (apply left entry).records all_live) in
     sym kept ∙ sym (only_live-apply swept state entries entry numbered (accepted state entries entry e) order)
@@ -133,6 +131,10 @@ change_refusal-StandsFor first history version entry stands order =
     ap₂ (λ state entries. refusal_in state entries entry) (state_of-StandsFor first history version stands) stands.entries ∙ refusal_in-only_live version.swept (replay history) (first + length history) entry order
 
 -- the same number of a name
+pub number_named-StandsFor : (first : ℕ) (history : List Entry) (version : Version) (name : Name) (moment : ℕ) → StandsFor first history version → version.swept ≤ moment
+    → number_named name moment version.records ≡ number_named name moment (replay history).records
+number_named-StandsFor first history version name moment stands order = ap (number_named name moment) stands.records ∙ number_named-live version.swept moment name (replay history).records order
+
 pub number_for-StandsFor : (first : ℕ) (history : List Entry) (version : Version) (name : Name) (moment : ℕ) → StandsFor first history version → version.swept ≤ moment
     → number_for name moment (state_of version) ≡ number_for name moment (replay history)
 number_for-StandsFor first history version name moment stands order = ap (number_for name moment) (state_of-StandsFor first history version stands)
@@ -142,6 +144,12 @@ number_for-StandsFor first history version name moment stands order = ap (number
 pub live-StandsFor : (first : ℕ) (history : List Entry) (version : Version) (moment : ℕ) → StandsFor first history version → version.swept ≤ moment → live_among moment version.records ≡ live history moment
 unfolding live
 live-StandsFor first history version moment stands order = ap (live_among moment) stands.records ∙ live_among_live version.swept moment (replay history).records order
+
+-- the same records lapse after a moment that is not below its sweep, and up to a later one
+pub lapsing-StandsFor : (first : ℕ) (history : List Entry) (version : Version) (from to : ℕ) → StandsFor first history version → version.swept ≤ from
+    → lapsing_among from to version.records ≡ lapsing_among from to (replay history).records
+lapsing-StandsFor first history version from to stands order = ap (lapsing_among from to) stands.records
+    ∙ filter_stronger (λ r. nat_lt from (lapse r) && nat_le (lapse r) to) (is_live_at version.swept) (λ r both. is_live_before version.swept from r order (and_parts (nat_lt from (lapse r)) (nat_le (lapse r) to) both).0) (replay history).records
 
 -- the same lines
 pub all_lines-StandsFor : (first : ℕ) (history : List Entry) (version : Version) (query : Query) (moment : ℕ) → StandsFor first history version → version.swept ≤ moment
@@ -170,15 +178,15 @@ none_lapsed swept moment records order = none (live_among moment records) (each_
     none [] live = refl
     none (r ∷ rs) live = let above : moment < lapse r = ltb-true _ _ (live.0) in let later : nat_le (lapse r) swept ≡ false = lt-leb _ _ (omega arith) in rw later (none rs live.1)
 
--- behind an entry that may come next a version stands for the history with that entry
-pub with_entry-StandsFor : (first : ℕ) (history : List Entry) (version : Version) (entry : Entry) → IsLegalFrom first history → IsNext first history entry → IsLasting entry.change → StandsFor first history version
-    → version.swept ≤ entry.moment.0 → StandsFor first (history ++ entry ∷ []) (with_entry version entry)
+-- behind an entry that is not refused a version stands for the history with that entry
+pub with_entry-StandsFor : (first : ℕ) (history : List Entry) (version : Version) (entry : Entry) → IsLegalFrom first history → last_moment history ≤ entry.moment.0 → change_refusal first history entry ≡ None → IsLasting entry.change
+    → StandsFor first history version → version.swept ≤ entry.moment.0 → StandsFor first (history ++ entry ∷ []) (with_entry version entry)
 unfolding change_refusal lapsed_since live
-with_entry-StandsFor first history version entry legal next lasts stands order =
+with_entry-StandsFor first history version entry legal in_time accepted lasts stands order =
     let before = replay history in
-    let granted = each_weaker (IsGrantedBy (last_moment history)) (IsGrantedBy entry.moment.0) (λ r by_then. let in_time = next.in_time in omega arith) before.records (replay-IsGrantedBy first history legal) in
+    let granted = each_weaker (IsGrantedBy (last_moment history)) (IsGrantedBy entry.moment.0) (λ r by_then. omega arith) before.records (replay-IsGrantedBy first history legal) in
     let made : apply (state_of version) entry ≡ only_live version.swept (apply before entry) = ap (λ state. apply state entry) (state_of-StandsFor first history version stands)
-    ∙ apply-only_live version.swept before (first + length history) entry (replay-IsNumbered history) next.accepted lasts order granted in
+    ∙ apply-only_live version.swept before (first + length history) entry (replay-HasRisingNumbers history) accepted lasts order granted in
     let whole : only_live version.swept (apply before entry) ≡ only_live version.swept (replay (history ++ entry ∷ [])) = ap (only_live version.swept) (sym (replay_push history entry)) in
     let more = length-append history (entry ∷ []) in
     let count = stands.entries in
@@ -191,10 +199,6 @@ with_entry-StandsFor first history version entry legal next lasts stands order =
     }
 
 -- ---- a sweep
-
--- how many of the records were live at a moment and have lapsed at a later one
-abbrev pub lapsed_between : ℕ → ℕ → List Record → ℕ
-lapsed_between at moment records = length (filter (λ r. nat_lt at (lapse r) && nat_le (lapse r) moment) records)
 
 -- those that were live after an entry and have lapsed at a moment had lapsed before, or lapsed since
 lapsed_split : (last swept moment : ℕ) → swept ≤ moment → (records : List Record)
