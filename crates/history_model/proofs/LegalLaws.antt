@@ -1,9 +1,10 @@
 -- Legal histories, one entry after the other.
-use Rattle.std.proofs.Common.{◌≡◌, ℕ, List, [], ◌∷◌, ◌++◌, refl, sym, ap, subst, ◌∙◌, ◌⊎◌, inl, inr, append_assoc}
+use Rattle.std.proofs.Common.{◌≡◌, ℕ, List, [], ◌∷◌, ◌++◌, refl, sym, ap, subst, ◌∙◌, ◌⊎◌, inl, inr, append_assoc, ◌≤◌, append-nil, arith}
 use Rattle.history_model.specs.declared.entries.Entry.{Entry}
-use Rattle.history_model.specs.Live.{IsFront}
+use Rattle.history_model.specs.Live.{IsFront, last_moment}
 use Rattle.history_model.specs.Legal.{IsNext, IsLegalFrom}
 use Rattle.history_model.proofs.Lists.{by_pushes, push_cases}
+use Rattle.history_model.proofs.ReplayLaws.{last_moment_push}
 
 -- no entry
 pub IsLegalFrom-nil : (first : ℕ) → IsLegalFrom first []
@@ -38,3 +39,21 @@ pub by_legal_pushes : (first : ℕ) (P : List Entry → Type 0) → P [] → ((h
     → (history : List Entry) → IsLegalFrom first history → P history
 by_legal_pushes first P none push = by_pushes (λ h. IsLegalFrom first h → P h) (λ _. none)
     (λ h e holds legal. let before : IsLegalFrom first h = IsLegalFrom-append first h (e ∷ []) legal in push h e before (IsLegalFrom_last first h e legal) (holds before))
+
+-- a front of a legal history ends no later
+pub last_moment-IsFront : (first : ℕ) (front history : List Entry) → IsFront front history → IsLegalFrom first history → last_moment front ≤ last_moment history
+last_moment-IsFront first front history begins legal = subst (λ h. last_moment front ≤ last_moment h) (begins.1) (behind begins.0 (subst (IsLegalFrom first) (sym (begins.1)) legal))
+  where
+    Behind : List Entry → Type 0
+    Behind more = IsLegalFrom first (front ++ more) → last_moment front ≤ last_moment (front ++ more)
+
+    push : (more : List Entry) (e : Entry) → Behind more → Behind (more ++ e ∷ [])
+    push more e before legal =
+        let split : front ++ (more ++ e ∷ []) ≡ (front ++ more) ++ e ∷ [] = sym (append_assoc front more (e ∷ [])) in
+        let whole : IsLegalFrom first ((front ++ more) ++ e ∷ []) = subst (IsLegalFrom first) split legal in
+        let order = (IsLegalFrom_last first (front ++ more) e whole).in_time in
+        let earlier = before (IsLegalFrom-append first (front ++ more) (e ∷ []) whole) in
+        rw (split, last_moment_push (front ++ more) e) (omega (arith, order, earlier))
+
+    behind : (more : List Entry) → Behind more
+    behind more = by_pushes Behind (λ _. rw (append-nil front) (omega arith)) push more

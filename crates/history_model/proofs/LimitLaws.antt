@@ -20,7 +20,7 @@ use Rattle.history_model.proofs.Pairs.{each_passes}
 use Rattle.history_model.proofs.Lists.{length-filter-le, sum_by-filter-le}
 use Rattle.history_model.proofs.ReplayLaws.{replay-nil, replay_push, last_moment_push}
 use Rattle.history_model.proofs.LegalLaws.{by_legal_pushes}
-use Rattle.history_model.proofs.NumberLaws.{HasRisingNumbers, replay-HasRisingNumbers}
+use Rattle.history_model.proofs.NumberLaws.{HasRisingNumbers, replay-HasRisingNumbers, drawn-le-length}
 use Rattle.history_model.proofs.Acceptance.{is_same_name-Decides, not_named, Accepted}
 use Rattle.history_model.proofs.NameLaws.{behind_change, next-Accepted}
 use Rattle.history_model.proofs.SweepLaws.{live_among_live, only_live-apply}
@@ -102,3 +102,7 @@ length-le-max_entries first history low = by_legal_pushes first (λ h. first + l
     let below : first + length h < max_entries = leb-false _ _ (next-Accepted first h e next).counted in
     let more = length-append h (e ∷ []) in
     omega (arith, more)) history
+
+-- so no number is higher
+pub drawn-le-max_entries : (first : ℕ) (history : List Entry) → first ≤ max_entries → IsLegalFrom first history → (replay history).drawn ≤ max_entries
+drawn-le-max_entries first history low legal = let drawn = drawn-le-length history in let few = length-le-max_entries first history low legal in omega (arith, drawn, few)
