@@ -12,6 +12,7 @@ pub mod TagLaws
 pub mod VersionLaws
 pub mod LocationLaws
 pub mod ListingLaws
+pub mod GoneLaws
 pub mod OnLiterals
 pub mod Samples
 mod LeaseExamples

@@ -86,7 +86,7 @@ any_changed : (test : Record → Bool) (f : Record → Record) → ((r : Record)
 any_changed test f same [] = refl
 any_changed test f same (r ∷ rs) = let first = same r in let rest = any_changed test f same rs in rw (first, rest) refl
 
-any_kept : (test other : Record → Bool) (records : List Record) → list_any test (filter other records) ≡ true → list_any test records ≡ true
+pub any_kept : (test other : Record → Bool) (records : List Record) → list_any test (filter other records) ≡ true → list_any test records ≡ true
 any_kept test other [] e = e
 any_kept test other (r ∷ rs) e = by (other r) (test r) refl e (any_kept test other rs)
   where

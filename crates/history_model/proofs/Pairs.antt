@@ -89,3 +89,8 @@ pairs_known P R S step (x ∷ xs) known h = (each_both P (R x) (S x) (λ y p r. 
 pub pairs_both : {X : Type 0} (R S T : X → X → Type 0) → ((x y : X) → R x y → S x y → T x y) → (xs : List X) → PairsByRecursion R xs → PairsByRecursion S xs → PairsByRecursion T xs
 pairs_both R S T both [] h k = tt
 pairs_both R S T both (x ∷ xs) h k = (each_both (R x) (S x) (T x) (both x) xs h.0 k.0, pairs_both R S T both xs h.1 k.1)
+
+-- one element fewer at the end
+pub each_popped : {X : Type 0} (P : X → Type 0) (xs : List X) (x : X) → AllByRecursion P (xs ++ x ∷ []) → AllByRecursion P xs × P x
+each_popped P [] x h = (tt, h.0)
+each_popped P (y ∷ ys) x h = let rest = each_popped P ys x h.1 in ((h.0, rest.0), rest.1)
