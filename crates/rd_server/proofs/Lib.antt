@@ -12,3 +12,4 @@ pub mod LastLines
 pub mod Saying
 pub mod Whole
 pub mod Accounts
+pub mod Examples

@@ -12,3 +12,6 @@ mod sessions;
 
 pub use endings::{LineBad, Reason, Status};
 pub use replaying::{replay, report};
+
+#[cfg(test)]
+mod tests;
