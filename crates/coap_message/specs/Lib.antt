@@ -1,0 +1,4 @@
+pub mod Fronts
+pub mod Views
+pub mod Headers
+pub mod Left
