@@ -10,7 +10,7 @@ ghost use Rattle.coap_message.specs.Fronts.{options_at};
 ghost use Rattle.coap_message.specs.Views.{message_in};
 ghost use Rattle.coap_message.specs.Headers.{header_in};
 
-use super::fronts::{bytes_at, option_at};
+use super::fronts::{byte_at, bytes_at, option_at};
 use super::headers::{Header, header_at, is_bad_header};
 use super::views::View;
 use message_model::Unread;
@@ -32,8 +32,8 @@ fn tail_at(bytes: &[u8]) -> Option<(&[u8], &[u8])>
 {
     let mut before = 0u16;
     let mut rest = bytes;
-    'options: while let Some((first, behind)) = rest.split_first() {
-        if *first == MARKER {
+    'options: while let Some((first, behind)) = byte_at(rest) {
+        if first == MARKER {
             if behind.is_empty() {
                 return None;
             }
