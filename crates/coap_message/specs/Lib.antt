@@ -5,3 +5,4 @@ pub mod Left
 pub mod Written
 pub mod Seen
 pub mod Writing
+pub mod Ends

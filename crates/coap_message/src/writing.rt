@@ -7,6 +7,8 @@ ghost use Rattle.message_model.specs.Spelling as spelling_of;
 ghost use Rattle.message_model.specs.Spelling.{spelling};
 ghost use Rattle.message_model.specs.Reading.{reading};
 ghost use Rattle.coap_message.specs.Written.{longest_datagram, bare_message, with_last_option, with_payload};
+ghost use Rattle.coap_message.specs.Ends.{ends_so, EndsAs};
+ghost use Rattle.std.specs.Borrow.{sem};
 
 use super::placing::{option_size, payload_size, put_byte, put_bytes, put_option, put_payload};
 use message_model::Kind4;
@@ -142,6 +144,7 @@ impl Writer {
     pub fn finish(&mut self, payload: &[u8]) -> Result<&[u8], TooLong>
         requires open { self.old.payload ≡ [] }
         requires empty { self.old.code ≡ codes_of.empty → payload.now ≡ [] }
+        ensures* ends { sem 𝓛 (ends_so self.entry (EndsAs result (with_payload self.old payload.now) self.old)) }
         ensures spelled { IfOk result (λ bytes. bytes.now ≡ spelling (with_payload self.old payload.now)) }
         ensures read_back { IfOk result (λ bytes. reading bytes.now ≡ Ok (with_payload self.old payload.now)) }
         ensures short { IfOk result (λ bytes. length bytes.now ≤ longest_datagram) }
