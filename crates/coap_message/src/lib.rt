@@ -16,3 +16,6 @@ pub use opts::Opt;
 pub use viewing::view;
 pub use views::View;
 pub use writing::{TooLong, Writer};
+
+#[cfg(test)]
+mod tests;
