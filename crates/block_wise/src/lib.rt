@@ -7,3 +7,6 @@ mod values;
 pub use message_model::Block;
 pub use slices::slice_of;
 pub use values::{Szx7, block_read, block_write};
+
+#[cfg(test)]
+mod tests;

@@ -4,12 +4,12 @@ use Rattle.std.specs.Prelude.{◌==◌}
 use Rattle.std.specs.Option.{option_map}
 use Rattle.std.proofs.lemmas.Bool.{eqb-true}
 use Rattle.std.proofs.lemmas.List.{append-nil, take_at, length-append}
-use Rattle.std.proofs.lemmas.Option.{none-some}
+use Rattle.std.proofs.lemmas.Option.{same_Some, none-some}
 use Rattle.message_model.specs.declared.messages.Unread.{Unread}
 use Rattle.message_model.specs.Numbers.{AreBytes}
 use Rattle.message_model.specs.Message.{Message, Opt, IsMessage, AreOptionsAfter, end_number}
 use Rattle.message_model.specs.Spelling.{marker, option_spelling, options_spelling, spelling}
-use Rattle.message_model.specs.Reading.{◌>>=◌, byte_at, option_at, Tail, with_option, tail_at, Header, header_at, body_at, reading}
+use Rattle.message_model.specs.Reading.{◌>>=◌, byte_at, option_at, Tail, payload_at, with_option, tail_at, Header, header_at, body_at, reading}
 use Rattle.message_model.proofs.ByteLemmas.{AreBytes-back, byte_at-some, byte_at-none}
 use Rattle.message_model.proofs.OptionLemmas.{IsOptionAfter, option_takes, option_again}
 use Rattle.message_model.proofs.TailLemmas.{marker_is_no_option, tail_at-nil, tail_at-payload, tail_at-option}
@@ -148,17 +148,17 @@ ends_at_end bytes before rest w e =
     let none : rest ≡ [] = byte_at-none rest e in
     ap (λ (t : List ℕ). Some (options_at 0 bytes, t)) none ∙ Walked-end bytes before (same_walk bytes before rest [] none w)
 
-pub ends_at_marker : (bytes : List ℕ) (before : ℕ) (rest : List ℕ) (first : ℕ) (behind : List ℕ) → Walked bytes before rest → Some (first, behind) ≡ byte_at rest → first ≡ marker → true ≡ (length behind == 0) → None ≡ tail_at 0 bytes
+pub ends_at_marker : (bytes : List ℕ) (before : ℕ) (rest : List ℕ) (first : ℕ) (behind : List ℕ) → Walked bytes before rest → Some (first, behind) ≡ byte_at rest → first ≡ marker → None ≡ payload_at behind → None ≡ tail_at 0 bytes
 ends_at_marker bytes before rest first [] w e same none = Walked-marker bytes before (same_walk bytes before rest (marker ∷ []) (begins rest first [] e same) w)
-ends_at_marker bytes before rest first (b ∷ behind) w e same none =
-    let nothing : length (b ∷ behind) ≡ 0 = eqb-true (length (b ∷ behind)) 0 (sym none) in
-    absurd (omega arith)
+ends_at_marker bytes before rest first (b ∷ behind) w e same none = absurd cc
 
-pub ends_at_payload : (bytes : List ℕ) (before : ℕ) (rest : List ℕ) (first : ℕ) (behind : List ℕ) → Walked bytes before rest → Some (first, behind) ≡ byte_at rest → first ≡ marker → false ≡ (length behind == 0) → Some (options_at 0 (take (length bytes - length rest) bytes), behind) ≡ tail_at 0 bytes
-ends_at_payload bytes before rest first [] w e same some = absurd cc
-ends_at_payload bytes before rest first (b ∷ behind) w e same some =
+pub ends_at_payload : (bytes : List ℕ) (before : ℕ) (rest : List ℕ) (first : ℕ) (behind payload : List ℕ) → Walked bytes before rest → Some (first, behind) ≡ byte_at rest → first ≡ marker → Some ([], payload) ≡ payload_at behind → Some (options_at 0 (take (length bytes - length rest) bytes), payload) ≡ tail_at 0 bytes
+ends_at_payload bytes before rest first [] payload w e same some = absurd cc
+ends_at_payload bytes before rest first (b ∷ behind) payload w e same some =
     let parts : rest ≡ marker ∷ b ∷ behind = begins rest first (b ∷ behind) e same in
-    ap (λ (t : List ℕ). Some (options_at 0 (take (length bytes - length t) bytes), b ∷ behind)) parts
+    let whole : payload ≡ b ∷ behind = ap (λ (t : Tail). t.1) (same_Some ([], payload) ([], b ∷ behind) some) in
+    ap (λ (t : List ℕ). Some (options_at 0 (take (length bytes - length rest) bytes), t)) whole
+    ∙ ap (λ (t : List ℕ). Some (options_at 0 (take (length bytes - length t) bytes), b ∷ behind)) parts
     ∙ Walked-payload bytes before b behind (same_walk bytes before rest (marker ∷ b ∷ behind) parts w)
 
 pub ends_at_bad : (bytes : List ℕ) (before : ℕ) (rest : List ℕ) (first : ℕ) (behind : List ℕ) → Walked bytes before rest → Some (first, behind) ≡ byte_at rest → (first ≡ marker → ⊥) → None ≡ option_at before rest → None ≡ tail_at 0 bytes

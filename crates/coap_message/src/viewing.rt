@@ -1,6 +1,6 @@
 //! Reading of a datagram.
 
-ghost use Rattle.std.specs.Prelude.{◌≡◌, ◌-◌, ◌≤◌, length, take, IfOk};
+ghost use Rattle.std.specs.Prelude.{◌≡◌, ◌-◌, ◌≤◌, [], length, take, IfOk};
 ghost use Rattle.std.specs.Option.{option_map};
 ghost use Rattle.std.specs.Result.{result_map_both};
 ghost use Rattle.message_model.specs.Message.{IsMessage};
@@ -26,6 +26,16 @@ fn before_end<'a>(whole: &'a [u8], end: &[u8]) -> &'a [u8]
     &whole[..whole.len() - end.len()]
 }
 
+// What follows the marker: a payload of one octet or more (RFC 7252 section 3).
+fn payload_at(bytes: &[u8]) -> Option<&[u8]>
+    ensures { option_map (λ payload. ([], payload.now)) result ≡ reading.payload_at bytes.now }
+{
+    if bytes.is_empty() {
+        return None;
+    }
+    Some(bytes)
+}
+
 // The options and the payload that follow a token (RFC 7252 section 3).
 fn tail_at(bytes: &[u8]) -> Option<(&[u8], &[u8])>
     ensures { option_map (λ x. (options_at 0 x.0.now, x.1.now)) result ≡ reading.tail_at 0 bytes.now }
@@ -34,10 +44,8 @@ fn tail_at(bytes: &[u8]) -> Option<(&[u8], &[u8])>
     let mut rest = bytes;
     'options: while let Some((first, behind)) = byte_at(rest) {
         if first == MARKER {
-            if behind.is_empty() {
-                return None;
-            }
-            return Some((before_end(bytes, rest), behind));
+            let payload = payload_at(behind)?;
+            return Some((before_end(bytes, rest), payload));
         }
         let (option, after) = option_at(before, rest)?;
         before = option.number as u16;

@@ -1,4 +1,4 @@
-use Rattle.std.proofs.Common.{◌≡◌, ℕ, ◌/◌, ◌%◌, List, Some, refl}
+use Rattle.std.proofs.Common.{◌≡◌, ℕ, ◌/◌, ◌%◌, List, Some, refl, arith}
 use Rattle.std.specs.Prelude.{◌==◌}
 use Rattle.std.proofs.lemmas.Bool.{ne_eqb}
 use Rattle.message_model.specs.Numbers.{uint_of}
@@ -14,5 +14,6 @@ is_read value n e free = rw (← e, ne_eqb (n % 8) 7 free) refl
 
 pub returns-clause-spelled : goal.returns-clause-spelled
 returns-clause-spelled c =
-    let found = block_found c.args.value.now _ (AreBytes-from_Fits c.args.value.now c.type_inv.value) c.requires (is_read c.args.value.now c.uint_of-bits.result c.uint_of-bits.ensures.value c.if-bits-eq7.false) in
+    let free : c.uint_of-bits.result % 8 ≡ 7 → ⊥ = λ e. omega (arith, e) in
+    let found = block_found c.args.value.now _ (AreBytes-from_Fits c.args.value.now c.type_inv.value) c.requires (is_read c.args.value.now c.uint_of-bits.result c.uint_of-bits.ensures.value free) in
     found.1

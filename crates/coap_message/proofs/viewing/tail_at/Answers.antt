@@ -18,17 +18,17 @@ pub options-preserved : goal.options-preserved
 options-preserved c =
     Walked-more c.args.bytes.now c.options.before c.options.rest.now ((c.in_ok-option.option.number, c.in_ok-option.option.value.now), c.in_ok-option.after.now) (AreBytes-from_Fits c.args.bytes.now c.type_inv.bytes) c.options.invariant (sym c.in_ok-option.ensures.value)
 
-pub returns-then-is_empty : goal.returns-then-is_empty
-returns-then-is_empty c =
-    ends_at_marker c.args.bytes.now c.options.before c.options.rest.now c.in-Some.first c.in-Some.behind.now c.options.invariant c.in-Some.ensures c.if-first.true c.if-is_empty.ensures
+pub returns-in_err-payload : goal.returns-in_err-payload
+returns-in_err-payload c =
+    rw c.from_residual.ensures (ends_at_marker c.args.bytes.now c.options.before c.options.rest.now c.in-Some.first c.in-Some.behind.now c.options.invariant c.in-Some.ensures c.if-first.true c.in_err-payload.ensures)
 
 pub returns-then-first : goal.returns-then-first
 returns-then-first c =
-    rw c.before_end.ensures (ends_at_payload c.args.bytes.now c.options.before c.options.rest.now c.in-Some.first c.in-Some.behind.now c.options.invariant c.in-Some.ensures c.if-first.true c.if-is_empty.ensures)
+    rw c.before_end.ensures (ends_at_payload c.args.bytes.now c.options.before c.options.rest.now c.in-Some.first c.in-Some.behind.now c.in_ok-payload.payload.now c.options.invariant c.in-Some.ensures c.if-first.true c.in_ok-payload.ensures)
 
 pub returns-in_err-option : goal.returns-in_err-option
 returns-in_err-option c =
-    rw c.from_residual.ensures (ends_at_bad c.args.bytes.now c.options.before c.options.rest.now c.in-Some.first c.in-Some.behind.now c.options.invariant c.in-Some.ensures c.if-first.false c.in_err-option.ensures.value)
+    rw c.from_residual-in_err-option.ensures (ends_at_bad c.args.bytes.now c.options.before c.options.rest.now c.in-Some.first c.in-Some.behind.now c.options.invariant c.in-Some.ensures c.if-first.false c.in_err-option.ensures.value)
 
 pub returns : goal.returns
 returns c = ends_at_end c.args.bytes.now c.options.before c.options.rest.now c.options.invariant c.in_default.ensures
