@@ -1,11 +1,12 @@
 -- Options read one after the other from the front of a tail.
-use Rattle.std.proofs.Common.{◌≡◌, ℕ, ◌+◌, ◌-◌, ◌<◌, ◌≤◌, Bool, true, false, List, [], ◌∷◌, ◌++◌, length, take, Option, Some, None, Result, Ok, refl, sym, ap, subst, ◌∙◌, append_assoc, arith}
+use Rattle.std.proofs.Common.{◌≡◌, ℕ, ◌+◌, ◌-◌, ◌<◌, ◌≤◌, Bool, true, false, List, [], ◌∷◌, ◌++◌, length, take, Option, Some, None, Result, Ok, Err, refl, sym, ap, subst, ◌∙◌, append_assoc, arith}
 use Rattle.std.specs.Prelude.{◌==◌}
 use Rattle.std.specs.Option.{option_map}
 use Rattle.std.proofs.lemmas.Bool.{eqb-true}
 use Rattle.std.proofs.lemmas.List.{append-nil, take_at, length-append}
 use Rattle.std.proofs.lemmas.Option.{same_Some, none-some}
 use Rattle.message_model.specs.declared.messages.Unread.{Unread}
+use Rattle.message_model.specs.declared.messages.Unread.TheVariants.{Format}
 use Rattle.message_model.specs.Numbers.{AreBytes}
 use Rattle.message_model.specs.Message.{Message, Opt, IsMessage, AreOptionsAfter, end_number}
 use Rattle.message_model.specs.Spelling.{marker, option_spelling, options_spelling, spelling}
@@ -14,7 +15,7 @@ use Rattle.message_model.proofs.ByteLemmas.{AreBytes-back, byte_at-some, byte_at
 use Rattle.message_model.proofs.OptionLemmas.{IsOptionAfter, option_takes, option_again}
 use Rattle.message_model.proofs.TailLemmas.{marker_is_no_option, tail_at-nil, tail_at-payload, tail_at-option}
 use Rattle.message_model.proofs.OrderLemmas.{end_number-push, AreOptionsAfter-push, options_spelling-push}
-use Rattle.message_model.proofs.MessageLaws.{reading_takes}
+use Rattle.message_model.proofs.MessageLaws.{reading_takes, unread_spells_none}
 use Rattle.coap_message.specs.Fronts.{options_at}
 use Rattle.coap_message.proofs.FrontLemmas.{options_at-none, options_at-some}
 
@@ -175,3 +176,18 @@ read_is bytes rest header m e f = rw (← e, ← f) refl
 -- What is read behind a header is a message, and the bytes are its spelling.
 pub read_takes : (bytes rest : List ℕ) (header : Header) (m : Message) → AreBytes bytes → ◌≡◌ {A = Result (Header × List ℕ) Unread} (Ok (header, rest)) (header_at bytes) → Some m ≡ body_at header rest → IsMessage m × (spelling m ≡ bytes)
 read_takes bytes rest header m fits e f = reading_takes bytes m fits (read_is bytes rest header m e f)
+
+refused_header : (bytes : List ℕ) (fault : Unread) → ◌≡◌ {A = Result (Header × List ℕ) Unread} (Err fault) (header_at bytes) → reading bytes ≡ Err fault
+unfolding reading
+refused_header bytes fault e = rw (← e) refl
+
+refused_body : (bytes rest : List ℕ) (header : Header) → ◌≡◌ {A = Result (Header × List ℕ) Unread} (Ok (header, rest)) (header_at bytes) → None ≡ body_at header rest → reading bytes ≡ Err (Format header.kind header.mid)
+unfolding reading
+refused_body bytes rest header e f = rw (← e, ← f) refl
+
+-- No message is spelled by bytes that are refused.
+pub header_spells_none : (bytes : List ℕ) (fault : Unread) → ◌≡◌ {A = Result (Header × List ℕ) Unread} (Err fault) (header_at bytes) → (m : Message) → IsMessage m → spelling m ≡ bytes → ⊥
+header_spells_none bytes fault e m fits same = unread_spells_none bytes fault m (refused_header bytes fault e) fits same
+
+pub body_spells_none : (bytes rest : List ℕ) (header : Header) → ◌≡◌ {A = Result (Header × List ℕ) Unread} (Ok (header, rest)) (header_at bytes) → None ≡ body_at header rest → (m : Message) → IsMessage m → spelling m ≡ bytes → ⊥
+body_spells_none bytes rest header e f m fits same = unread_spells_none bytes (Format header.kind header.mid) m (refused_body bytes rest header e f) fits same

@@ -1,9 +1,9 @@
 //! Reading of a datagram.
 
-ghost use Rattle.std.specs.Prelude.{◌≡◌, ◌-◌, ◌≤◌, [], length, take, IfOk};
+ghost use Rattle.std.specs.Prelude.{◌≡◌, ◌-◌, ◌≤◌, [], length, take, IfOk, OnErr};
 ghost use Rattle.std.specs.Option.{option_map};
 ghost use Rattle.std.specs.Result.{result_map_both};
-ghost use Rattle.message_model.specs.Message.{IsMessage};
+ghost use Rattle.message_model.specs.Message.{Message, IsMessage};
 ghost use Rattle.message_model.specs.Spelling.{spelling};
 ghost use Rattle.message_model.specs.Reading as reading;
 ghost use Rattle.coap_message.specs.Fronts.{options_at};
@@ -85,6 +85,7 @@ pub fn view(datagram: &[u8]) -> Result<View<'_>, Unread>
     ensures message { result_map_both message_in (λ fault. fault) result ≡ reading.reading datagram.now }
     ensures sound { IfOk result (λ v. IsMessage (message_in v)) }
     ensures spelled { IfOk result (λ v. spelling (message_in v) ≡ datagram.now) }
+    ensures unread { OnErr result ((m : Message) → IsMessage m → spelling m ≡ datagram.now → ⊥) }
 {
     let (header, rest) = header_at(datagram)?;
     match body_at(&header, rest) {
