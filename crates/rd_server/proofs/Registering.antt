@@ -1,6 +1,7 @@
 -- What an entry changes in the numbers of names.
 use Rattle.std.proofs.Common.{◌≡◌, ℕ, ◌+◌, ◌≤◌, Bool, true, false, cond, List, [], ◌∷◌, ◌++◌, Option, Some, None, refl, sym, ap, ◌∙◌, subst, arith}
 use Rattle.std.specs.Prelude.{max, bytes_eq, if◌then◌else◌, unwrap_or}
+use Rattle.std.specs.Option.{SomeIff}
 use Rattle.std.specs.HashMap.{get}
 use Rattle.std.proofs.lemmas.Slice.Eq.{bytes_eq-Decides}
 use Rattle.rd_base.specs.declared.moments.Moment.{Moment}
@@ -78,3 +79,8 @@ pub went_nowhere : (rows : List Row) (moment : Moment) (desk : Desk) → StandsF
 went_nowhere rows moment desk st free =
     let here : Went rows moment None desk None = (st, refl) in
     subst (λ (h : Option Job). Went rows moment h desk None) (sym free ∙ st.job_held) here
+
+-- the value where a fact decides whether there is one
+pub some_value : (o : Option ℕ) (P : Type 0) (v x : ℕ) → SomeIff o P v → o ≡ Some x → x ≡ v
+some_value None P v x h e = cc
+some_value (Some y) P v x h e = let same : y ≡ x = cc in sym same ∙ h.1

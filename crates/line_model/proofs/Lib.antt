@@ -1,0 +1,9 @@
+pub mod OnLiterals
+mod Examples
+pub mod Numbers
+pub mod Datagrams
+pub mod Spaces
+pub mod Lengths
+pub mod Fields
+pub mod ReadBack
+pub mod Readings

@@ -1,0 +1,32 @@
+-- Datagrams as text: hexadecimal digits, or a dash for the empty datagram.
+use Rattle.std.specs.Prelude.{◌⊎◌, ◌≤◌, ◌≡◌, ℕ, ◌&&◌, List, [], ◌∷◌, length, codes, Option, Some, None, Result, Ok, Err, if◌then◌else◌, nat_le, bytes_eq}
+use Rattle.hex.specs.Hex.{decode_of, encode_lower}
+use Rattle.hex.specs.declared.error.FromHexError.{FromHexError}
+
+-- the most octets of a datagram
+abbrev pub max_datagram : ℕ
+max_datagram = 4096
+
+-- how the empty datagram is written
+abbrev pub no_octets : List ℕ
+no_octets = codes "-"
+
+-- a datagram as it is printed: two lower-case digits an octet
+abbrev pub datagram_text : List ℕ → List ℕ
+datagram_text [] = no_octets
+datagram_text (octet ∷ octets) = encode_lower (octet ∷ octets)
+
+-- what was decoded, where it is 1 to 4,096 octets
+abbrev pub if_sized : Result (List ℕ) FromHexError → Option (List ℕ)
+if_sized (Ok octets) = if nat_le 1 (length octets) && nat_le (length octets) max_datagram then Some octets else None
+if_sized (Err _) = None
+
+-- the datagram that a text writes, in digits of either case
+unfoldable pub datagram_of : List ℕ → Option (List ℕ)
+datagram_of text = if bytes_eq text no_octets then Some [] else if_sized (decode_of text)
+
+-- the text writes this datagram: a dash for none, or else the digits of 1 to 4,096 octets
+abbrev pub IsDatagramText : List ℕ → List ℕ → Type 0
+IsDatagramText text octets =
+    ((text ≡ no_octets) × (octets ≡ []))
+    ⊎ ((decode_of text ≡ Ok octets) × (1 ≤ length octets) × (length octets ≤ max_datagram))

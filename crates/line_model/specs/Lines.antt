@@ -1,0 +1,107 @@
+-- One line of a trace: what it says, and how it is printed.
+use Rattle.std.specs.Prelude.{◌≡◌, ℕ, ◌≤◌, ◌==◌, List, [], ◌∷◌, length, codes, decimal, Option, Some, None, Result, Err, ok_or, option_and_then, if◌then◌else◌, nat_lt, bytes_eq}
+use Rattle.std.specs.List.{slice_split, join_with_byte}
+use Rattle.rd_base.specs.declared.moments.Moment.{Moment}
+use Rattle.rd_base.specs.declared.peers.Peer.{Peer}
+use Rattle.hex.specs.Hex.{IsBytes}
+use Rattle.line_model.specs.declared.lines.Line.{Line}
+use Rattle.line_model.specs.declared.lines.Line.TheVariants as line
+use Rattle.line_model.specs.declared.lines.Reason.{Reason}
+use Rattle.line_model.specs.declared.lines.Reason.TheVariants as reason
+use Rattle.line_model.specs.Numbers.{max_worker, max_moment, max_word, IsNumber, number_of}
+use Rattle.rd_base.specs.Peers.{IsPeer, IsPeerText, peer_of, peer_text}
+use Rattle.line_model.specs.Datagrams.{IsDatagramText, max_datagram, datagram_of, datagram_text}
+
+-- the space between two fields
+abbrev pub space : ℕ
+space = 32
+
+-- the most bytes of a line, its line feed apart
+abbrev pub max_line : ℕ
+max_line = 8600
+
+-- the fields of a line, which single spaces part
+abbrev pub fields : List ℕ → List (List ℕ)
+fields text = slice_split (λ b. b == space) text
+
+-- fields as a line, with single spaces between them
+abbrev pub joined : List (List ℕ) → List ℕ
+joined parts = join_with_byte space parts
+
+-- the second step, where the first gave something
+infixl 10 ◌>>=◌
+abbrev ◌>>=◌ : {A B : Type 0} → Option A → (A → Option B) → Option B
+o >>= f = option_and_then f o
+
+-- a datagram that comes: `in`, then worker, moment, peer and octets
+unfoldable pub come_of : List ℕ → List ℕ → List ℕ → List ℕ → Option Line
+come_of worker moment peer octets = do
+  w ← number_of max_worker worker
+  m ← number_of max_moment moment
+  p ← peer_of peer
+  d ← datagram_of octets
+  Some (line.Come w (record { 0 = m }) p d)
+
+-- a worker that ends its job: `go`, then worker and moment
+unfoldable pub go_of : List ℕ → List ℕ → Option Line
+go_of worker moment = do
+  w ← number_of max_worker worker
+  m ← number_of max_moment moment
+  Some (line.Go w (record { 0 = m }))
+
+-- time that passes: `tick`, then worker, moment and word
+unfoldable pub tick_of : List ℕ → List ℕ → Option ℕ → Option Line
+tick_of worker moment word = do
+  w ← number_of max_worker worker
+  m ← number_of max_moment moment
+  x ← word
+  Some (line.Tick w (record { 0 = m }) x)
+
+-- what the fields of a line say, by its first word. A tick without a word has the word 0
+unfoldable pub said_by : List (List ℕ) → Option Line
+said_by (verb ∷ worker ∷ moment ∷ []) =
+    if bytes_eq verb (codes "go") then go_of worker moment
+    else if bytes_eq verb (codes "tick") then tick_of worker moment (Some 0) else None
+said_by (verb ∷ worker ∷ moment ∷ word ∷ []) =
+    if bytes_eq verb (codes "tick") then tick_of worker moment (number_of max_word word) else None
+said_by (verb ∷ worker ∷ moment ∷ peer ∷ octets ∷ []) =
+    if bytes_eq verb (codes "in") then come_of worker moment peer octets else None
+said_by _ = None
+
+-- what a line says, or why it is bad: too long comes before any other form
+unfoldable pub line_of : List ℕ → Result Line Reason
+line_of text = if nat_lt max_line (length text) then Err reason.Long else ok_or (said_by (fields text)) reason.Form
+
+-- the fields of a line as it is printed, a word of 0 left out
+abbrev pub printed_fields : Line → List (List ℕ)
+printed_fields (line.Come worker moment peer octets) = codes "in" ∷ decimal worker ∷ decimal moment.0 ∷ peer_text peer ∷ datagram_text octets ∷ []
+printed_fields (line.Go worker moment) = codes "go" ∷ decimal worker ∷ decimal moment.0 ∷ []
+printed_fields (line.Tick worker moment word) = codes "tick" ∷ decimal worker ∷ decimal moment.0 ∷ (if word == 0 then [] else decimal word ∷ [])
+
+-- a line as it is printed, without a line feed
+unfoldable pub line_text : Line → List ℕ
+line_text l = joined (printed_fields l)
+
+-- the line of a datagram that is sent: `out`, then worker, peer and octets, without a line feed
+unfoldable pub out_text : ℕ → Peer → List ℕ → List ℕ
+out_text worker peer octets = joined (codes "out" ∷ decimal worker ∷ peer_text peer ∷ datagram_text octets ∷ [])
+
+-- what a line can be: its numbers are within their limits, its peer is one, and its octets are at most 4,096
+pub data IsLine : Line → Type 0 where
+  come : {worker : ℕ} {moment : Moment} {peer : Peer} {octets : List ℕ} → worker ≤ max_worker → moment.0 ≤ max_moment → IsPeer peer → length octets ≤ max_datagram → IsBytes octets → IsLine (line.Come worker moment peer octets)
+  go : {worker : ℕ} {moment : Moment} → worker ≤ max_worker → moment.0 ≤ max_moment → IsLine (line.Go worker moment)
+  tick : {worker : ℕ} {moment : Moment} {word : ℕ} → worker ≤ max_worker → moment.0 ≤ max_moment → word ≤ max_word → IsLine (line.Tick worker moment word)
+
+-- the fields spell this line
+pub data AreFieldsOf : List (List ℕ) → Line → Type 0 where
+  comes : {w m p d : List ℕ} {worker : ℕ} {moment : Moment} {peer : Peer} {octets : List ℕ} → IsNumber max_worker w worker → IsNumber max_moment m moment.0 → IsPeerText p peer → IsDatagramText d octets → AreFieldsOf (codes "in" ∷ w ∷ m ∷ p ∷ d ∷ []) (line.Come worker moment peer octets)
+  goes : {w m : List ℕ} {worker : ℕ} {moment : Moment} → IsNumber max_worker w worker → IsNumber max_moment m moment.0 → AreFieldsOf (codes "go" ∷ w ∷ m ∷ []) (line.Go worker moment)
+  ticks : {w m x : List ℕ} {worker : ℕ} {moment : Moment} {word : ℕ} → IsNumber max_worker w worker → IsNumber max_moment m moment.0 → IsNumber max_word x word → AreFieldsOf (codes "tick" ∷ w ∷ m ∷ x ∷ []) (line.Tick worker moment word)
+  ticks_alone : {w m : List ℕ} {worker : ℕ} {moment : Moment} → IsNumber max_worker w worker → IsNumber max_moment m moment.0 → AreFieldsOf (codes "tick" ∷ w ∷ m ∷ []) (line.Tick worker moment 0)
+
+-- the text is this line: it is not too long, and its fields, single spaces between them, spell the line
+pub record IsLineText (text : List ℕ) (l : Line) : Type 0 where
+  pub short : length text ≤ max_line
+  pub parts : List (List ℕ)
+  pub spelled : text ≡ joined parts
+  pub said : AreFieldsOf parts l

@@ -1,0 +1,35 @@
+// The lines of a trace, and what is wrong with one.
+use rd_base::{Bytes, Moment, Peer};
+
+/// A line of a trace.
+#[derive(Debug, Drop)]
+pub enum Line {
+    /// A datagram comes to a worker: the worker, the moment, where it comes from, and its octets.
+    Come(u8, Moment, Peer, Bytes),
+    /// A worker ends the job that it holds.
+    Go(u8, Moment),
+    /// Time passes at a worker: the worker, the moment, and the word that is handed in.
+    Tick(u8, Moment, u32),
+}
+
+/// Why a line is bad. The first of these that applies is the reason.
+#[derive(Clone, Copy, Debug, PartialEq, Eq)]
+pub enum Reason {
+    /// It is too long.
+    Long,
+    /// It is none of the three forms.
+    Form,
+    /// It names a worker that there is not.
+    Worker,
+    /// A datagram comes to a worker that holds a job.
+    Busy,
+}
+
+/// The first bad line of a trace: its number, from 1, and the reason.
+#[derive(Clone, Copy, Debug, PartialEq, Eq)]
+pub struct LineBad {
+    /// The number of the line.
+    pub line: u64,
+    /// The reason.
+    pub why: Reason,
+}
