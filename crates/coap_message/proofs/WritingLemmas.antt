@@ -1,16 +1,16 @@
 -- What is written of a message, step by step.
-use Rattle.std.proofs.Common.{◌≡◌, ℕ, ◌+◌, ◌-◌, ◌^◌, ◌<◌, ◌≤◌, false, List, [], ◌∷◌, ◌++◌, length, take, Ok, refl, sym, ap, subst, ◌∙◌, append_assoc, arith}
+use Rattle.std.proofs.Common.{◌≡◌, ℕ, ◌+◌, ◌^◌, ◌<◌, ◌≤◌, false, List, [], ◌∷◌, ◌++◌, length, take, Ok, refl, sym, ap, subst, ◌∙◌, append_assoc, arith}
 use Rattle.std.proofs.lemmas.List.{append-nil, length-append, length-take}
 use Rattle.message_model.specs.declared.messages.Kind4.{Kind4}
-use Rattle.message_model.specs.Numbers.{IsByte, AreBytes}
+use Rattle.message_model.specs.Numbers.{AreBytes}
 use Rattle.message_model.specs.Codes.{is_reserved, empty}
-use Rattle.message_model.specs.Message.{Message, Opt, IsMessage, longest_token, last_number, longest_value, end_number}
+use Rattle.message_model.specs.Message.{Message, Opt, longest_token, last_number, longest_value, end_number}
 use Rattle.message_model.specs.Spelling.{header_spelling, option_spelling, options_spelling, payload_spelling, spelling}
 use Rattle.message_model.specs.Reading.{reading}
 use Rattle.message_model.proofs.OptionLemmas.{IsOptionAfter}
 use Rattle.message_model.proofs.MessageLaws.{reading_again}
 use Rattle.message_model.proofs.OrderLemmas.{end_number-push, AreOptionsAfter-push, options_spelling-push}
-use Rattle.coap_message.specs.Written.{longest_datagram, bare_message, with_last_option, with_payload}
+use Rattle.coap_message.specs.Written.{bare_message, with_last_option, with_payload}
 use Rattle.coap_message.specs.Seen.{or_empty, message_of_bytes, IsWritten}
 
 -- ---- what is written shows its message

@@ -1,12 +1,12 @@
 -- The message that octets show, and what a writer keeps true of its own.
-use Rattle.std.specs.Prelude.{◌≡◌, ◌≤◌, ℕ, List, [], take, Result, Ok, Err}
+use Rattle.std.specs.Prelude.{◌≡◌, ℕ, List, [], Result, Ok, Err}
 use Rattle.message_model.specs.declared.messages.Kind4.TheVariants.{Con}
 use Rattle.message_model.specs.declared.messages.Unread.{Unread}
 use Rattle.message_model.specs.Codes.{empty}
 use Rattle.message_model.specs.Message.{Message, IsMessage, end_number}
 use Rattle.message_model.specs.Spelling.{spelling}
 use Rattle.message_model.specs.Reading.{reading}
-use Rattle.coap_message.specs.Written.{longest_datagram, bare_message}
+use Rattle.coap_message.specs.Written.{bare_message}
 
 -- The message that was read, or an empty one.
 abbrev pub or_empty : Result Message Unread → Message

@@ -1,8 +1,6 @@
-use Rattle.std.proofs.Common.{◌≡◌, ℕ, ◌<◌, List, [], ◌∷◌, length, None, Some, sym, ap, subst, ◌∙◌, arith}
+use Rattle.std.proofs.Common.{sym}
 use Rattle.message_model.proofs.ByteLemmas.{AreBytes-from_Fits}
 use Rattle.message_model.proofs.TailLemmas.{option_shortens}
-use Rattle.message_model.specs.Reading as reading
-use Rattle.coap_message.specs.Fronts.{options_at}
 use Rattle.coap_message.proofs.WalkLemmas.{Walked-init, Walked-more, ends_at_end, ends_at_marker, ends_at_payload, ends_at_bad}
 use Rattle.coap_message.proofs.viewing.tail_at.Goals as goal
 

@@ -1,4 +1,4 @@
-use Rattle.std.proofs.Common.{◌≡◌, ◌<◌, [], length, sym, ap, ◌∙◌, arith, rules}
+use Rattle.std.proofs.Common.{◌≡◌, ◌<◌, [], length, sym, ap, arith}
 use Rattle.coap_message.specs.Fronts.{options_at}
 use Rattle.coap_message.specs.Left.{options_left}
 use Rattle.coap_message.proofs.FrontLemmas.{options_at-none, options_at-some}

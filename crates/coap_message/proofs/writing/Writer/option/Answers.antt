@@ -1,8 +1,7 @@
-use Rattle.std.proofs.Common.{◌≡◌, ℕ, ◌+◌, ◌-◌, ◌<◌, ◌≤◌, List, length, take, sym, ap, subst, ◌∙◌, arith}
+use Rattle.std.proofs.Common.{◌≤◌, length, take, sym, subst, arith}
 use Rattle.message_model.proofs.ByteLemmas.{AreBytes-from_Fits}
-use Rattle.message_model.proofs.OptionLemmas.{IsOptionAfter}
-use Rattle.message_model.specs.Message.{Message, Opt}
-use Rattle.message_model.specs.Spelling.{spelling, option_spelling}
+use Rattle.message_model.specs.Message.{Message}
+use Rattle.message_model.specs.Spelling.{spelling}
 use Rattle.coap_message.specs.Written.{longest_datagram, with_last_option}
 use Rattle.coap_message.specs.Seen.{IsWritten}
 use Rattle.coap_message.proofs.WritingLemmas.{option_size_is, writes_option}

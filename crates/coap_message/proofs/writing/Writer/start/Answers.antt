@@ -1,4 +1,4 @@
-use Rattle.std.proofs.Common.{◌≡◌, ℕ, List, take, sym, ap, subst, ◌∙◌, arith}
+use Rattle.std.proofs.Common.{arith}
 use Rattle.message_model.proofs.ByteLemmas.{AreBytes-from_Fits}
 use Rattle.coap_message.proofs.WritingLemmas.{writes_bare}
 use Rattle.coap_message.proofs.writing.Writer.start.Goals as goal
