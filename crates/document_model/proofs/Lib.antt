@@ -21,3 +21,5 @@ pub mod MatchingLaws
 mod WeightExamples
 mod BodyFaultExamples
 pub mod BodyLaws
+pub mod Utf8Found
+pub mod Utf8Reading
