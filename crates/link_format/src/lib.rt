@@ -1,0 +1,6 @@
+//! Link documents: checked, walked link by link and parameter by parameter, and their values (RFC 6690).
+#![tactic(auto)]
+
+mod characters;
+mod places;
+mod ranges;
