@@ -3,4 +3,6 @@
 
 mod characters;
 mod places;
+mod quoting;
 mod ranges;
+mod walking;
