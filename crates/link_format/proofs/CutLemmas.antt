@@ -1,9 +1,9 @@
 -- A text cut at a separator, by how many octets stand before it.
-use Rattle.std.proofs.Common.{◌≡◌, ℕ, suc, ◌+◌, ◌-◌, ◌≤◌, ◌<◌, Bool, true, false, List, [], ◌∷◌, length, take, drop, Option, Some, None, refl, sym, ap, ◌∙◌, subst, arith}
+use Rattle.std.proofs.Common.{◌≡◌, ℕ, zero, suc, ◌+◌, ◌-◌, ◌≤◌, ◌<◌, Bool, true, false, List, [], ◌∷◌, length, take, drop, Option, Some, None, refl, sym, ap, ◌∙◌, subst, ◌⊎◌, inl, inr, arith}
 use Rattle.std.specs.Prelude.{◌==◌, ◌&&◌, if◌then◌else◌}
-use Rattle.std.proofs.lemmas.Bool.{eqb-true, and_parts}
+use Rattle.std.proofs.lemmas.Bool.{eqb-true, and_parts, cases_lt}
 use Rattle.std.specs.Prelude.{slice_index}
-use Rattle.link_format.specs.Cuts.{quotes_after, is_separator, octets_before, onto_before, cut}
+use Rattle.link_format.specs.Cuts.{quotes_after, is_separator, octets_before, onto_before, cut, from_separator}
 use Rattle.link_format.specs.declared.quoting.Quotes.{Quotes}
 
 pub octets_before_end : (separator : ℕ) (quotes : Quotes) → octets_before separator quotes [] ≡ 0
@@ -71,3 +71,22 @@ counted_end separator first text quotes (b ∷ bs) c e = absurd (omega arith)
 -- a cut at the number of octets that was counted in the same octets
 pub cut_counted : (separator : ℕ) (quotes : Quotes) (bytes text : List ℕ) (n : ℕ) → n ≡ octets_before separator quotes bytes → bytes ≡ text → CutAt separator text n (cut separator quotes text)
 cut_counted separator quotes bytes text n e f = subst (λ (m : ℕ). CutAt separator text m (cut separator quotes text)) (sym (e ∙ ap (λ (t : List ℕ). octets_before separator quotes t) f)) (cut_at separator quotes text)
+
+drop_there : (n : ℕ) (text : List ℕ) → n < length text → drop n text ≡ slice_index text n ∷ drop (suc n) text
+drop_there n [] h = absurd (omega arith)
+drop_there zero (b ∷ bs) h = refl
+drop_there (suc n) (b ∷ bs) h = drop_there n bs (omega arith)
+
+drop_whole : (n : ℕ) (text : List ℕ) → n ≡ length text → drop n text ≡ []
+drop_whole zero [] h = refl
+drop_whole (suc n) [] h = absurd (omega arith)
+drop_whole zero (b ∷ bs) h = absurd (omega arith)
+drop_whole (suc n) (b ∷ bs) h = drop_whole n bs (omega arith)
+
+-- what stands from a separator on is what stands behind the octets before it
+pub rest_at : (separator n : ℕ) (text : List ℕ) (parts : List ℕ × Option (List ℕ)) → CutAt separator text n parts → drop n text ≡ from_separator separator parts.1
+rest_at separator n text parts c = by_order (cases_lt n (length text))
+  where
+    by_order : (n < length text) ⊎ (length text ≤ n) → drop n text ≡ from_separator separator parts.1
+    by_order (inl h) = drop_there n text h ∙ ap (λ (b : ℕ). b ∷ drop (suc n) text) (c.there h) ∙ ap (from_separator separator) (sym (c.behind h))
+    by_order (inr h) = let w = c.within in let e : n ≡ length text = omega arith in drop_whole n text e ∙ ap (from_separator separator) (sym (c.whole e))

@@ -2,11 +2,12 @@
 use Rattle.std.specs.Prelude.{ℕ, suc, Bool, true, false, ◌&&◌, ◌==◌, List, [], ◌∷◌, Option, Some, None, if◌then◌else◌}
 use Rattle.document_model.specs.Characters.{quote_mark, backslash}
 use Rattle.link_format.specs.declared.quoting.Quotes.{Quotes}
-use Rattle.link_format.specs.declared.quoting.Quotes.TheVariants.{Unread, Outside, Inside, Escaped}
+use Rattle.link_format.specs.declared.quoting.Quotes.TheVariants.{Unread, Leading, Outside, Inside, Escaped}
 
 -- an octet read so is outside quoted strings
 abbrev pub is_outside : Quotes → Bool
 is_outside Unread = true
+is_outside Leading = false
 is_outside Outside = true
 is_outside Inside = false
 is_outside Escaped = false
@@ -14,6 +15,7 @@ is_outside Escaped = false
 -- how the text behind an octet is read
 abbrev pub quotes_after : Quotes → ℕ → Quotes
 quotes_after Unread b = Unread
+quotes_after Leading b = Outside
 quotes_after Outside b = if b == quote_mark then Inside else Outside
 quotes_after Inside b = if b == quote_mark then Outside else (if b == backslash then Escaped else Inside)
 quotes_after Escaped b = Inside
@@ -35,3 +37,8 @@ onto_before b parts = (b ∷ parts.0, parts.1)
 unfoldable pub cut : ℕ → Quotes → List ℕ → List ℕ × Option (List ℕ)
 cut separator quotes [] = ([], None)
 cut separator quotes (b ∷ bs) = if is_separator separator quotes b then ([], Some bs) else onto_before b (cut separator (quotes_after quotes b) bs)
+
+-- the text from a separator on, where there is one
+abbrev pub from_separator : ℕ → Option (List ℕ) → List ℕ
+from_separator separator None = []
+from_separator separator (Some behind) = separator ∷ behind

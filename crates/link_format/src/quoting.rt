@@ -7,6 +7,8 @@ ghost use Rattle.link_format.specs.Cuts as cuts;
 pub enum Quotes {
     /// Quotation marks mean nothing.
     Unread,
+    /// Before the first octet, which is no separator and no quotation mark.
+    Leading,
     /// Outside quoted strings.
     Outside,
     /// In a quoted string.
@@ -28,6 +30,7 @@ fn quotes_after(quotes: Quotes, octet: u8) -> Quotes
 {
     match quotes {
         Quotes::Unread => Quotes::Unread,
+        Quotes::Leading => Quotes::Outside,
         Quotes::Outside if octet == b'"' => Quotes::Inside,
         Quotes::Outside => Quotes::Outside,
         Quotes::Inside if octet == b'"' => Quotes::Outside,
@@ -72,4 +75,14 @@ pub fn cut(separator: u8, quotes: Quotes, text: &str) -> (&str, Option<&str>)
         return (text, None);
     }
     (&text[..at], Some(&text[at + 1..]))
+}
+
+/// What stands before the first separator, and what stands from it on.
+pub fn split(separator: u8, quotes: Quotes, text: &str) -> (&str, &str)
+    requires { separator < 128 }
+    ensures before { result.0.now ≡ (cuts.cut separator quotes text.now).0 }
+    ensures rest { result.1.now ≡ cuts.from_separator separator (cuts.cut separator quotes text.now).1 }
+{
+    let at = octets_before(separator, quotes, text.as_bytes());
+    text.split_at(at)
 }
