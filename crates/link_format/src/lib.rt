@@ -2,6 +2,7 @@
 #![tactic(auto)]
 
 mod characters;
+mod parting;
 mod places;
 mod quoting;
 mod ranges;
