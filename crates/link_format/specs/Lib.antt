@@ -2,3 +2,4 @@ pub mod Places
 pub mod Ranges
 pub mod Cuts
 pub mod Parts
+pub mod Left
