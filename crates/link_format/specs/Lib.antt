@@ -3,3 +3,4 @@ pub mod Ranges
 pub mod Cuts
 pub mod Parts
 pub mod Left
+pub mod Views

@@ -2,6 +2,7 @@
 #![tactic(auto)]
 
 mod characters;
+mod links;
 mod parting;
 mod places;
 mod quoting;
