@@ -3,3 +3,5 @@ pub mod CutLemmas
 pub mod Passing
 pub mod LinkLaws
 pub mod LinkSteps
+pub mod ParameterSteps
+pub mod CheckLemmas

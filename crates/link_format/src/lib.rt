@@ -2,9 +2,17 @@
 #![tactic(auto)]
 
 mod characters;
+mod checking;
+mod inner;
 mod links;
+mod parameters;
 mod parting;
 mod places;
 mod quoting;
 mod ranges;
 mod walking;
+
+pub use checking::{LinkBad, check};
+pub use inner::params;
+pub use links::{LinkRef, Links};
+pub use parameters::{Param, Params};

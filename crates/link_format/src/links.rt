@@ -43,11 +43,11 @@ pub fn links_of_text(text: &str) -> Links<'_>
 
 impl<'a> Iterator for Links<'a> {
     ghost use Rattle.std.specs.Iterator.{YieldsFirstBy, item_count};
-    ghost use Rattle.link_format.specs.Views.{link_in};
+    ghost use Rattle.link_format.specs.Views.{link_seen};
 
     type Item = LinkRef<'a>;
 
-    ghost next_gives = { YieldsFirstBy link_in (λ links. links) };
+    ghost next_gives = { YieldsFirstBy link_seen (λ links. links) };
 
     ghost remaining = { item_count (λ links. links) };
 
