@@ -5,3 +5,4 @@ pub mod LinkLaws
 pub mod LinkSteps
 pub mod ParameterSteps
 pub mod CheckLemmas
+pub mod ValueLemmas

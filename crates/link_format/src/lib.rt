@@ -10,9 +10,11 @@ mod parting;
 mod places;
 mod quoting;
 mod ranges;
+mod values;
 mod walking;
 
 pub use checking::{LinkBad, check};
 pub use inner::params;
 pub use links::{LinkRef, Links};
 pub use parameters::{Param, Params};
+pub use values::{quoted, value_of};
