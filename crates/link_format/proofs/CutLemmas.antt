@@ -1,6 +1,6 @@
 -- A text cut at a separator, by how many octets stand before it.
 use Rattle.std.proofs.Common.{◌≡◌, ℕ, zero, suc, ◌+◌, ◌-◌, ◌≤◌, ◌<◌, Bool, true, false, List, [], ◌∷◌, length, take, drop, Option, Some, None, refl, sym, ap, ◌∙◌, subst, ◌⊎◌, inl, inr, arith}
-use Rattle.std.specs.Prelude.{◌==◌, ◌&&◌, if◌then◌else◌}
+use Rattle.std.specs.Prelude.{◌==◌, if◌then◌else◌}
 use Rattle.std.proofs.lemmas.Bool.{eqb-true, and_parts, cases_lt}
 use Rattle.std.specs.Prelude.{slice_index}
 use Rattle.link_format.specs.Cuts.{quotes_after, is_separator, octets_before, onto_before, cut, from_separator}
@@ -39,6 +39,7 @@ cut_at separator quotes (b ∷ bs) = by_test (is_separator separator quotes b) r
       behind = λ h. c.behind (omega arith);
       there = λ h. c.there (omega arith);
     }
+
     by_test : (t : Bool) → is_separator separator quotes b ≡ t → CutAt separator bs (octets_before separator (quotes_after quotes b) bs) (cut separator (quotes_after quotes b) bs)
         → CutAt separator (b ∷ bs) (if t then 0 else suc (octets_before separator (quotes_after quotes b) bs)) (if t then ([], Some bs) else onto_before b (cut separator (quotes_after quotes b) bs))
     by_test true e c = record { within = omega arith; before = refl; whole = λ h. absurd (omega arith); behind = λ h. refl; there = λ h. eqb-true b separator ((and_parts (b == separator) _ e).0) }

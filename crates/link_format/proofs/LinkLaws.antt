@@ -1,20 +1,20 @@
 -- The first link of a text is what its parts say.
-use Rattle.std.proofs.Common.{◌≡◌, ℕ, Bool, true, false, ◌&&◌, List, [], ◌∷◌, ◌++◌, Option, Some, None, option_and_then, is_some, refl, sym, ap, ◌∙◌, subst, append_assoc, append-nil}
+use Rattle.std.proofs.Common.{◌≡◌, ℕ, true, ◌&&◌, List, [], ◌∷◌, ◌++◌, Option, Some, None, option_and_then, is_some, refl, sym, ap, ◌∙◌, subst, append_assoc, append-nil}
 use Rattle.std.specs.Prelude.{◌==◌, not}
 use Rattle.std.specs.Char.{is_ascii}
 use Rattle.std.specs.List.{list_all}
 use Rattle.std.proofs.lemmas.Bool.{and_parts, false≢true}
 use Rattle.document_model.specs.Characters.{comma, less_than_sign, greater_than_sign, is_empty, is_not_control, is_target_character}
 use Rattle.document_model.specs.Documents.{Parameter, Link, parameters_text, link_text, is_parameter, is_link}
-use Rattle.document_model.specs.DocumentReading.{Place, at_beginning, behind_part, links_from}
-use Rattle.document_model.proofs.DocumentPlaces.{further, links_text, text_at, fits_at}
+use Rattle.document_model.specs.DocumentReading.{at_beginning, behind_part, links_from}
+use Rattle.document_model.proofs.DocumentPlaces.{further, links_text}
 use Rattle.document_model.proofs.DocumentFound.{Spells, links_from_found}
 use Rattle.document_model.proofs.DocumentLaws.{links_from_only}
 use Rattle.document_model.proofs.ReferenceLaws.{some_same, none_some}
 use Rattle.link_format.specs.declared.quoting.Quotes.TheVariants.{Unread, Outside}
 use Rattle.link_format.specs.Cuts.{cut}
 use Rattle.link_format.specs.Parts.{text_or_empty, parts_behind, parts_opened, link_parts}
-use Rattle.link_format.specs.Left.{listed, links_of, links_in, lone_parameters, parameters_of, parameters_in}
+use Rattle.link_format.specs.Left.{listed, links_of, lone_parameters, parameters_of, parameters_in}
 use Rattle.link_format.proofs.Passing.{onto_front, cut_there, cut_end, passes_unread, passes_parameters}
 
 -- ---- the text of links
@@ -56,6 +56,7 @@ parameters_spelled text parameters e = by_links (links_from behind_part text) re
         let parts = and_parts (is_empty l.target && list_all is_parameter l.parameters) true s.1 in
         let more = and_parts (is_empty l.target) (list_all is_parameter l.parameters) parts.0 in
         subst (λ (ps : List Parameter). SpelledParameters text ps) same (record { text_is = whole; each = more.1 })
+
     by_links : (o : Option (List Link)) → links_from behind_part text ≡ o → option_and_then lone_parameters o ≡ Some parameters → SpelledParameters text parameters
     by_links None f e = absurd (none_some e)
     by_links (Some []) f e = absurd (none_some e)
@@ -104,3 +105,11 @@ first_parts l links h =
 pub no_parts : link_parts [] ≡ None
 unfolding link_parts
 no_parts = ap (λ (p : List ℕ × Option (List ℕ)). option_and_then parts_opened p.1) (cut_end less_than_sign Unread)
+
+-- a text that spells parameters is their text
+pub parameters_text-in : (text : List ℕ) → is_some (parameters_of text) ≡ true → parameters_text (parameters_in text) ≡ text
+parameters_text-in text h = by_parameters (parameters_of text) refl h
+  where
+    by_parameters : (o : Option (List Parameter)) → parameters_of text ≡ o → is_some o ≡ true → parameters_text (listed (parameters_of text)) ≡ text
+    by_parameters None f h = absurd (false≢true h)
+    by_parameters (Some parameters) f h = ap (λ (o : Option (List Parameter)). parameters_text (listed o)) f ∙ sym (parameters_spelled text parameters f).text_is

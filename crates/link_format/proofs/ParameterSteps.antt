@@ -11,7 +11,7 @@ use Rattle.link_format.specs.declared.quoting.Quotes.TheVariants.{Unread, Leadin
 use Rattle.link_format.specs.Cuts.{cut, from_separator}
 use Rattle.link_format.specs.Parts.{parts_named, parameter_parts}
 use Rattle.link_format.specs.Left.{listed, parameters_of, parameters_in}
-use Rattle.link_format.proofs.Passing.{Passes, onto_front, cut_there, cut_end, passes_unread, passes_leading}
+use Rattle.link_format.proofs.Passing.{onto_front, cut_there, cut_end, passes_unread, passes_leading}
 use Rattle.link_format.proofs.LinkLaws.{parameters_of-alike, parameters_spelled}
 
 -- ---- a name and its value
@@ -23,6 +23,7 @@ no_equals_further (b ∷ name) h = by_test (λ k. no_equals_further name k) (b =
     no_more : (rest : List ℕ) → is_empty rest ≡ true → list_all (λ b. not (b == equals_sign)) rest ≡ true
     no_more [] e = refl
     no_more (c ∷ cs) e = absurd (false≢true e)
+
     by_test : (are_name_characters name ≡ true → list_all (λ b. not (b == equals_sign)) name ≡ true) → (t : Bool) → (b == asterisk) ≡ t → (if t then is_empty name else is_attribute_name_character b && are_name_characters name) ≡ true
         → (not (b == equals_sign) && list_all (λ b. not (b == equals_sign)) name) ≡ true
     by_test again true e h = let other : (b == equals_sign) ≡ false = ap (λ (x : ℕ). x == equals_sign) (eqb-true b asterisk e) in rw (other, no_more name h) refl
@@ -58,9 +59,10 @@ cut_parameters (p ∷ parameters) =
 cut_first : (p : Parameter) (parameters : List Parameter) → is_parameter p ≡ true → let first = cut semicolon Leading (parameters_text (p ∷ parameters)) in (first.0 ≡ parameter_text p) × (from_separator semicolon first.1 ≡ parameters_text parameters)
 cut_first p parameters h =
     let e = (passes_leading p h).on (parameters_text parameters) in
-    let rest = cut_parameters parameters in
-    ( ap (λ (p : List ℕ × Option (List ℕ)). p.0) e ∙ ap (λ (t : List ℕ). parameter_text p ++ t) rest.0 ∙ append-nil (parameter_text p)
-    , ap (λ (p : List ℕ × Option (List ℕ)). from_separator semicolon p.1) e ∙ rest.1)
+    let rest = cut_parameters parameters in (
+      ap (λ (p : List ℕ × Option (List ℕ)). p.0) e ∙ ap (λ (t : List ℕ). parameter_text p ++ t) rest.0 ∙ append-nil (parameter_text p),
+      ap (λ (p : List ℕ × Option (List ℕ)). from_separator semicolon p.1) e ∙ rest.1,
+    )
 
 abbrev Parts : Type 0
 Parts = List ℕ × List ℕ × Option (List ℕ) × List ℕ

@@ -1,5 +1,5 @@
 -- The parts of a link at which no cut is made.
-use Rattle.std.proofs.Common.{◌≡◌, ℕ, Bool, true, false, ◌&&◌, ◌||◌, List, [], ◌∷◌, ◌++◌, Option, Some, None, flat_map, refl, sym, ap, ◌∙◌, subst, append_assoc}
+use Rattle.std.proofs.Common.{◌≡◌, ℕ, Bool, true, false, ◌&&◌, ◌||◌, List, [], ◌∷◌, ◌++◌, Option, Some, None, refl, sym, ap, ◌∙◌, subst, append_assoc}
 use Rattle.std.specs.Prelude.{◌==◌, not, if◌then◌else◌}
 use Rattle.std.specs.List.{list_all}
 use Rattle.std.proofs.lemmas.Bool.{and_parts, false≢true, eqb-true}
@@ -74,6 +74,7 @@ passes_name_rest separator (b ∷ name) s h = by_test (λ k. passes_name_rest se
     no_more : (rest : List ℕ) → is_empty rest ≡ true → rest ≡ []
     no_more [] e = refl
     no_more (c ∷ cs) e = absurd (false≢true e)
+
     by_test : (are_name_characters name ≡ true → Passes separator Outside name Outside) → (t : Bool) → (b == asterisk) ≡ t → (if t then is_empty name else is_attribute_name_character b && are_name_characters name) ≡ true → Passes separator Outside (b ∷ name) Outside
     by_test again true e h =
         let is : b ≡ asterisk = eqb-true b asterisk e in
@@ -114,9 +115,11 @@ passes_closing separator false (b ∷ value) h = by_test (λ t k. passes_closing
     no_more : (rest : List ℕ) → is_empty rest ≡ true → rest ≡ []
     no_more [] e = refl
     no_more (c ∷ cs) e = absurd (false≢true e)
+
     to_quotes : (t : Bool) → (if t then Escaped else Inside) ≡ quotes_at t
     to_quotes true = refl
     to_quotes false = refl
+
     by_test : ((u : Bool) → closes_quotes u value ≡ true → Passes separator (quotes_at u) value Outside) → (t : Bool) → (b == quote_mark) ≡ t → (if t then is_empty value else is_not_control b && closes_quotes (b == backslash) value) ≡ true → Passes separator Inside (b ∷ value) Outside
     by_test again true e h =
         passes_octet separator Inside Outside Outside b value (and_false (b == separator)) (rw e refl) (subst (λ (r : List ℕ). Passes separator Outside r Outside) (sym (no_more value h)) (passes_none separator Outside))

@@ -1,12 +1,12 @@
 -- What one octet changes of how far octets begin a document, and of whether they are one.
-use Rattle.std.proofs.Common.{◌≡◌, ℕ, suc, ◌+◌, ◌-◌, ◌≤◌, min, Bool, true, false, ◌&&◌, List, [], ◌∷◌, length, Option, Some, None, option_map, option_and_then, is_some, refl, sym, ap, ◌∙◌, subst, IsUtf8, arith}
+use Rattle.std.proofs.Common.{◌≡◌, ℕ, suc, ◌+◌, ◌-◌, ◌≤◌, min, Bool, true, false, ◌&&◌, List, [], ◌∷◌, length, Option, Some, None, option_map, is_some, refl, sym, ap, ◌∙◌, subst, arith}
 use Rattle.std.specs.Prelude.{◌==◌, if◌then◌else◌}
 use Rattle.std.proofs.lemmas.Bool.{eqb-true}
 use Rattle.std.specs.Str.{is_utf8}
 use Rattle.std.specs.Int.{is_in_range}
 use Rattle.std.proofs.lemmas.Str.{IsUtf8-from_is_utf8, is_utf8-from_IsUtf8}
 use Rattle.document_model.specs.Documents.{Link}
-use Rattle.document_model.specs.Utf8Prefix.{OctetRange, tails_of, one_more, utf8_prefix_after}
+use Rattle.document_model.specs.Utf8Prefix.{OctetRange, utf8_prefix_after}
 use Rattle.document_model.specs.DocumentReading.{Place, at_beginning, place_after, with_octet, links_at_end, links_from, document, prefix_from, good_prefix}
 use Rattle.document_model.proofs.Utf8Reading.{is_utf8_after, is_utf8_after-IsUtf8}
 use Rattle.document_model.proofs.Utf8Found.{IsUtf8-is_utf8_after}

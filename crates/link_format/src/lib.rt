@@ -18,3 +18,6 @@ pub use inner::params;
 pub use links::{LinkRef, Links};
 pub use parameters::{Param, Params};
 pub use values::{quoted, value_of};
+
+#[cfg(test)]
+mod tests;

@@ -148,5 +148,8 @@ pub fn place_after(place: Place, octet: u8) -> Option<Place>
 pub fn may_end(place: Place) -> bool
     ensures { result ≡ is_some (grammar.links_at_end (place_in place)) }
 {
-    matches!(place, Beginning | BehindPart | WithinName | BehindName | Token)
+    matches!(
+        place,
+        Beginning | BehindPart | WithinName | BehindName | Token
+    )
 }

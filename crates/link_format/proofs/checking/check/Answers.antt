@@ -1,4 +1,4 @@
-use Rattle.std.proofs.Common.{◌≡◌, true, List, Some, is_some, sym, ap, ◌∙◌}
+use Rattle.std.proofs.Common.{List, Some, is_some, sym, ap, ◌∙◌}
 use Rattle.document_model.specs.Documents.{Link}
 use Rattle.link_format.specs.Left.{links_of, links_in}
 use Rattle.link_format.proofs.CheckLemmas.{checked_by}

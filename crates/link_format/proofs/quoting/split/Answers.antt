@@ -1,6 +1,5 @@
-use Rattle.std.proofs.Common.{◌≡◌, ℕ, ◌<◌, ◌≤◌, List, length, Option, sym, ap, ◌∙◌, arith}
+use Rattle.std.proofs.Common.{ℕ, ◌<◌, List, Option, sym, ◌∙◌, arith}
 use Rattle.std.specs.Str.{IsCharBoundary}
-use Rattle.link_format.specs.Cuts.{cut, from_separator}
 use Rattle.link_format.proofs.CutLemmas.{CutAt, cut_counted, rest_at}
 use Rattle.link_format.proofs.quoting.split.Goals as goal
 

@@ -16,5 +16,5 @@ returns-then-first-ne34 c =
 pub returns : goal.returns
 returns c =
     subst (λ (v : List ℕ). IfOk c.content.result (λ text. text ≡ v))
-      (ap (content_up_to_quote false) c.as_str.ensures ∙ unquoted_opened c.args.value.now (chars_rest c.next.new.self) c.in-Some.first (sym c.chars-characters.ensures.rest ∙ c.in-Some.ensures.steps.0) c.if-first-ne34.false)
-      c.content.ensures
+    (ap (content_up_to_quote false) c.as_str.ensures ∙ unquoted_opened c.args.value.now (chars_rest c.next.new.self) c.in-Some.first (sym c.chars-characters.ensures.rest ∙ c.in-Some.ensures.steps.0) c.if-first-ne34.false)
+    c.content.ensures

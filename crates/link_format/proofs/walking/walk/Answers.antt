@@ -8,7 +8,7 @@ octets-init c = walked_start c.args.body.now
 pub octets-preserved : goal.octets-preserved
 octets-preserved c =
     walked_step c.args.body.now c.octets.rest.now _ _ c.octets.tails.now c.in-Some-tails_after.next_tails.now c.in-Some.octet.now c.in-Some.more.now c.octets.invariant c.in-Some.ensures.cases.0
-      (sym c.in-Some-place_after.ensures) (sym c.in-Some-tails_after.ensures)
+    (sym c.in-Some-place_after.ensures) (sym c.in-Some-tails_after.ensures)
 
 pub returns-in_default-place_after-clause-good_prefix : goal.returns-in_default-place_after-clause-good_prefix
 returns-in_default-place_after-clause-good_prefix c =

@@ -1,7 +1,7 @@
-use Rattle.std.proofs.Common.{◌≡◌, ◌<◌, ◌∷◌, List, [], length, refl, sym, ap, ◌∙◌, arith}
+use Rattle.std.proofs.Common.{◌≡◌, ◌<◌, ◌∷◌, List, [], length, sym, ap, ◌∙◌, arith}
 use Rattle.document_model.specs.Documents.{Link}
-use Rattle.link_format.specs.Left.{links_in, parameters_in}
-use Rattle.link_format.proofs.LinkSteps.{NextLink, next_link, no_link}
+use Rattle.link_format.specs.Left.{links_in}
+use Rattle.link_format.proofs.LinkSteps.{next_link, no_link}
 use Rattle.link_format.proofs.links.LinksIterator.next.Goals as goal
 
 pub returns-in_err-target-clause-steps : goal.returns-in_err-target-clause-steps

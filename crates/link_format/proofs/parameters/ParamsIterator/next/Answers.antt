@@ -1,8 +1,7 @@
-use Rattle.std.proofs.Common.{◌≡◌, ℕ, ◌<◌, ◌∷◌, List, [], Option, option_map, length, refl, sym, ap, ◌∙◌, arith}
-use Rattle.std.specs.Borrow.{Bor}
+use Rattle.std.proofs.Common.{◌≡◌, ◌<◌, ◌∷◌, List, [], length, sym, ap, ◌∙◌, arith}
 use Rattle.document_model.specs.Documents.{Parameter}
 use Rattle.link_format.specs.Left.{parameters_in}
-use Rattle.link_format.proofs.ParameterSteps.{NextParameter, next_parameter, no_parameter}
+use Rattle.link_format.proofs.ParameterSteps.{next_parameter, no_parameter}
 use Rattle.link_format.proofs.parameters.ParamsIterator.next.Goals as goal
 
 pub returns-in_err-raw-clause-steps : goal.returns-in_err-raw-clause-steps
