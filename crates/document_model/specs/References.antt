@@ -153,10 +153,6 @@ behind_userinfo authority = unwrap_or (behind at_sign authority) authority
 abbrev pub host_in : List ℕ → List ℕ
 host_in text = if begins_with left_bracket text then before right_bracket text ++ right_bracket ∷ [] else before colon text
 
--- what follows the host
-abbrev pub behind_host : List ℕ → List ℕ
-behind_host text = if begins_with left_bracket text then unwrap_or (behind right_bracket text) [] else from_first colon text
-
 -- a colon, and then digits or none; or nothing (RFC 3986 section 3.2.3)
 abbrev pub is_port_text : List ℕ → Bool
 is_port_text [] = true

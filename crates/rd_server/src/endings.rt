@@ -1,4 +1,5 @@
 // How a replay ends.
+ghost use Rattle.std.specs.Prelude.{◌≡◌};
 
 /// Why a line of a trace is bad.
 #[derive(Clone, Copy, Debug, PartialEq, Eq)]
@@ -18,6 +19,28 @@ pub struct LineBad {
     pub why: Reason,
 }
 
+/// Why a replay stops before the trace is done.
+#[derive(Clone, Copy, Debug, PartialEq, Eq)]
+pub enum Stop {
+    /// A line is bad.
+    Bad(LineBad),
+    /// The output failed.
+    Unwritten,
+    /// Memory was wanted.
+    Starved,
+}
+
+/// How the reading of a trace ends.
+#[derive(Clone, Copy, Debug, PartialEq, Eq)]
+pub enum Read {
+    /// The trace was read to its end.
+    End,
+    /// The source failed.
+    Failed,
+    /// The replay stopped before.
+    Stopped(Stop),
+}
+
 /// How a replay ends, with its exit status.
 #[derive(Clone, Copy, Debug, PartialEq, Eq)]
 pub enum Status {
@@ -33,4 +56,22 @@ pub enum Status {
     Line(LineBad),
     /// 5: memory was wanted.
     Memory,
+}
+
+impl Status {
+    ghost use Rattle.rd_server.specs.Endings.{code_of};
+
+    /// The exit status of the program.
+    pub fn code(&self) -> u8
+        ensures { result ≡ code_of self.now }
+    {
+        match self {
+            Status::Done => 0,
+            Status::ReadFault => 1,
+            Status::WriteFault => 2,
+            Status::Usage => 3,
+            Status::Line(_) => 4,
+            Status::Memory => 5,
+        }
+    }
 }

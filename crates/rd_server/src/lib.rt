@@ -7,3 +7,11 @@ mod fields;
 mod forms;
 mod lines;
 mod registry;
+mod replaying;
+mod sessions;
+
+pub use endings::{LineBad, Reason, Status};
+pub use replaying::{replay, report};
+
+#[cfg(test)]
+mod tests;

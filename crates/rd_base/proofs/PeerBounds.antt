@@ -12,9 +12,9 @@ use Rattle.std.proofs.NetLemmas.Texts.{AllSegments}
 use Rattle.std.proofs.NetLemmas.Sockets.{read_socket_v4_sound, read_socket_v6_sound}
 use Rattle.rd_base.specs.declared.peers.Host.TheVariants as host
 use Rattle.rd_base.specs.declared.peers.Peer.{Peer}
-use Rattle.line_model.specs.Peers.{IsHost, IsPeer, IsPeerText, named_peer, named, if_printed, peer_of}
-use Rattle.line_model.proofs.Tests.{chosen, failed}
-use Rattle.line_model.proofs.Peers.{v4_of, peer_of-found, peer_of-peer_text}
+use Rattle.rd_base.specs.Peers.{IsHost, IsPeer, IsPeerText, named_peer, named, if_printed, peer_of}
+use Rattle.rd_base.proofs.Tests.{chosen, failed}
+use Rattle.rd_base.proofs.PeerTexts.{v4_of, peer_of-found, peer_of-peer_text}
 
 -- every group is of 16 bits
 and_more : (s : ℕ) (rest : List ℕ) → s < 2 ^ 16 → AllSegments rest → AllSegments (s ∷ rest)
@@ -83,23 +83,21 @@ dotted_fits text octets h =
     (ap (λ (xs : List ℕ). length xs) h.value, subst (λ xs. (k : ℕ) → slice_index xs k < 2 ^ 8) (sym h.value) (four_fit h.a h.b h.c h.d fa fb fc fd))
 
 -- what is read whole leaves nothing
-whole_read : {A : Type 0} (r : Option (A × List ℕ)) (x : A) → whole_value r ≡ Some x → (rest : List ℕ) × (r ≡ Some (x, rest))
+pub whole_read : {A : Type 0} (r : Option (A × List ℕ)) (x : A) → whole_value r ≡ Some x → r ≡ Some (x, [])
 whole_read None x e = absurd (none-some x e)
-whole_read (Some (y, [])) x e = ([], ap (λ z. Some (z, [])) (same_Some y x e))
+whole_read (Some (y, [])) x e = ap (λ z. Some (z, [])) (same_Some y x e)
 whole_read (Some (y, b ∷ rest)) x e = absurd (none-some x (sym (failed (suc (length rest) == 0) (Some y) None (ne_eqb (suc (length rest)) 0 (λ z. omega (arith, z)))) ∙ e))
 
 -- a host and a port that are read fit
 v4_fits : (text : List ℕ) (v : List ℕ × ℕ) → whole_value (read_socket_v4 text) ≡ Some v → IsHost (host.V4 v.0) × (v.1 < 2 ^ 16)
 v4_fits text v e =
-    let (rest, read) = whole_read (read_socket_v4 text) v e in
-    let (front, split, spelled) = read_socket_v4_sound text rest (v4_of v.0 v.1) read in
+    let (front, split, spelled) = read_socket_v4_sound text [] (v4_of v.0 v.1) (whole_read (read_socket_v4 text) v e) in
     let (ip, port, both_texts, is_ip, is_port) = spelled in
     (dotted_fits ip v.0 is_ip, is_port.3)
 
 v6_fits : (text : List ℕ) (v : List ℕ × ℕ × ℕ × ℕ) → whole_value (read_socket_v6 text) ≡ Some v → IsHost (host.V6 v.0) × (v.1 < 2 ^ 16)
 v6_fits text v e =
-    let (rest, read) = whole_read (read_socket_v6 text) v e in
-    let (front, split, spelled) = read_socket_v6_sound text rest (record { ip = record { segments = v.0 }; port = v.1; flowinfo = v.2; scope_id = v.3 }) read in
+    let (front, split, spelled) = read_socket_v6_sound text [] (record { ip = record { segments = v.0 }; port = v.1; flowinfo = v.2; scope_id = v.3 }) (whole_read (read_socket_v6 text) v e) in
     (colon_hex_fits spelled.ip v.0 spelled.ip_text, spelled.port_text.3)
 
 named_fits : (text : List ℕ) (v4 : Option (List ℕ × ℕ)) (v6 : Option (List ℕ × ℕ × ℕ × ℕ)) (peer : Peer) → whole_value (read_socket_v4 text) ≡ v4 → whole_value (read_socket_v6 text) ≡ v6 → named v4 v6 ≡ Some peer → IsHost peer.host × (peer.port < 2 ^ 16)

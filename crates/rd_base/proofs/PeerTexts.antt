@@ -11,9 +11,9 @@ use Rattle.std.proofs.NetLemmas.Sockets.{read_socket_v4_complete, read_socket_v6
 use Rattle.rd_base.specs.declared.peers.Host.{Host}
 use Rattle.rd_base.specs.declared.peers.Host.TheVariants as host
 use Rattle.rd_base.specs.declared.peers.Peer.{Peer}
-use Rattle.line_model.specs.Numbers.{min_port}
-use Rattle.line_model.specs.Peers.{IsHost, IsPeer, peer_text, named_peer, named, if_printed, peer_of}
-use Rattle.line_model.proofs.Tests.{chosen, passed, both_parts, both_from}
+use Rattle.rd_base.specs.Peers.{min_port}
+use Rattle.rd_base.specs.Peers.{IsHost, IsPeer, peer_text, named_peer, named, if_printed, peer_of}
+use Rattle.rd_base.proofs.Tests.{chosen, passed, both_parts, both_from}
 
 -- what is read is the peer whose text it is, and its port is not 0
 pub peer_of-found : (text : List ℕ) (peer : Peer) → peer_of text ≡ Some peer → (text ≡ peer_text peer) × (min_port ≤ peer.port)
