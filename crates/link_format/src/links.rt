@@ -5,7 +5,7 @@ ghost use Rattle.link_format.specs.Left.{links_of, links_in, parameters_of};
 use crate::parting::link_parts;
 use std::marker::Model;
 
-/// A link of a document: its target, and the text of its parameters behind it.
+/// A link of a document: its target, and the text of its parameters behind it (RFC 6690 section 2, link-value).
 #[derive(Clone, Copy, Debug)]
 pub struct LinkRef<'a> {
     /// What stands between `<` and `>`.
@@ -15,8 +15,8 @@ pub struct LinkRef<'a> {
     ghost readable: { is_some (parameters_of params.now) ≡ true },
 }
 
-/// The links that are left of a document, in order. A contract sees them as their list.
-#[derive(Debug, Drop)]
+/// The links that are left of a document that [`check`](crate::check) read, in order. A contract sees them as their list.
+#[derive(Clone, Debug, Drop)]
 pub struct Links<'a> {
     rest: &'a str,
 }

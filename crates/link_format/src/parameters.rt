@@ -6,7 +6,7 @@ ghost use Rattle.link_format.specs.Left.{parameters_of, parameters_in};
 use crate::parting::parameter_parts;
 use std::marker::Model;
 
-/// A parameter of a link.
+/// A parameter of a link (RFC 6690 section 2, link-param).
 #[derive(Clone, Copy, Debug)]
 pub struct Param<'a> {
     /// Its name.
@@ -18,8 +18,8 @@ pub struct Param<'a> {
     ghost spelled: { raw.now ≡ parameter_text (record { name = name.now; value = option_map (λ text. text.now) value }) },
 }
 
-/// The parameters that are left of a link, in order. A contract sees them as their list.
-#[derive(Debug, Drop)]
+/// The parameters that are left of a link, in order, as [`params`](crate::params) begins them. A contract sees them as their list.
+#[derive(Clone, Debug, Drop)]
 pub struct Params<'a> {
     rest: &'a str,
 }
