@@ -1,0 +1,8 @@
+//! References: a text is taken apart into its components, and a reference is resolved against a base (RFC 3986).
+#![tactic(auto)]
+
+mod cuts;
+mod reach;
+mod splitting;
+
+pub use splitting::Parts;
