@@ -1,12 +1,13 @@
 -- What stands before and behind an octet, from where a search finds it.
-use Rattle.std.proofs.Common.{◌≡◌, ℕ, zero, suc, ◌+◌, ◌<◌, Bool, true, false, not, ◌&&◌, ◌||◌, List, [], ◌∷◌, ◌++◌, Option, Some, None, length, get_or, take, drop, option_map, is_some, if◌then◌else◌, refl, sym, ap, ◌∙◌, arith}
+use Rattle.std.proofs.Common.{◌≡◌, ℕ, zero, suc, ◌+◌, ◌-◌, ◌<◌, Bool, true, false, not, ◌&&◌, ◌||◌, List, [], ◌∷◌, ◌++◌, Option, Some, None, length, get_or, take, drop, option_map, is_some, if◌then◌else◌, refl, sym, ap, ◌∙◌, add-one, arith}
 use Rattle.std.specs.Prelude.{◌==◌}
 use Rattle.std.proofs.lemmas.Bool.Decides.{nat_tests}
+use Rattle.std.specs.List.{slice_range}
 use Rattle.std.specs.Option.{MatchOption}
 use denote.Ref.{Bor}
 use mathlib.Core.Logic.{◌≢◌}
 use Rattle.document_model.specs.Characters.{colon, slash}
-use Rattle.document_model.specs.References.{before, behind, from_first, has_octet, has_colon_in_first_segment, scheme_in, behind_scheme, behind_two_slashes}
+use Rattle.document_model.specs.References.{before, behind, begins_with, from_first, through, has_octet, has_colon_in_first_segment, scheme_in, behind_scheme, behind_two_slashes}
 use Rattle.document_model.proofs.ReferenceCuts.{before-marked, behind-marked}
 
 -- an octet that stands at no place does not stand in the text
@@ -59,6 +60,24 @@ from_place mark (suc place) (c ∷ cs) l e h =
     let rest : from_first mark cs ≡ drop place cs = from_place mark place cs (omega (arith, l)) e (λ i k. h (suc i) (omega (arith, k))) in
     grind (arith, nat_tests, here, rest)
 
+-- what stands before the first mark, and that mark
+pub through_place : (mark place : ℕ) (text : List ℕ) → place < length text → get_or text place 0 ≡ mark → ((i : ℕ) → i < place → get_or text i 0 ≢ mark) → through mark text ≡ take (suc place) text
+unfolding through
+through_place mark place [] l e h = absurd (omega (arith, l))
+through_place mark zero (c ∷ cs) l e h = grind (arith, nat_tests, e)
+through_place mark (suc place) (c ∷ cs) l e h =
+    let here : c ≢ mark = h 0 (omega arith) in
+    let rest : through mark cs ≡ take (suc place) cs = through_place mark place cs (omega (arith, l)) e (λ i k. h (suc i) (omega (arith, k))) in
+    grind (arith, nat_tests, here, rest)
+
+pub front_range : (text : List ℕ) (place : ℕ) → slice_range text 0 (place + 1) ≡ take (suc place) text
+front_range text place = let same : place + 1 - 0 ≡ suc place = omega arith in ap (λ n. take n text) same
+
+pub through_nowhere : (mark : ℕ) (text : List ℕ) → has_octet mark text ≡ false → through mark text ≡ text
+unfolding through
+through_nowhere mark [] h = refl
+through_nowhere mark (c ∷ cs) h = grind (arith, nat_tests, through_nowhere mark cs)
+
 -- a colon stands in the first segment where one stands in the text, and no slash before the first
 pub colon_before_slash : (text : List ℕ) → has_colon_in_first_segment text ≡ (is_some (behind colon text) && not (has_octet slash (before colon text)))
 unfolding before behind
@@ -88,3 +107,15 @@ pub behind_one_slash : (text rest : List ℕ) (found : Option (Bor (List ℕ))) 
     → option_map (λ x. x.now) found ≡ behind_two_slashes text
 behind_one_slash text rest None e h = sym (one_slash text rest e h)
 behind_one_slash text rest (Some more) e h = sym (two_slashes text rest more.now e h)
+
+-- a text that begins with the mark, and one that does not
+no_first : (mark : ℕ) (text : List ℕ) → ((rest : List ℕ) → text ≢ mark ∷ rest) → begins_with mark text ≡ false
+no_first mark [] h = refl
+no_first mark (c ∷ cs) h =
+    let here : c ≢ mark = λ e. h cs (ap (λ x. x ∷ cs) e) in
+    grind (arith, nat_tests, here)
+
+pub stripped : (mark : ℕ) (text : List ℕ) (found : Option (Bor (List ℕ))) → MatchOption found ((rest : List ℕ) → text ≢ mark ∷ rest) (λ x. text ≡ mark ∷ x.now)
+    → MatchOption found (begins_with mark text ≡ false) (λ x. text ≡ mark ∷ x.now)
+stripped mark text None h = no_first mark text h
+stripped mark text (Some rest) h = h

@@ -3,6 +3,8 @@
 
 mod cuts;
 mod reach;
+mod reading;
 mod splitting;
 
+pub use reading::{RefBad, host, is_uri, parts};
 pub use splitting::Parts;
