@@ -1,3 +1,4 @@
 pub mod Cutting
 pub mod Reaching
 pub mod Judging
+pub mod Segments

@@ -1,3 +1,4 @@
 pub mod Seen
 pub mod Classes
 pub mod Faults
+pub mod Paths

@@ -2,6 +2,7 @@
 #![tactic(auto)]
 
 mod cuts;
+mod dots;
 mod reach;
 mod reading;
 mod splitting;
