@@ -2,3 +2,5 @@ pub mod Cutting
 pub mod Reaching
 pub mod Judging
 pub mod Segments
+pub mod Kept
+pub mod LastSlash
