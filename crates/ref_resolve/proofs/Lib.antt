@@ -4,3 +4,4 @@ pub mod Judging
 pub mod Segments
 pub mod Kept
 pub mod LastSlash
+pub mod Growing

@@ -25,7 +25,7 @@ first_segment (c ∷ cs) = by_slash (c == slash) refl (first_segment cs)
     by_slash false e h = rw e (ap (onto_first_segment c) h)
 
 -- a segment that another follows is not closed
-closing_behind : (segment path : List ℕ) → with_closing_slash (segment ∷ segments_of path) ≡ segment ∷ with_closing_slash (segments_of path)
+pub closing_behind : (segment path : List ℕ) → with_closing_slash (segment ∷ segments_of path) ≡ segment ∷ with_closing_slash (segments_of path)
 closing_behind segment path = rw (first_segment path) refl
 
 -- the segments of a path, with what closes them, one by one
@@ -52,7 +52,7 @@ pub leading_more : (path next : List ℕ) → is_dot_segment (before slash path)
     → without_leading_dots (with_closing_slash (segments_of path)) ≡ without_leading_dots (with_closing_slash (segments_of next))
 leading_more path next d e =
     let cut : with_closing_slash (segments_of path) ≡ before slash path ∷ with_closing_slash (segments_of next) =
-        ap with_closing_slash (first_segment path) ∙ closing_more (before slash path) (from_first slash path) next e in
+    ap with_closing_slash (first_segment path) ∙ closing_more (before slash path) (from_first slash path) next e in
     ap without_leading_dots cut ∙ rw d refl
 
 -- the first segment is one, and the last

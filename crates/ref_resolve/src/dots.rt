@@ -1,8 +1,8 @@
 // Removing the dot segments of a path (RFC 3986 section 5.2.4).
-ghost use Rattle.std.specs.Prelude.{◌≡◌, ◌<◌, ◌≤◌, [], ◌∷◌, ◌++◌, false, fold, length, take, drop, slice_index, MatchOption, IfSome, OnOk};
+ghost use Rattle.std.specs.Prelude.{◌≡◌, ◌<◌, ◌≤◌, [], ◌∷◌, ◌++◌, ◌||◌, true, false, fold, length, take, drop, slice_index, MatchOption, IfSome, OnOk};
 ghost use Rattle.std.specs.String.{string_bytes};
 ghost use Rattle.std.specs.Str.{IsUtf8};
-ghost use Rattle.document_model.specs.Characters.{slash};
+ghost use Rattle.document_model.specs.Characters.{slash, is_empty};
 ghost use Rattle.document_model.specs.References as references;
 ghost use Rattle.document_model.specs.Resolution as resolution;
 ghost use Rattle.ref_resolve.specs.Paths.{before_last, path_with, closed_segments};
@@ -111,4 +111,35 @@ fn append_last_segment(text: &mut String, start: usize, segment: &str) -> Result
         text.push_str("/")?;
     }
     Ok(())
+}
+
+/// Appends the segments of a path that is empty or begins with a slash, to the path that begins at `start`.
+fn append_segments(text: &mut String, start: usize, path: &str) -> Result<(), Starved>
+    requires within { start ≤ length (string_bytes text.old) }
+    requires utf8 { IsUtf8 (take start (string_bytes text.old)) }
+    requires slash { (is_empty path.now || references.begins_with slash path.now) ≡ true }
+    ensures front { OnOk result (take start (string_bytes text.new) ≡ take start (string_bytes text.old)) }
+    ensures path { OnOk result (drop start (string_bytes text.new) ≡ fold path_with (drop start (string_bytes text.old)) (closed_segments path.now)) }
+{
+    let mut rest = path;
+    'segments: while let Some(behind) = behind_first(rest, '/') {
+        let (segment, next) = split_from(behind, '/');
+        if next.is_empty() {
+            return append_last_segment(text, start, segment);
+        }
+        append_segment(text, start, segment)?;
+        rest = next;
+    }
+    Ok(())
+}
+
+/// Appends a path without its dot segments (RFC 3986 section 5.2.4).
+pub(crate) fn append_without_dots(text: &mut String, path: &str) -> Result<(), Starved>
+    ensures { OnOk result (string_bytes text.new ≡ string_bytes text.old ++ resolution.remove_dot_segments path.now) }
+{
+    let path = without_leading_dots(path);
+    let start = text.as_bytes().len();
+    let (first, rest) = split_from(path, '/');
+    text.push_str(first)?;
+    append_segments(text, start, rest)
 }

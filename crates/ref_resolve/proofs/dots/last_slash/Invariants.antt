@@ -10,5 +10,5 @@ decreases-octets l = length l.rest
 abbrev pub invariant-octets : goal.invariant-octets
 invariant-octets l = record {
   joined : (behind : List ℕ) × (l.text ≡ l.rest ++ behind);
-  before : before_last slash l.rest ≡ before_last slash l.text
+  before : before_last slash l.rest ≡ before_last slash l.text;
 }
