@@ -5,3 +5,4 @@ pub mod Segments
 pub mod Kept
 pub mod LastSlash
 pub mod Growing
+pub mod Merged

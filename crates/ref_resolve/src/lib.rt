@@ -5,7 +5,9 @@ mod cuts;
 mod dots;
 mod reach;
 mod reading;
+mod resolving;
 mod splitting;
 
 pub use reading::{RefBad, host, is_uri, parts};
+pub use resolving::resolve;
 pub use splitting::Parts;
