@@ -1,13 +1,13 @@
 -- `good_prefix` is the length of the longest prefix that begins some document.
-use Rattle.std.proofs.Common.{◌≡◌, ℕ, zero, suc, ◌+◌, ◌<◌, ◌≤◌, min, Bool, true, false, cond, ◌&&◌, List, [], ◌∷◌, ◌++◌, map, take, length, Option, Some, None, is_some, option_map, option_and_then, refl, sym, ap, ◌∙◌, subst, ◌⊎◌, inl, inr, ⊎_elim, arith, codes}
+use Rattle.std.proofs.Common.{◌≡◌, ℕ, zero, suc, ◌<◌, ◌≤◌, min, Bool, true, false, cond, ◌&&◌, List, [], ◌∷◌, ◌++◌, take, length, Option, Some, None, is_some, option_map, option_and_then, refl, sym, ap, ◌∙◌, subst, ◌⊎◌, inl, inr, arith, codes}
 use Rattle.std.specs.Prelude.{◌==◌, if◌then◌else◌, ⊤}
 use Rattle.std.specs.List.{list_all}
 use Rattle.std.specs.Int.{is_in_range}
-use Rattle.std.proofs.lemmas.Bool.{and_parts, true≢false, false≢true, cases_lt, cases_Bool}
+use Rattle.std.proofs.lemmas.Bool.{and_parts, false≢true, cases_lt}
 use Rattle.std.specs.Str.{IsUtf8}
 use Rattle.std.proofs.lemmas.Str.{is_utf8-from_IsUtf8}
 use Rattle.std.proofs.lemmas.Bool.Decides.{nat_tests}
-use Rattle.document_model.specs.Characters.{quote_mark, is_not_control, is_attribute_name_character, is_token_character}
+use Rattle.document_model.specs.Characters.{quote_mark, is_attribute_name_character, is_token_character}
 use Rattle.document_model.specs.Utf8Prefix.{OctetRange, tail, tails_of, one_more, utf8_prefix_after, utf8_prefix}
 use Rattle.document_model.specs.Documents.{Link, IsDocument, BeginsDocument, IsGoodPrefix}
 use Rattle.document_model.specs.DocumentReading.{Place, at_beginning, at_link, at_target, behind_part, at_name, within_name, behind_name, at_value, in_token, in_quotes, behind_backslash, place_after, with_octet, links_at_end, links_from, document, prefix_from, good_prefix}
@@ -204,6 +204,7 @@ begins (b ∷ bs) (r ∷ ranges) place (suc n) h k p = subst (λ (q : Place). So
   where
     in_place : suc n ≤ prefix_from in_quotes (b ∷ bs)
     in_place = subst (λ (q : Place). suc n ≤ prefix_from q (b ∷ bs)) (p.0) k
+
     by_range : (t : Bool) → is_in_range (r.0) (r.1) b ≡ t → suc n ≤ cond t (suc (utf8_prefix_after ranges bs)) 0 → (n ≤ utf8_prefix_after ranges bs → n ≤ prefix_from in_quotes bs → Pending ranges in_quotes → SomeEnding ranges in_quotes (take n bs))
         → SomeEnding (r ∷ ranges) in_quotes (b ∷ take n bs)
     by_range false e x again = absurd (omega arith)

@@ -8,6 +8,12 @@ pub mod DocumentLaws
 pub mod DocumentPlaces
 pub mod DocumentPrefix
 pub mod DocumentSteps
+pub mod FaultHosts
+pub mod FaultPaths
+pub mod FaultSchemes
+pub mod FaultTexts
+pub mod FaultWords
+mod LongExamples
 pub mod MatchingLaws
 pub mod OnLiterals
 mod ParameterExamples
@@ -16,6 +22,7 @@ mod RecordExamples
 pub mod RecordLiterals
 pub mod ReferenceCuts
 mod ReferenceExamples
+pub mod ReferenceFaultLaws
 pub mod ReferenceLaws
 pub mod ReferenceMarks
 pub mod ReferenceReading

@@ -18,19 +18,19 @@ colon_cut text h =
     let here = behind_some colon text (has_octet-before_other slash colon text h) in
     cut colon text ∙ ap (λ (o : Option (List ℕ)). before colon text ++ marked colon o) here
 
-scheme_and_rest : (text : List ℕ) → text ≡ scheme_text (scheme_in text) ++ behind_scheme text
+pub scheme_and_rest : (text : List ℕ) → text ≡ scheme_text (scheme_in text) ++ behind_scheme text
 scheme_and_rest text = by_colon (has_colon_in_first_segment text) refl
   where
     by_colon : (b : Bool) → has_colon_in_first_segment text ≡ b → text ≡ scheme_text (scheme_in text) ++ behind_scheme text
     by_colon true e = rw e (colon_cut text e ∙ sym (append_assoc (before colon text) (colon ∷ []) (unwrap_or (behind colon text) [])))
     by_colon false e = rw e refl
 
-two_slashes : (text rest : List ℕ) → behind_two_slashes text ≡ Some rest → text ≡ slash ∷ slash ∷ rest
+pub two_slashes : (text rest : List ℕ) → behind_two_slashes text ≡ Some rest → text ≡ slash ∷ slash ∷ rest
 two_slashes [] rest h = grind (arith, nat_tests)
 two_slashes (c ∷ []) rest h = grind (arith, nat_tests)
 two_slashes (c ∷ d ∷ cs) rest h = grind (arith, nat_tests)
 
-authority_and_path : (text : List ℕ) → text ≡ authority_text (authority_in text) ++ path_in text
+pub authority_and_path : (text : List ℕ) → text ≡ authority_text (authority_in text) ++ path_in text
 authority_and_path text = by_slashes (behind_two_slashes text) refl
   where
     by_slashes : (o : Option (List ℕ)) → behind_two_slashes text ≡ o → text ≡ authority_text (authority_in text) ++ path_in text

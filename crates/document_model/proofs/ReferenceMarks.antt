@@ -40,20 +40,24 @@ no_mark_in_text test mark t p x (suc n) (c ∷ cs) h =
 
 -- ---- authorities
 
--- what a mark must not be, so that it cannot stand in an authority
-pub record IsNoAuthorityMark (mark : ℕ) : Type 0 where
-  pub userinfo : is_userinfo_character mark ≡ false
+-- what a mark must not be, so that it cannot stand in a host with its port
+pub record IsNoHostMark (mark : ℕ) : Type 0 where
   pub name : is_name_character mark ≡ false
   pub literal : is_literal_character mark ≡ false
   pub digit : is_ascii_digit mark ≡ false
   pub hexdigit : is_ascii_hexdigit mark ≡ false
   pub percent : (mark == percent_sign) ≡ false
   pub colon_octet : (colon == mark) ≡ false
-  pub at : (at_sign == mark) ≡ false
   pub left : (left_bracket == mark) ≡ false
   pub right : (right_bracket == mark) ≡ false
 
-no_mark_in_port : (mark : ℕ) → IsNoAuthorityMark mark → (text : List ℕ) → is_port_text text ≡ true → has_octet mark text ≡ false
+-- the same of an authority
+pub record IsNoAuthorityMark (mark : ℕ) : Type 0 where
+  pub host : IsNoHostMark mark
+  pub userinfo : is_userinfo_character mark ≡ false
+  pub at : (at_sign == mark) ≡ false
+
+no_mark_in_port : (mark : ℕ) → IsNoHostMark mark → (text : List ℕ) → is_port_text text ≡ true → has_octet mark text ≡ false
 no_mark_in_port mark m [] h = refl
 no_mark_in_port mark m (c ∷ cs) h =
     let parts = and_parts (c == colon) (list_all is_ascii_digit cs) h in
@@ -78,7 +82,7 @@ four_parts a b c d h =
     let z = and_parts a b (y.0) in
     (z.0, z.1, y.1, x.1)
 
-no_mark_in_literal : (mark : ℕ) → IsNoAuthorityMark mark → (text : List ℕ) → is_literal_and_port text ≡ true → has_octet mark text ≡ false
+no_mark_in_literal : (mark : ℕ) → IsNoHostMark mark → (text : List ℕ) → is_literal_and_port text ≡ true → has_octet mark text ≡ false
 no_mark_in_literal mark m [] h = refl
 no_mark_in_literal mark m (c ∷ cs) h =
     let inside = before right_bracket cs in
@@ -89,12 +93,12 @@ no_mark_in_literal mark m (c ∷ cs) h =
     (no_mark_in_cut mark right_bracket cs (no_mark_in_run is_literal_character mark m.literal inside (run.1))
     (no_mark_marked mark right_bracket is_port_text m.right (no_mark_in_port mark m) (behind right_bracket cs) (all.2)))
 
-no_mark_in_name : (mark : ℕ) → IsNoAuthorityMark mark → (text : List ℕ) → is_name_and_port text ≡ true → has_octet mark text ≡ false
+no_mark_in_name : (mark : ℕ) → IsNoHostMark mark → (text : List ℕ) → is_name_and_port text ≡ true → has_octet mark text ≡ false
 no_mark_in_name mark m text h =
     let a = and_parts (is_text_of is_name_character (before colon text)) (is_port_text (from_first colon text)) h in
     no_mark_in_cut_from mark colon text (no_mark_in_text is_name_character mark m.name m.percent m.hexdigit 0 (before colon text) (a.0)) (no_mark_in_port mark m (from_first colon text) (a.1))
 
-no_mark_in_host : (mark : ℕ) → IsNoAuthorityMark mark → (text : List ℕ) → is_host_and_port text ≡ true → has_octet mark text ≡ false
+pub no_mark_in_host : (mark : ℕ) → IsNoHostMark mark → (text : List ℕ) → is_host_and_port text ≡ true → has_octet mark text ≡ false
 no_mark_in_host mark m text h = by_kind (or_cases (is_literal_and_port text) (is_name_and_port text) h)
   where
     by_kind : (is_literal_and_port text ≡ true) ⊎ (is_name_and_port text ≡ true) → has_octet mark text ≡ false
@@ -111,8 +115,8 @@ no_mark_in_authority mark m text h =
     by_at true e u r =
         let user : is_text_of is_userinfo_character (before at_sign text) ≡ true = rw e at u in
         let some = behind_some at_sign text e in
-        let rest : has_octet mark (unwrap_or (behind at_sign text) []) ≡ false = no_mark_in_host mark m (unwrap_or (behind at_sign text) []) (rw some at r) in
+        let rest : has_octet mark (unwrap_or (behind at_sign text) []) ≡ false = no_mark_in_host mark m.host (unwrap_or (behind at_sign text) []) (rw some at r) in
         no_mark_in_cut mark at_sign text
-        (no_mark_in_text is_userinfo_character mark m.userinfo m.percent m.hexdigit 0 (before at_sign text) user)
+        (no_mark_in_text is_userinfo_character mark m.userinfo m.host.percent m.host.hexdigit 0 (before at_sign text) user)
         (rw some (no_mark_first mark at_sign (unwrap_or (behind at_sign text) []) m.at rest))
-    by_at false e u r = no_mark_in_host mark m text (rw (behind_none at_sign text e) at r)
+    by_at false e u r = no_mark_in_host mark m.host text (rw (behind_none at_sign text e) at r)

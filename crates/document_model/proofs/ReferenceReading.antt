@@ -11,28 +11,28 @@ use Rattle.document_model.proofs.ReferenceCuts.{before-marked, behind-marked, ha
 use Rattle.document_model.proofs.ReferenceLaws.{some_same}
 use Rattle.document_model.proofs.ReferenceMarks.{no_mark_in_run, no_mark_in_text, no_mark_in_authority, no_mark_first, other_octet, IsNoAuthorityMark}
 
-no_mark_appended : (mark : ℕ) (a b : List ℕ) → has_octet mark a ≡ false → has_octet mark b ≡ false → has_octet mark (a ++ b) ≡ false
+pub no_mark_appended : (mark : ℕ) (a b : List ℕ) → has_octet mark a ≡ false → has_octet mark b ≡ false → has_octet mark (a ++ b) ≡ false
 no_mark_appended mark a b h k = has_octet-append mark a b ∙ rw (h, k) refl
 
-before-append : (mark : ℕ) (a b : List ℕ) → has_octet mark a ≡ false → before mark (a ++ b) ≡ a ++ before mark b
+pub before-append : (mark : ℕ) (a b : List ℕ) → has_octet mark a ≡ false → before mark (a ++ b) ≡ a ++ before mark b
 unfolding before
 before-append mark [] b h = refl
 before-append mark (c ∷ a) b h = grind (arith, nat_tests, before-append mark a b)
 
-from_first-append : (mark : ℕ) (a b : List ℕ) → has_octet mark a ≡ false → from_first mark (a ++ b) ≡ from_first mark b
+pub from_first-append : (mark : ℕ) (a b : List ℕ) → has_octet mark a ≡ false → from_first mark (a ++ b) ≡ from_first mark b
 unfolding from_first
 from_first-append mark [] b h = refl
 from_first-append mark (c ∷ a) b h = grind (arith, nat_tests, from_first-append mark a b)
 
 -- ---- schemes
 
-no_mark_in_scheme : (mark : ℕ) → is_ascii_alphabetic mark ≡ false → is_scheme_character mark ≡ false → (scheme : List ℕ) → is_scheme scheme ≡ true → has_octet mark scheme ≡ false
+pub no_mark_in_scheme : (mark : ℕ) → is_ascii_alphabetic mark ≡ false → is_scheme_character mark ≡ false → (scheme : List ℕ) → is_scheme scheme ≡ true → has_octet mark scheme ≡ false
 no_mark_in_scheme mark a s [] h = refl
 no_mark_in_scheme mark a s (c ∷ cs) h =
     let parts = and_parts (is_ascii_alphabetic c) (list_all is_scheme_character cs) h in
     no_mark_first mark c cs (other_octet is_ascii_alphabetic c mark (parts.0) a) (no_mark_in_run is_scheme_character mark s cs (parts.1))
 
-colon_behind_scheme : (scheme rest : List ℕ) → is_scheme scheme ≡ true → has_colon_in_first_segment (scheme ++ colon ∷ rest) ≡ true
+pub colon_behind_scheme : (scheme rest : List ℕ) → is_scheme scheme ≡ true → has_colon_in_first_segment (scheme ++ colon ∷ rest) ≡ true
 unfolding before
 colon_behind_scheme scheme rest h =
     rw (before-append slash scheme (colon ∷ rest) (no_mark_in_scheme slash refl refl scheme h))
@@ -85,50 +85,50 @@ six_parts a b c d e f h =
 
 no_slash_in_authority : (authority : Option (List ℕ)) → where_given is_authority authority ≡ true → where_given (λ a. not (has_octet slash a)) authority ≡ true
 no_slash_in_authority None h = refl
-no_slash_in_authority (Some a) h = rw (no_mark_in_authority slash (record { userinfo = refl; name = refl; literal = refl; digit = refl; hexdigit = refl; percent = refl; colon_octet = refl; at = refl; left = refl; right = refl }) a h) refl
+no_slash_in_authority (Some a) h = rw (no_mark_in_authority slash (record { host = record { name = refl; literal = refl; digit = refl; hexdigit = refl; percent = refl; colon_octet = refl; left = refl; right = refl }; userinfo = refl; at = refl }) a h) refl
 
 -- a mark that ends a component which may not have it
-record IsEnd (mark : ℕ) : Type 0 where
+pub record IsEnd (mark : ℕ) : Type 0 where
   pub alphabetic : is_ascii_alphabetic mark ≡ false
   pub scheme : is_scheme_character mark ≡ false
   pub path : is_path_character mark ≡ false
   pub authority : IsNoAuthorityMark mark
   pub slash_octet : (slash == mark) ≡ false
 
-end_question_mark : IsEnd question_mark
+pub end_question_mark : IsEnd question_mark
 end_question_mark = record {
   alphabetic = refl;
   scheme = refl;
   path = refl;
   slash_octet = refl;
-  authority = record { userinfo = refl; name = refl; literal = refl; digit = refl; hexdigit = refl; percent = refl; colon_octet = refl; at = refl; left = refl; right = refl };
+  authority = record { host = record { name = refl; literal = refl; digit = refl; hexdigit = refl; percent = refl; colon_octet = refl; left = refl; right = refl }; userinfo = refl; at = refl };
 }
 
-end_number_sign : IsEnd number_sign
+pub end_number_sign : IsEnd number_sign
 end_number_sign = record {
   alphabetic = refl;
   scheme = refl;
   path = refl;
   slash_octet = refl;
-  authority = record { userinfo = refl; name = refl; literal = refl; digit = refl; hexdigit = refl; percent = refl; colon_octet = refl; at = refl; left = refl; right = refl };
+  authority = record { host = record { name = refl; literal = refl; digit = refl; hexdigit = refl; percent = refl; colon_octet = refl; left = refl; right = refl }; userinfo = refl; at = refl };
 }
 
-no_end_before_path : (mark : ℕ) → IsEnd mark → (scheme authority : Option (List ℕ)) (path : List ℕ) → where_given is_scheme scheme ≡ true → where_given is_authority authority ≡ true → is_text_of is_path_character path ≡ true
+pub no_end_before_path : (mark : ℕ) → IsEnd mark → (scheme authority : Option (List ℕ)) (path : List ℕ) → where_given is_scheme scheme ≡ true → where_given is_authority authority ≡ true → is_text_of is_path_character path ≡ true
     → has_octet mark (scheme_text scheme ++ (authority_text authority ++ path)) ≡ false
 no_end_before_path mark m scheme authority path s a p =
     no_mark_appended mark (scheme_text scheme) (authority_text authority ++ path) (in_scheme scheme s)
     (no_mark_appended mark (authority_text authority) path (in_authority authority a)
-    (no_mark_in_text is_path_character mark m.path m.authority.percent m.authority.hexdigit 0 path p))
+    (no_mark_in_text is_path_character mark m.path m.authority.host.percent m.authority.host.hexdigit 0 path p))
   where
     in_scheme : (o : Option (List ℕ)) → where_given is_scheme o ≡ true → has_octet mark (scheme_text o) ≡ false
     in_scheme None h = refl
-    in_scheme (Some text) h = no_mark_appended mark text (colon ∷ []) (no_mark_in_scheme mark m.alphabetic m.scheme text h) (no_mark_first mark colon [] m.authority.colon_octet refl)
+    in_scheme (Some text) h = no_mark_appended mark text (colon ∷ []) (no_mark_in_scheme mark m.alphabetic m.scheme text h) (no_mark_first mark colon [] m.authority.host.colon_octet refl)
 
     in_authority : (o : Option (List ℕ)) → where_given is_authority o ≡ true → has_octet mark (authority_text o) ≡ false
     in_authority None h = refl
     in_authority (Some text) h = no_mark_first mark slash (slash ∷ text) m.slash_octet (no_mark_first mark slash text m.slash_octet (no_mark_in_authority mark m.authority text h))
 
-no_number_sign_in_query : (query : Option (List ℕ)) → where_given (is_text_of is_query_character) query ≡ true → has_octet number_sign (query_text query) ≡ false
+pub no_number_sign_in_query : (query : Option (List ℕ)) → where_given (is_text_of is_query_character) query ≡ true → has_octet number_sign (query_text query) ≡ false
 no_number_sign_in_query None h = refl
 no_number_sign_in_query (Some text) h = no_mark_first number_sign question_mark text refl (no_mark_in_text is_query_character number_sign refl refl refl 0 text h)
 

@@ -1,13 +1,12 @@
 -- Octets that are read one by one as RFC 3629 section 4 says are text in UTF-8.
-use Rattle.std.proofs.Common.{◌≡◌, ℕ, zero, suc, ◌+◌, ◌-◌, ◌*◌, ◌/◌, ◌%◌, ◌<◌, ◌≤◌, Bool, true, false, cond, ◌&&◌, List, [], ◌∷◌, ◌++◌, length, Option, Some, None, refl, sym, ap, ◌∙◌, subst, ◌⊎◌, inl, inr, ⊎_elim, IsUtf8, arith}
-use Rattle.std.specs.Prelude.{◌==◌}
+use Rattle.std.proofs.Common.{◌≡◌, ℕ, zero, suc, ◌+◌, ◌-◌, ◌*◌, ◌/◌, ◌%◌, ◌<◌, ◌≤◌, true, false, ◌&&◌, List, [], ◌∷◌, ◌++◌, length, Some, None, refl, ap, ◌∙◌, ◌⊎◌, inl, inr, ⊎_elim, IsUtf8, arith}
 use Rattle.std.specs.Int.{is_in_range}
 use Rattle.std.specs.Char.{IsScalar, encode_utf8}
 use Rattle.std.specs.Str.{all_scalars, encode_utf8_all}
 use Rattle.std.proofs.lemmas.Bool.{and_parts, and_from, false≢true, cases_lt, cases_eq, cases_order}
 use Rattle.std.proofs.lemmas.Bool.Decides.{nat_tests}
-use Rattle.document_model.specs.Utf8Prefix.{OctetRange, tail, tails_of}
-use Rattle.document_model.proofs.Utf8Reading.{passes, is_utf8_after, one_octet, two_octets, three_octets, four_octets, lead_E0, lead_ED, lead_F0, lead_F4, encode_one, encode_two, encode_three, encode_four, scalar_of}
+use Rattle.document_model.specs.Utf8Prefix.{tail, tails_of}
+use Rattle.document_model.proofs.Utf8Reading.{is_utf8_after, one_octet, two_octets, three_octets, four_octets, lead_E0, lead_ED, lead_F0, lead_F4, encode_one, encode_two, encode_three, encode_four, scalar_of}
 
 from_within : (lo hi b : ℕ) → is_in_range lo hi b ≡ true → (lo ≤ b) × (b ≤ hi)
 from_within lo hi b h = grind (arith, nat_tests)
@@ -44,8 +43,8 @@ octets_three b c d rest l h m k p q first_low surrogate u =
     let low : 2048 ≤ x = ⊎_elim (λ (e : b ≡ 0xE0). let a : 0xA0 ≤ c = first_low e in omega arith) (λ (n : b ≡ 0xE0 → ⊥). let a : 0xE1 ≤ b = omega arith in omega arith) (cases_eq b 0xE0) in
     let high : x < 65536 = omega arith in
     let scalar : (x < 0xD800) ⊎ ((0xE000 ≤ x) × (x < 0x11_0000)) =
-        ⊎_elim (λ (e : b ≡ 0xED). let a : c ≤ 0x9F = surrogate e in inl (omega arith))
-          (λ (o : (b < 0xED) ⊎ (0xED < b)). ⊎_elim (λ (y : b < 0xED). inl (omega arith)) (λ (y : 0xED < b). inr (omega arith, omega arith)) o) (cases_order b 0xED) in
+    ⊎_elim (λ (e : b ≡ 0xED). let a : c ≤ 0x9F = surrogate e in inl (omega arith))
+    (λ (o : (b < 0xED) ⊎ (0xED < b)). ⊎_elim (λ (y : b < 0xED). inl (omega arith)) (λ (y : 0xED < b). inr (omega arith, omega arith)) o) (cases_order b 0xED) in
     let first : 224 + x / 4096 ≡ b = omega arith in
     let second : 128 + (x / 64) % 64 ≡ c = omega arith in
     let third : 128 + x % 64 ≡ d = omega arith in
@@ -61,7 +60,7 @@ octets_four b c d f rest l h m k p q r s first_low last_high u =
     let third : 128 + (x / 64) % 64 ≡ d = omega arith in
     let fourth : 128 + x % 64 ≡ f = omega arith in
     IsUtf8-character x (b ∷ c ∷ d ∷ f ∷ []) rest (scalar_of x (inr (omega arith, high)))
-      (encode_four x low ∙ same_four (240 + x / 262144) (128 + (x / 4096) % 64) (128 + (x / 64) % 64) (128 + x % 64) b c d f first second third fourth) u
+    (encode_four x low ∙ same_four (240 + x / 262144) (128 + (x / 4096) % 64) (128 + (x / 64) % 64) (128 + x % 64) b c d f first second third fourth) u
 
 -- ---- text behind a first octet
 
@@ -109,6 +108,7 @@ after_first n b bs shorter k e = by_range (cases_lt b 128) (cases_lt b 0xC2) (ca
         after_three n b 0x80 0x9F l (omega arith) (omega arith) (omega arith) (λ z. absurd (x z)) (λ _. omega arith) shorter bs k (rw t at e)
     three l h (inr x) (inr y) = let t : tails_of b ≡ Some (tail ∷ tail ∷ []) = three_octets b (omega arith) (omega arith) y in
         after_three n b 0x80 0xBF l (omega arith) (omega arith) (omega arith) (λ z. absurd (x z)) (λ z. absurd (y z)) shorter bs k (rw t at e)
+
     four : 0xF0 ≤ b → b < 0xF5 → (b ≡ 0xF0) ⊎ (b ≡ 0xF0 → ⊥) → (b ≡ 0xF4) ⊎ (b ≡ 0xF4 → ⊥) → IsUtf8 (b ∷ bs)
     four l h (inl x) y = let t : tails_of b ≡ Some ((0x90, 0xBF) ∷ tail ∷ tail ∷ []) = ap tails_of x ∙ lead_F0 in
         after_four n b 0x90 0xBF l (omega arith) (omega arith) (omega arith) (λ _. omega arith) (λ z. absurd (omega arith)) shorter bs k (rw t at e)
@@ -116,6 +116,7 @@ after_first n b bs shorter k e = by_range (cases_lt b 128) (cases_lt b 0xC2) (ca
         after_four n b 0x80 0x8F l (omega arith) (omega arith) (omega arith) (λ z. absurd (x z)) (λ _. omega arith) shorter bs k (rw t at e)
     four l h (inr x) (inr y) = let t : tails_of b ≡ Some (tail ∷ tail ∷ tail ∷ []) = four_octets b (omega arith) (omega arith) in
         after_four n b 0x80 0xBF l (omega arith) (omega arith) (omega arith) (λ z. absurd (x z)) (λ z. absurd (y z)) shorter bs k (rw t at e)
+
     by_range : (b < 128) ⊎ (128 ≤ b) → (b < 0xC2) ⊎ (0xC2 ≤ b) → (b < 0xE0) ⊎ (0xE0 ≤ b) → (b < 0xF0) ⊎ (0xF0 ≤ b) → (b < 0xF5) ⊎ (0xF5 ≤ b) → IsUtf8 (b ∷ bs)
     by_range (inl h) _ _ _ _ = let f : is_utf8_after [] bs ≡ true = rw (one_octet b h) at e in IsUtf8-character b (b ∷ []) bs (scalar_of b (inl (omega arith))) (encode_one b h) (shorter bs k f)
     by_range (inr l) (inl h) _ _ _ = absurd (false≢true (rw (no_lead b (inl (l, h))) at e))

@@ -1,12 +1,11 @@
 -- Which octets are text in UTF-8, octet by octet, as RFC 3629 section 4 says it.
-use Rattle.std.proofs.Common.{◌≡◌, ℕ, zero, suc, ◌+◌, ◌-◌, ◌*◌, ◌/◌, ◌%◌, ◌<◌, ◌≤◌, Bool, true, false, cond, ◌&&◌, ◌||◌, List, [], ◌∷◌, ◌++◌, length, Option, Some, None, refl, sym, ap, ◌∙◌, subst, ◌⊎◌, inl, inr, ⊎_elim, IsUtf8, arith, lt-ltb, le-ltb}
-use Rattle.std.specs.Prelude.{◌==◌}
+use Rattle.std.proofs.Common.{◌≡◌, ℕ, ◌+◌, ◌/◌, ◌%◌, ◌<◌, ◌≤◌, Bool, true, false, ◌&&◌, List, [], ◌∷◌, ◌++◌, Option, Some, None, refl, ap, ◌∙◌, subst, ◌⊎◌, inl, inr, ⊎_elim, IsUtf8, arith, lt-ltb, le-ltb}
 use Rattle.std.specs.Int.{is_in_range}
 use Rattle.std.specs.Char.{IsScalar, encode_utf8}
 use Rattle.std.specs.Str.{all_scalars, encode_utf8_all}
-use Rattle.std.proofs.lemmas.Bool.{and_parts, false≢true, cond-true, cond-false, cases_lt, cases_eq}
+use Rattle.std.proofs.lemmas.Bool.{and_parts, cond-true, cond-false, cases_lt, cases_eq}
 use Rattle.std.proofs.lemmas.Bool.Decides.{nat_tests}
-use Rattle.document_model.specs.Utf8Prefix.{OctetRange, tail, tails_of, utf8_prefix_after}
+use Rattle.document_model.specs.Utf8Prefix.{OctetRange, tail, tails_of}
 
 -- what the test says of the value, and false where there is none
 abbrev pub passes : {A : Type 0} → (A → Bool) → Option A → Bool
@@ -97,6 +96,7 @@ character_three c rest l h k = rw (encode_three c l h) (by_first (cases_lt c 409
   where
     last : is_in_range 0x80 0xBF (128 + c % 64) ≡ true
     last = within 0x80 0xBF (128 + c % 64) (omega arith) (omega arith)
+
     by_first : (c < 4096) ⊎ (4096 ≤ c) → (c / 4096 ≡ 13) ⊎ (c / 4096 ≡ 13 → ⊥) → is_utf8_after [] ((224 + c / 4096) ∷ (128 + (c / 64) % 64) ∷ (128 + c % 64) ∷ rest) ≡ is_utf8_after [] rest
     by_first (inl low) e =
         let first : 224 + c / 4096 ≡ 0xE0 = omega arith in
@@ -113,21 +113,23 @@ character_four c rest l h = rw (encode_four c l) (by_first (cases_lt c 262144) (
   where
     third : is_in_range 0x80 0xBF (128 + (c / 64) % 64) ≡ true
     third = within 0x80 0xBF (128 + (c / 64) % 64) (omega arith) (omega arith)
+
     last : is_in_range 0x80 0xBF (128 + c % 64) ≡ true
     last = within 0x80 0xBF (128 + c % 64) (omega arith) (omega arith)
+
     by_first : (c < 262144) ⊎ (262144 ≤ c) → (c < 1048576) ⊎ (1048576 ≤ c)
         → is_utf8_after [] ((240 + c / 262144) ∷ (128 + (c / 4096) % 64) ∷ (128 + (c / 64) % 64) ∷ (128 + c % 64) ∷ rest) ≡ is_utf8_after [] rest
     by_first (inl low) e =
         let first : 240 + c / 262144 ≡ 0xF0 = omega arith in
         read_four (240 + c / 262144) (128 + (c / 4096) % 64) (128 + (c / 64) % 64) (128 + c % 64) (0x90, 0xBF) tail tail rest (ap tails_of first ∙ lead_F0)
-          (within 0x90 0xBF (128 + (c / 4096) % 64) (omega arith) (omega arith)) third last
+        (within 0x90 0xBF (128 + (c / 4096) % 64) (omega arith) (omega arith)) third last
     by_first (inr high) (inl low) =
         read_four (240 + c / 262144) (128 + (c / 4096) % 64) (128 + (c / 64) % 64) (128 + c % 64) tail tail tail rest (four_octets (240 + c / 262144) (omega arith) (omega arith))
-          (within 0x80 0xBF (128 + (c / 4096) % 64) (omega arith) (omega arith)) third last
+        (within 0x80 0xBF (128 + (c / 4096) % 64) (omega arith) (omega arith)) third last
     by_first (inr high) (inr most) =
         let first : 240 + c / 262144 ≡ 0xF4 = omega arith in
         read_four (240 + c / 262144) (128 + (c / 4096) % 64) (128 + (c / 64) % 64) (128 + c % 64) (0x80, 0x8F) tail tail rest (ap tails_of first ∙ lead_F4)
-          (within 0x80 0x8F (128 + (c / 4096) % 64) (omega arith) (omega arith)) third last
+        (within 0x80 0x8F (128 + (c / 4096) % 64) (omega arith) (omega arith)) third last
 
 -- a character in front leaves the text that follows
 character_first : (c : ℕ) (rest : List ℕ) → IsScalar c → is_utf8_after [] (encode_utf8 c ++ rest) ≡ is_utf8_after [] rest

@@ -2,3 +2,10 @@ pub mod Cuts
 pub mod Digits
 pub mod Parts
 pub mod Registering
+pub mod Performing
+pub mod Writing
+pub mod LineDone
+pub mod LineFeeds
+pub mod Fronts
+pub mod Journeys
+pub mod LastLines

@@ -144,7 +144,7 @@ text (row ∷ rows) = text rows ++ flat_map out_line row.sent
 
 -- the last line: how many entries and registrations there are, and no observers
 unfoldable pub end_line : List Row → List ℕ
-end_line rows = codes "end " ++ decimal (entries rows) ++ codes " " ++ decimal (drawn rows) ++ codes " 0" ++ 10 ∷ []
+end_line rows = codes "end " ++ (decimal (entries rows) ++ (codes " " ++ (decimal (drawn rows) ++ codes " 0\n")))
 
 -- whether a step ends a job
 abbrev pub is_go : Line → Bool

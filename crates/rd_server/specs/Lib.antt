@@ -5,3 +5,6 @@ pub mod Reading
 pub mod Views
 pub mod Journal
 pub mod Standing
+pub mod Endings
+pub mod Going
+pub mod Faults

@@ -107,12 +107,12 @@ line_of text = if nat_lt longest_line (length text) then None else worded (behin
 -- an address as text (RFC 5952), an IPv6 address in brackets
 abbrev pub host_text : Host → List ℕ
 host_text (host.V4 octets) = ipv4_text octets
-host_text (host.V6 groups) = codes "[" ++ ipv6_text groups ++ codes "]"
+host_text (host.V6 groups) = codes "[" ++ (ipv6_text groups ++ codes "]")
 
 -- a peer as text
 unfoldable pub peer_text : Peer → List ℕ
-peer_text peer = host_text peer.host ++ codes ":" ++ decimal peer.port
+peer_text peer = host_text peer.host ++ (codes ":" ++ decimal peer.port)
 
 -- a datagram that was sent, as a line of the output
 unfoldable pub out_line : Peer × List ℕ → List ℕ
-out_line sent = codes "out 0 " ++ peer_text sent.0 ++ codes " " ++ encode_lower sent.1 ++ 10 ∷ []
+out_line sent = codes "out 0 " ++ (peer_text sent.0 ++ (codes " " ++ (encode_lower sent.1 ++ codes "\n")))

@@ -129,4 +129,15 @@ impl Desk {
         append_location(alloc, &mut answer, number)?;
         Ok(Some((peer, answer)))
     }
+
+    /// The line that ends an output.
+    #[tactic(auto, unfolding(crate::specs::Journal::end_line))]
+    pub fn end_line(&self, alloc: Global) -> Result<Bytes, Starved>
+        ensures { IfOk result (λ text. (rows : List Row) → StandsFor rows self.now → text ≡ journal.end_line rows) }
+    {
+        let entries = self.entries;
+        let drawn = self.registry.drawn();
+        let text = format!(in alloc; "end {entries} {drawn} 0\n")?;
+        Ok(Bytes::of(text.into_bytes()))
+    }
 }

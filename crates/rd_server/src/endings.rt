@@ -18,6 +18,19 @@ pub struct LineBad {
     pub why: Reason,
 }
 
+/// Why a replay stops before the trace is done.
+#[derive(Clone, Copy, Debug, PartialEq, Eq)]
+pub enum Stop {
+    /// A line is bad.
+    Bad(LineBad),
+    /// The output failed.
+    Unwritten,
+    /// The source failed.
+    Unread,
+    /// Memory was wanted.
+    Starved,
+}
+
 /// How a replay ends, with its exit status.
 #[derive(Clone, Copy, Debug, PartialEq, Eq)]
 pub enum Status {

@@ -7,3 +7,4 @@ mod fields;
 mod forms;
 mod lines;
 mod registry;
+mod sessions;

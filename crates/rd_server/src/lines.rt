@@ -1,6 +1,7 @@
 // The lines of a trace.
 ghost use Rattle.std.specs.Prelude.{◌≡◌, ◌≤◌, ◌<◌, option_map, length, IfOk, IfSome};
 ghost use Rattle.std.specs.List.{list_all};
+ghost use Rattle.std.specs.String.{string_bytes};
 ghost use Rattle.std.specs.Result.{result_ok};
 ghost use Rattle.hex.specs.Hex.{decode_of};
 ghost use Rattle.rd_server.specs.TraceLines as trace;
@@ -8,7 +9,8 @@ ghost use Rattle.rd_server.specs.Reading.{Reads};
 
 use crate::fields::{behind, cut, number_of};
 use rd_base::{Bytes, Host, Moment, Peer, Starved};
-use std::alloc::Global;
+use std::alloc::{AllocError, Global};
+use std::net::{Ipv4Addr, Ipv6Addr};
 
 /// A line of a trace.
 #[derive(Debug, Drop)]
@@ -150,7 +152,7 @@ fn go_of(text: &[u8]) -> Option<Line>
 }
 
 /// No line has more octets.
-const LONGEST_LINE: usize = 8600;
+pub const LONGEST_LINE: usize = 8600;
 
 /// The line that a text spells.
 #[tactic(auto, unfolding(crate::specs::TraceLines::line_of))]
@@ -167,4 +169,37 @@ pub fn line_of(alloc: Global, text: &[u8]) -> Result<Line, LineFault>
         return go_of(rest).ok_or(LineFault::Form);
     }
     Err(LineFault::Form)
+}
+
+fn host_text(alloc: Global, host: &Host) -> Result<String, AllocError>
+    ensures { IfOk result (λ text. string_bytes text ≡ trace.host_text host.now) }
+{
+    match host {
+        Host::V4(octets) => Ipv4Addr::from(*octets).to_string(alloc),
+        Host::V6(groups) => {
+            let address = Ipv6Addr::from(*groups);
+            format!(in alloc; "[{address}]")
+        }
+    }
+}
+
+/// A peer as text (RFC 5952), as `192.0.2.1:5683`.
+#[tactic(auto, unfolding(crate::specs::TraceLines::peer_text))]
+fn peer_text(alloc: Global, peer: &Peer) -> Result<String, AllocError>
+    ensures { IfOk result (λ text. string_bytes text ≡ trace.peer_text peer.now) }
+{
+    let host = host_text(alloc, &peer.host)?;
+    let port = peer.port;
+    format!(in alloc; "{host}:{port}")
+}
+
+/// A datagram that was sent, as a line of the output.
+#[tactic(auto, unfolding(crate::specs::TraceLines::out_line))]
+pub fn out_line(alloc: Global, peer: &Peer, datagram: &[u8]) -> Result<Bytes, Starved>
+    ensures { IfOk result (λ text. text ≡ trace.out_line (peer.now, datagram.now)) }
+{
+    let peer = peer_text(alloc, peer)?;
+    let digits = hex::encode(alloc, datagram)?;
+    let text = format!(in alloc; "out 0 {peer} {digits}\n")?;
+    Ok(Bytes::of(text.into_bytes()))
 }

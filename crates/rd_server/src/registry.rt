@@ -48,4 +48,11 @@ impl Registry {
         self.drawn = number;
         Ok(number)
     }
+
+    /// How many names have a number.
+    pub fn drawn(&self) -> u64
+        ensures { result ≡ self.now.drawn }
+    {
+        self.drawn
+    }
 }

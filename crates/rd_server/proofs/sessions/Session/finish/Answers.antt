@@ -1,0 +1,5 @@
+use Rattle.rd_server.proofs.LastLines.{finished}
+use Rattle.rd_server.proofs.sessions.Session.finish.Goals as goal
+
+pub returns-clause-finished : goal.returns-clause-finished
+returns-clause-finished g c place at = finished place c.last_line.new.self _ _ _ _ (c.in_default.ensures.done place at) c.write_end.ensures.written

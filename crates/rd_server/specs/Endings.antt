@@ -1,0 +1,72 @@
+-- How a replay ends: its status, what stands in the output and on the error sink, and why.
+use Rattle.std.specs.Prelude.{◌≡◌, ℕ, ◌≤◌, List, [], ◌∷◌, ◌++◌, codes, decimal, Bool, true, false, Option, Some, None, if◌then◌else◌, bytes_eq}
+use Rattle.std.specs.Io.KnownBytes.{Appends}
+use Rattle.rd_base.specs.Outside.{Rose}
+use Rattle.rd_server.specs.declared.endings.Reason.{Reason}
+use Rattle.rd_server.specs.declared.endings.Reason.TheVariants as reason
+use Rattle.rd_server.specs.declared.endings.LineBad.{LineBad}
+use Rattle.rd_server.specs.declared.endings.Status.{Status}
+use Rattle.rd_server.specs.declared.endings.Status.TheVariants as status
+use Rattle.rd_server.specs.Journal.{Journal, text, end_line}
+
+-- a text is the beginning of another
+abbrev pub IsFrontOf : List ℕ → List ℕ → Type 0
+IsFrontOf front whole = (rest : List ℕ) × (whole ≡ front ++ rest)
+
+-- the last line stands only behind a journal without a bad line
+abbrev pub ending : Journal → List ℕ
+ending journal = elim journal.bad as (λ _. List ℕ) [ None ↦ end_line journal.rows | Some bad ↦ [] ]
+
+-- the whole output of a journal
+abbrev pub whole_text : Journal → List ℕ
+whole_text journal = text journal.rows ++ ending journal
+
+-- what a sink holds after a replay that ended so
+abbrev pub IsWritten : Journal → Option (List ℕ) → Option (List ℕ) → Status → Type 0
+IsWritten journal before now status.Done = (journal.bad ≡ None) × Appends before now (text journal.rows ++ end_line journal.rows)
+IsWritten journal before now (status.Line bad) = (journal.bad ≡ Some bad) × Appends before now (text journal.rows)
+IsWritten journal before now status.ReadFault = (front : List ℕ) × IsFrontOf front (whole_text journal) × Appends before now front
+IsWritten journal before now status.WriteFault = (front : List ℕ) × IsFrontOf front (whole_text journal) × Appends before now front
+IsWritten journal before now status.Memory = (front : List ℕ) × IsFrontOf front (whole_text journal) × Appends before now front
+IsWritten journal before now status.Usage = Appends before now []
+
+-- where a line is bad, no other line is reported and the replay is not done; where none is, none is reported
+abbrev pub EndsBy : Option LineBad → Status → Type 0
+EndsBy None (status.Line bad) = ⊥
+EndsBy (Some first) (status.Line bad) = bad ≡ first
+EndsBy (Some first) status.Done = ⊥
+EndsBy _ _ = Unit {0}
+
+-- the count of the source rose exactly where the reading is at fault
+abbrev pub CountsReads : ℕ → ℕ → Status → Type 0
+CountsReads before now status.ReadFault = (before ≤ now) × Rose before now
+CountsReads before now _ = now ≡ before
+
+-- the count of the output rose exactly where the writing is at fault
+abbrev pub CountsWrites : ℕ → ℕ → Status → Type 0
+CountsWrites before now status.WriteFault = (before ≤ now) × Rose before now
+CountsWrites before now _ = now ≡ before
+
+-- the name of a reason
+abbrev pub reason_text : Reason → List ℕ
+reason_text reason.Form = codes "form"
+reason_text reason.Busy = codes "busy"
+
+-- what is said of a status on the error sink
+unfoldable pub status_text : Status → List ℕ
+status_text status.Done = []
+status_text status.ReadFault = codes "read failed\n"
+status_text status.WriteFault = codes "write failed\n"
+status_text status.Usage = codes "usage: rd_replay [--workers N] [--make N]\n"
+status_text (status.Line bad) = codes "line " ++ (decimal bad.line ++ (codes ": " ++ (reason_text bad.why ++ codes "\n")))
+status_text status.Memory = codes "memory\n"
+
+-- a front of what is said of the status stands on the error sink
+abbrev pub IsReported : Option (List ℕ) → Option (List ℕ) → Status → Type 0
+IsReported before now status = (front : List ℕ) × IsFrontOf front (status_text status) × Appends before now front
+
+-- the words are none, or the one word for one worker
+abbrev pub are_words : List (List ℕ) → Bool
+are_words [] = true
+are_words (word ∷ []) = bytes_eq word (codes "--workers=1")
+are_words (word ∷ other ∷ words) = false
