@@ -137,7 +137,8 @@ fn fault_of(parts: &Parts<'_>, size: usize) -> Option<usize>
 pub fn parts(text: &str) -> Result<Parts<'_>, RefBad>
     ensures found { IfOk result (λ read. references.IsReference text.now (components_of read)) }
     ensures only { (c : references.Components) → references.IsReference text.now c → IsOkAnd result (λ read. components_of read ≡ c) }
-    ensures place { IfErr result (λ bad. faults.reference_fault_at text.now ≡ Some bad.at) }
+    ensures place { IfErr result (λ bad. faults.IsReferenceFault text.now bad.at) }
+    ensures exact { IfErr result (λ bad. faults.reference_fault_at text.now ≡ Some bad.at) }
 {
     let parts = apart(text);
     match fault_of(&parts, text.len()) {
