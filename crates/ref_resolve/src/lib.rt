@@ -11,3 +11,6 @@ mod splitting;
 pub use reading::{RefBad, host, is_uri, parts};
 pub use resolving::resolve;
 pub use splitting::Parts;
+
+#[cfg(test)]
+mod tests;

@@ -31,10 +31,10 @@ fn target_authority<'a>(base: &Parts<'a>, reference: &Parts<'a>) -> Option<&'a s
     if reference.scheme.is_some() {
         return reference.authority;
     }
-    if reference.authority.is_some() {
-        return reference.authority;
+    match reference.authority {
+        Some(authority) => Some(authority),
+        None => base.authority,
     }
-    base.authority
 }
 
 /// The query of the reference, or that of the base where the reference has nothing before its fragment.
