@@ -149,9 +149,14 @@ userinfo_of authority = if has_octet at_sign authority then Some (before at_sign
 abbrev pub behind_userinfo : List ℕ → List ℕ
 behind_userinfo authority = unwrap_or (behind at_sign authority) authority
 
+-- the text up to and with the first octet of that kind, or all of it
+unfoldable pub through : ℕ → List ℕ → List ℕ
+through mark [] = []
+through mark (c ∷ cs) = if c == mark then c ∷ [] else c ∷ through mark cs
+
 -- the host at the beginning of a text, an IP literal with its brackets (RFC 3986 section 3.2.2)
 abbrev pub host_in : List ℕ → List ℕ
-host_in text = if begins_with left_bracket text then before right_bracket text ++ right_bracket ∷ [] else before colon text
+host_in text = if begins_with left_bracket text then through right_bracket text else before colon text
 
 -- a colon, and then digits or none; or nothing (RFC 3986 section 3.2.3)
 abbrev pub is_port_text : List ℕ → Bool

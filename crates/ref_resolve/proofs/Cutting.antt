@@ -1,0 +1,121 @@
+-- What stands before and behind an octet, from where a search finds it.
+use Rattle.std.proofs.Common.{◌≡◌, ℕ, zero, suc, ◌+◌, ◌-◌, ◌<◌, Bool, true, false, not, ◌&&◌, ◌||◌, List, [], ◌∷◌, ◌++◌, Option, Some, None, length, get_or, take, drop, option_map, is_some, if◌then◌else◌, refl, sym, ap, ◌∙◌, add-one, arith}
+use Rattle.std.specs.Prelude.{◌==◌}
+use Rattle.std.proofs.lemmas.Bool.Decides.{nat_tests}
+use Rattle.std.specs.List.{slice_range}
+use Rattle.std.specs.Option.{MatchOption}
+use denote.Ref.{Bor}
+use mathlib.Core.Logic.{◌≢◌}
+use Rattle.document_model.specs.Characters.{colon, slash}
+use Rattle.document_model.specs.References.{before, behind, begins_with, from_first, through, has_octet, has_colon_in_first_segment, scheme_in, behind_scheme, behind_two_slashes}
+use Rattle.document_model.proofs.ReferenceCuts.{before-marked, behind-marked}
+
+-- an octet that stands at no place does not stand in the text
+pub octet_nowhere : (mark : ℕ) (text : List ℕ) → ((i : ℕ) → i < length text → get_or text i 0 ≢ mark) → has_octet mark text ≡ false
+octet_nowhere mark [] h = refl
+octet_nowhere mark (c ∷ cs) h =
+    let here : c ≢ mark = h 0 (omega arith) in
+    let rest : has_octet mark cs ≡ false = octet_nowhere mark cs (λ i l. h (suc i) (omega (arith, l))) in
+    grind (arith, nat_tests, here, rest)
+
+-- where it does not stand, all of the text stands before it
+pub before_nowhere : (mark : ℕ) (text : List ℕ) → has_octet mark text ≡ false → before mark text ≡ text
+unfolding before
+before_nowhere mark [] h = refl
+before_nowhere mark (c ∷ cs) h = grind (arith, nat_tests, before_nowhere mark cs)
+
+pub behind_nowhere : (mark : ℕ) (text : List ℕ) → has_octet mark text ≡ false → behind mark text ≡ None
+unfolding behind
+behind_nowhere mark [] h = refl
+behind_nowhere mark (c ∷ cs) h = grind (arith, nat_tests, behind_nowhere mark cs)
+
+pub from_nowhere : (mark : ℕ) (text : List ℕ) → has_octet mark text ≡ false → from_first mark text ≡ []
+unfolding from_first
+from_nowhere mark [] h = refl
+from_nowhere mark (c ∷ cs) h = grind (arith, nat_tests, from_nowhere mark cs)
+
+-- the parts of a text round its first mark
+pub before_parts : (mark : ℕ) (text front back : List ℕ) → text ≡ front ++ (mark ∷ back) → ((i : ℕ) → i < length front → get_or front i 0 ≢ mark) → before mark text ≡ front
+before_parts mark text front back e h = ap (before mark) e ∙ before-marked mark front (Some back) (octet_nowhere mark front h)
+
+pub behind_parts : (mark : ℕ) (text front back : List ℕ) → text ≡ front ++ (mark ∷ back) → ((i : ℕ) → i < length front → get_or front i 0 ≢ mark) → behind mark text ≡ Some back
+behind_parts mark text front back e h = ap (behind mark) e ∙ behind-marked mark front (Some back) (octet_nowhere mark front h)
+
+-- the parts of a text at the place of its first mark
+pub before_place : (mark place : ℕ) (text : List ℕ) → place < length text → get_or text place 0 ≡ mark → ((i : ℕ) → i < place → get_or text i 0 ≢ mark) → before mark text ≡ take place text
+unfolding before
+before_place mark place [] l e h = absurd (omega (arith, l))
+before_place mark zero (c ∷ cs) l e h = grind (arith, nat_tests, e)
+before_place mark (suc place) (c ∷ cs) l e h =
+    let here : c ≢ mark = h 0 (omega arith) in
+    let rest : before mark cs ≡ take place cs = before_place mark place cs (omega (arith, l)) e (λ i k. h (suc i) (omega (arith, k))) in
+    grind (arith, nat_tests, here, rest)
+
+pub from_place : (mark place : ℕ) (text : List ℕ) → place < length text → get_or text place 0 ≡ mark → ((i : ℕ) → i < place → get_or text i 0 ≢ mark) → from_first mark text ≡ drop place text
+unfolding from_first
+from_place mark place [] l e h = absurd (omega (arith, l))
+from_place mark zero (c ∷ cs) l e h = grind (arith, nat_tests, e)
+from_place mark (suc place) (c ∷ cs) l e h =
+    let here : c ≢ mark = h 0 (omega arith) in
+    let rest : from_first mark cs ≡ drop place cs = from_place mark place cs (omega (arith, l)) e (λ i k. h (suc i) (omega (arith, k))) in
+    grind (arith, nat_tests, here, rest)
+
+-- what stands before the first mark, and that mark
+pub through_place : (mark place : ℕ) (text : List ℕ) → place < length text → get_or text place 0 ≡ mark → ((i : ℕ) → i < place → get_or text i 0 ≢ mark) → through mark text ≡ take (suc place) text
+unfolding through
+through_place mark place [] l e h = absurd (omega (arith, l))
+through_place mark zero (c ∷ cs) l e h = grind (arith, nat_tests, e)
+through_place mark (suc place) (c ∷ cs) l e h =
+    let here : c ≢ mark = h 0 (omega arith) in
+    let rest : through mark cs ≡ take (suc place) cs = through_place mark place cs (omega (arith, l)) e (λ i k. h (suc i) (omega (arith, k))) in
+    grind (arith, nat_tests, here, rest)
+
+pub front_range : (text : List ℕ) (place : ℕ) → slice_range text 0 (place + 1) ≡ take (suc place) text
+front_range text place = let same : place + 1 - 0 ≡ suc place = omega arith in ap (λ n. take n text) same
+
+pub through_nowhere : (mark : ℕ) (text : List ℕ) → has_octet mark text ≡ false → through mark text ≡ text
+unfolding through
+through_nowhere mark [] h = refl
+through_nowhere mark (c ∷ cs) h = grind (arith, nat_tests, through_nowhere mark cs)
+
+-- a colon stands in the first segment where one stands in the text, and no slash before the first
+pub colon_before_slash : (text : List ℕ) → has_colon_in_first_segment text ≡ (is_some (behind colon text) && not (has_octet slash (before colon text)))
+unfolding before behind
+colon_before_slash [] = refl
+colon_before_slash (c ∷ cs) = grind (arith, nat_tests, colon_before_slash cs)
+
+-- one slash, and no other behind it
+pub not_two_slashes : (text : List ℕ) → ((rest : List ℕ) → text ≢ slash ∷ rest) → behind_two_slashes text ≡ None
+not_two_slashes [] h = refl
+not_two_slashes (c ∷ []) h = refl
+not_two_slashes (c ∷ d ∷ cs) h =
+    let here : c ≢ slash = λ e. h (d ∷ cs) (ap (λ x. x ∷ d ∷ cs) e) in
+    grind (arith, nat_tests, here)
+
+pub one_slash : (text rest : List ℕ) → text ≡ slash ∷ rest → ((more : List ℕ) → rest ≢ slash ∷ more) → behind_two_slashes text ≡ None
+one_slash text [] e h = rw e refl
+one_slash text (d ∷ cs) e h =
+    let here : d ≢ slash = λ k. h cs (ap (λ x. x ∷ cs) k) in
+    let none : behind_two_slashes (slash ∷ d ∷ cs) ≡ None = grind (arith, nat_tests, here) in
+    ap behind_two_slashes e ∙ none
+
+pub two_slashes : (text rest more : List ℕ) → text ≡ slash ∷ rest → rest ≡ slash ∷ more → behind_two_slashes text ≡ Some more
+two_slashes text rest more e f = ap behind_two_slashes (e ∙ ap (λ x. slash ∷ x) f)
+
+-- what a second slash leaves, as a search behind the first finds it
+pub behind_one_slash : (text rest : List ℕ) (found : Option (Bor (List ℕ))) → text ≡ slash ∷ rest → MatchOption found ((more : List ℕ) → rest ≢ slash ∷ more) (λ x. rest ≡ slash ∷ x.now)
+    → option_map (λ x. x.now) found ≡ behind_two_slashes text
+behind_one_slash text rest None e h = sym (one_slash text rest e h)
+behind_one_slash text rest (Some more) e h = sym (two_slashes text rest more.now e h)
+
+-- a text that begins with the mark, and one that does not
+no_first : (mark : ℕ) (text : List ℕ) → ((rest : List ℕ) → text ≢ mark ∷ rest) → begins_with mark text ≡ false
+no_first mark [] h = refl
+no_first mark (c ∷ cs) h =
+    let here : c ≢ mark = λ e. h cs (ap (λ x. x ∷ cs) e) in
+    grind (arith, nat_tests, here)
+
+pub stripped : (mark : ℕ) (text : List ℕ) (found : Option (Bor (List ℕ))) → MatchOption found ((rest : List ℕ) → text ≢ mark ∷ rest) (λ x. text ≡ mark ∷ x.now)
+    → MatchOption found (begins_with mark text ≡ false) (λ x. text ≡ mark ∷ x.now)
+stripped mark text None h = no_first mark text h
+stripped mark text (Some rest) h = h

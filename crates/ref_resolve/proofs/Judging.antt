@@ -1,0 +1,100 @@
+-- The components that a text is taken apart into are judged one by one.
+use Rattle.std.proofs.Common.{◌≡◌, ℕ, ◌+◌, ◌-◌, ◌<◌, Bool, true, false, not, ◌&&◌, ◌||◌, List, [], ◌∷◌, ◌++◌, Option, Some, None, is_some, unwrap_or, length, if◌then◌else◌, refl, sym, ap, ◌∙◌, length-append, arith}
+use Rattle.std.specs.Prelude.{◌==◌}
+use Rattle.std.proofs.lemmas.Bool.Decides.{nat_tests}
+use Rattle.document_model.specs.Characters.{slash, colon, is_empty, is_path_character, is_query_character}
+use Rattle.document_model.specs.References.{Components, begins_with, from_first, without_query, has_colon_in_first_segment, scheme_in, behind_scheme, behind_two_slashes, authority_in, path_in, components, recomposed, scheme_text, authority_text, query_text, fragment_text, where_given, is_scheme, is_authority, is_text_of, path_fits, is_allowed, IsReference}
+use Rattle.document_model.specs.ReferenceFaults.{text_prefix, prefix_of_parts, parts_of, reference_fault_at}
+use Rattle.document_model.proofs.ReferenceLaws.{recomposed-components}
+use Rattle.document_model.proofs.ReferenceReading.{components-recomposed}
+use Rattle.ref_resolve.specs.Faults.{have_no_fault, size_of}
+
+-- ---- the path of components that a text is taken apart into fits
+
+path_behind_authority : (text : List ℕ) → (is_empty (from_first slash text) || begins_with slash (from_first slash text)) ≡ true
+unfolding from_first
+path_behind_authority [] = refl
+path_behind_authority (c ∷ cs) = grind (arith, nat_tests, path_behind_authority cs)
+
+abbrev fits : Option (List ℕ) → Option (List ℕ) → List ℕ → Bool
+fits scheme authority path = path_fits (record { scheme = scheme; authority = authority; path = path; query = None; fragment = None })
+
+fits_alone : (scheme : Option (List ℕ)) (rest : List ℕ) → (is_some scheme || not (has_colon_in_first_segment rest)) ≡ true → behind_two_slashes rest ≡ None → fits scheme None rest ≡ true
+fits_alone scheme rest h e = rw e h
+
+fits_taken_apart : (text : List ℕ) → fits (scheme_in text) (authority_in (behind_scheme text)) (path_in (behind_scheme text)) ≡ true
+fits_taken_apart text = by_colon (has_colon_in_first_segment text) refl
+  where
+    by_slashes : (scheme : Option (List ℕ)) (rest : List ℕ) → (is_some scheme || not (has_colon_in_first_segment rest)) ≡ true → (o : Option (List ℕ)) → behind_two_slashes rest ≡ o → fits scheme (authority_in rest) (path_in rest) ≡ true
+    by_slashes scheme rest h None e = rw e (fits_alone scheme rest h e)
+    by_slashes scheme rest h (Some behind) e = rw e (path_behind_authority behind)
+
+    by_colon : (b : Bool) → has_colon_in_first_segment text ≡ b → fits (scheme_in text) (authority_in (behind_scheme text)) (path_in (behind_scheme text)) ≡ true
+    by_colon true e = by_slashes (scheme_in text) (behind_scheme text) (rw e refl) (behind_two_slashes (behind_scheme text)) refl
+    by_colon false e = by_slashes (scheme_in text) (behind_scheme text) (rw (e, e) refl) (behind_two_slashes (behind_scheme text)) refl
+
+path_fits_taken_apart : (text : List ℕ) → path_fits (components text) ≡ true
+unfolding components
+path_fits_taken_apart text = fits_taken_apart (without_query text)
+
+-- ---- so each component alone decides
+
+middle_true : (a b c d e f : Bool) → d ≡ true → (a && b && c && d && e && f) ≡ (a && b && c && e && f)
+middle_true true true true d e f h = rw h refl
+middle_true true true false d e f h = refl
+middle_true true false c d e f h = refl
+middle_true false b c d e f h = refl
+
+pub allowed_taken_apart : (text : List ℕ) → is_allowed (components text) ≡ have_no_fault (components text)
+allowed_taken_apart text =
+    let c = components text in
+    middle_true (where_given is_scheme c.scheme) (where_given is_authority c.authority) (is_text_of is_path_character c.path) (path_fits c)
+    (where_given (is_text_of is_query_character) c.query) (where_given (is_text_of is_query_character) c.fragment) (path_fits_taken_apart text)
+
+-- ---- what is read
+
+pub read_reference : (text : List ℕ) (c : Components) → c ≡ components text → have_no_fault c ≡ true → IsReference text c
+read_reference text c e h = record {
+  spelled = sym (ap recomposed e ∙ recomposed-components text);
+  allowed = ap is_allowed e ∙ allowed_taken_apart text ∙ sym (ap have_no_fault e) ∙ h;
+}
+
+pub read_alone : (text : List ℕ) (c d : Components) → c ≡ components text → IsReference text d → c ≡ d
+read_alone text c d e r = e ∙ ap components r.spelled ∙ components-recomposed d r.allowed
+
+pub not_read : (text : List ℕ) (c d : Components) → c ≡ components text → have_no_fault c ≡ false → IsReference text d → ⊥
+not_read text c d e h r =
+    let same : d ≡ components text = sym (read_alone text c d e r) ∙ e in
+    let good : have_no_fault c ≡ true = ap have_no_fault e ∙ sym (allowed_taken_apart text) ∙ sym (ap is_allowed same) ∙ r.allowed in
+    true_false (sym good ∙ h)
+  where
+    true_false : true ≡ false → ⊥
+    true_false k = cc
+
+pub place_of_fault : (text : List ℕ) (c : Components) (at : ℕ) → c ≡ components text → have_no_fault c ≡ false → at ≡ prefix_of_parts (parts_of c) → reference_fault_at text ≡ Some at
+unfolding reference_fault_at
+place_of_fault text c at e h k =
+    let bad : is_allowed (components text) ≡ false = allowed_taken_apart text ∙ sym (ap have_no_fault e) ∙ h in
+    rw bad (ap (λ (n : ℕ). Some n) (ap (λ (x : Components). prefix_of_parts (parts_of x)) (sym e) ∙ sym k))
+
+-- ---- how long the parts are
+
+sizes : (c : Components) → length (recomposed c) ≡ size_of c
+unfolding recomposed
+sizes c = omega (
+  arith,
+  length-append (scheme_text c.scheme) (authority_text c.authority ++ (c.path ++ (query_text c.query ++ fragment_text c.fragment))),
+  length-append (authority_text c.authority) (c.path ++ (query_text c.query ++ fragment_text c.fragment)),
+  length-append c.path (query_text c.query ++ fragment_text c.fragment),
+  length-append (query_text c.query) (fragment_text c.fragment),
+)
+
+pub size_taken_apart : (text : List ℕ) (c : Components) → c ≡ components text → size_of c ≡ length text
+size_taken_apart text c e = sym (sizes c) ∙ ap length (ap recomposed e ∙ recomposed-components text)
+
+-- a fault of the fragment stands as far behind the end of the query as the fragment goes
+pub last_fault : (c : Components) (size fragment at : ℕ) → where_given is_scheme c.scheme ≡ true → where_given is_authority c.authority ≡ true → is_text_of is_path_character c.path ≡ true
+    → where_given (is_text_of is_query_character) c.query ≡ true → where_given (is_text_of is_query_character) c.fragment ≡ false
+    → size_of c ≡ size → fragment ≡ length (fragment_text c.fragment) → at ≡ 1 + text_prefix is_query_character (unwrap_or c.fragment [])
+    → (have_no_fault c ≡ false) × (size - fragment + at ≡ prefix_of_parts (parts_of c))
+last_fault c size fragment at e1 e2 e3 e4 e5 s f k = (rw (e1, e2, e3, e4, e5) refl, rw (e1, e2, e3, e4, e5) (omega (arith, s, f, k)))

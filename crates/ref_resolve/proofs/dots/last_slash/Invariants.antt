@@ -1,0 +1,14 @@
+-- The text is what is left and octets behind it, of which none is a slash.
+use Rattle.std.proofs.Common.{◌≡◌, ◌++◌, ℕ, List, length}
+use Rattle.document_model.specs.Characters.{slash}
+use Rattle.ref_resolve.specs.Paths.{before_last}
+use Rattle.ref_resolve.proofs.dots.last_slash.Given as goal
+
+abbrev pub decreases-octets : goal.decreases-octets
+decreases-octets l = length l.rest
+
+abbrev pub invariant-octets : goal.invariant-octets
+invariant-octets l = record {
+  joined : (behind : List ℕ) × (l.text ≡ l.rest ++ behind);
+  before : before_last slash l.rest ≡ before_last slash l.text;
+}

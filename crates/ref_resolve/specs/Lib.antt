@@ -1,0 +1,5 @@
+pub mod Seen
+pub mod Classes
+pub mod Faults
+pub mod Paths
+pub mod Merging

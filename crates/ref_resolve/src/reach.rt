@@ -1,0 +1,303 @@
+// How far the text of a component goes before an octet that cannot stand there (RFC 3986 section 3).
+ghost use Rattle.std.specs.Prelude.{◌≡◌, ◌≤◌, ◌+◌, ◌∷◌, length};
+ghost use Rattle.std.specs.List.{prefix_len, list_all};
+ghost use Rattle.std.specs.Char.{is_ascii_digit};
+ghost use Rattle.document_model.specs.Characters as characters;
+ghost use Rattle.document_model.specs.References as references;
+ghost use Rattle.document_model.specs.ReferenceFaults as faults;
+ghost use Rattle.ref_resolve.specs.Classes.{stands_in, next_digits};
+
+use crate::cuts::{around, behind_first, split_from};
+
+/// How far a text goes as the beginning of a component, and whether all of it is one.
+#[derive(Clone, Copy)]
+pub(crate) struct Reach {
+    /// How many octets stand at its beginning that some component begins with.
+    pub at: usize,
+    /// Whether the text is such a component.
+    pub whole: bool,
+}
+
+/// Which characters a text has, beside percent escapes.
+#[derive(Clone, Copy)]
+pub(crate) enum Class {
+    /// Those of a registered name (RFC 3986 section 3.2.2).
+    Name,
+    /// Those of user information (RFC 3986 section 3.2.1).
+    User,
+    /// Those of a path (RFC 3986 section 3.3).
+    Path,
+    /// Those of a query or a fragment (RFC 3986 sections 3.4 and 3.5).
+    Query,
+}
+
+/// Whether an octet is unreserved or a delimiter inside components (RFC 3986 section 2).
+fn is_name_character(octet: u8) -> bool
+    ensures { result ≡ characters.is_name_character octet }
+{
+    octet.is_ascii_alphanumeric()
+        || matches!(
+            octet,
+            b'-' | b'.'
+                | b'_'
+                | b'~'
+                | b'!'
+                | b'$'
+                | b'&'
+                | b'\''
+                | b'('
+                | b')'
+                | b'*'
+                | b'+'
+                | b','
+                | b';'
+                | b'='
+        )
+}
+
+/// Whether an octet may stand in a scheme behind its first letter (RFC 3986 section 3.1).
+fn is_scheme_character(octet: u8) -> bool
+    ensures { result ≡ characters.is_scheme_character octet }
+{
+    octet.is_ascii_alphanumeric() || matches!(octet, b'+' | b'-' | b'.')
+}
+
+/// Whether an octet may stand between the brackets of an IP literal.
+fn is_literal_character(octet: u8) -> bool
+    ensures { result ≡ characters.is_literal_character octet }
+{
+    octet.is_ascii_hexdigit() || octet == b':' || octet == b'.'
+}
+
+impl Class {
+    /// Whether the octet is such a character.
+    fn has(self, octet: u8) -> bool
+        ensures { result ≡ stands_in self octet }
+    {
+        match self {
+            Class::Name => is_name_character(octet),
+            Class::User => is_name_character(octet) || octet == b':',
+            Class::Path => is_name_character(octet)
+                || octet == b':'
+                || octet == b'@'
+                || octet == b'/',
+            Class::Query => {
+                is_name_character(octet)
+                    || octet == b':'
+                    || octet == b'@'
+                    || octet == b'/'
+                    || octet == b'?'
+            }
+        }
+    }
+
+    /// How many hexadecimal digits must follow, if the octet may stand where `digits` of them must.
+    fn next_digits(self, digits: u8, octet: u8) -> Option<u8>
+        ensures { result ≡ next_digits (stands_in self) digits octet }
+    {
+        if digits == 0 {
+            if octet == b'%' {
+                return Some(2);
+            }
+            return if self.has(octet) { Some(0) } else { None };
+        }
+        if octet.is_ascii_hexdigit() {
+            Some(digits - 1)
+        } else {
+            None
+        }
+    }
+}
+
+/// How far a text has only such characters and percent escapes.
+pub(crate) fn text_reach(class: Class, text: &str) -> Reach
+    ensures whole { result.whole ≡ references.is_text_of (stands_in class) text.now }
+    ensures at { result.at ≡ faults.text_prefix (stands_in class) text.now }
+    ensures bound { result.at ≤ length text.now }
+{
+    let mut digits = 0;
+    let mut at = 0;
+    let mut rest = text.as_bytes();
+    'octets: while let Some((octet, more)) = rest.split_first() {
+        match class.next_digits(digits, *octet) {
+            None => return Reach { at, whole: false },
+            Some(missing) => digits = missing,
+        }
+        at += 1;
+        rest = more;
+    }
+    Reach {
+        at,
+        whole: digits == 0,
+    }
+}
+
+/// How many decimal digits stand at the beginning.
+fn digits_at(text: &str) -> usize
+    ensures value { result ≡ prefix_len is_ascii_digit text.now }
+    ensures bound { result ≤ length text.now }
+{
+    text.as_bytes()
+        .iter()
+        .take_while(|c| c.is_ascii_digit())
+        .count()
+}
+
+/// How many characters of an IP literal stand at the beginning.
+fn literal_at(text: &str) -> usize
+    ensures value { result ≡ prefix_len characters.is_literal_character text.now }
+    ensures bound { result ≤ length text.now }
+{
+    text.as_bytes()
+        .iter()
+        .take_while(|c| is_literal_character(**c))
+        .count()
+}
+
+/// Whether a text is the inside of an IP literal.
+#[tactic(auto, using(crate::proofs::Reaching::run_of))]
+fn is_literal(text: &str) -> bool
+    ensures { result ≡ characters.is_run_of characters.is_literal_character text.now }
+{
+    !text.is_empty() && literal_at(text) == text.len()
+}
+
+/// A port with its colon, or nothing (RFC 3986 section 3.2.3).
+#[tactic(auto, using(crate::proofs::Reaching::port_behind_colon, crate::proofs::Reaching::no_port))]
+fn port_reach(text: &str) -> Reach
+    ensures whole { result.whole ≡ references.is_port_text text.now }
+    ensures at { result.at ≡ faults.port_prefix text.now }
+    ensures bound { result.at ≤ length text.now }
+{
+    match behind_first(text, ':') {
+        Some(digits) => {
+            let count = digits_at(digits);
+            Reach {
+                at: 1 + count,
+                whole: count == digits.len(),
+            }
+        }
+        None => Reach {
+            at: 0,
+            whole: text.is_empty(),
+        },
+    }
+}
+
+/// An IP literal behind its opening bracket, and a port or none (RFC 3986 section 3.2.2).
+#[tactic(auto, using(crate::proofs::Reaching::octet_behind))]
+fn literal_reach(text: &str) -> Reach
+    ensures whole { result.whole ≡ references.is_literal_and_port (characters.left_bracket ∷ text.now) }
+    ensures at { result.at + 1 ≡ faults.literal_prefix (characters.left_bracket ∷ text.now) }
+    ensures bound { result.at ≤ length text.now }
+{
+    let (inside, behind) = around(text, ']');
+    match behind {
+        Some(port) => {
+            if !is_literal(inside) {
+                return Reach {
+                    at: literal_at(inside),
+                    whole: false,
+                };
+            }
+            let port = port_reach(port);
+            Reach {
+                at: inside.len() + 1 + port.at,
+                whole: port.whole,
+            }
+        }
+        None => Reach {
+            at: literal_at(inside),
+            whole: false,
+        },
+    }
+}
+
+/// A registered name, and a port or none (RFC 3986 section 3.2.2).
+fn name_reach(text: &str) -> Reach
+    ensures whole { result.whole ≡ references.is_name_and_port text.now }
+    ensures at { result.at ≡ faults.name_prefix text.now }
+    ensures bound { result.at ≤ length text.now }
+{
+    let (name, port) = split_from(text, ':');
+    let reach = text_reach(Class::Name, name);
+    if !reach.whole {
+        return reach;
+    }
+    let port = port_reach(port);
+    Reach {
+        at: name.len() + port.at,
+        whole: port.whole,
+    }
+}
+
+/// A host, and a port or none.
+#[tactic(auto, using(crate::proofs::Reaching::host_in_brackets, crate::proofs::Reaching::host_of_name))]
+fn host_reach(text: &str) -> Reach
+    ensures whole { result.whole ≡ references.is_host_and_port text.now }
+    ensures at { result.at ≡ faults.host_prefix text.now }
+    ensures bound { result.at ≤ length text.now }
+{
+    match behind_first(text, '[') {
+        Some(rest) => {
+            let reach = literal_reach(rest);
+            Reach {
+                at: 1 + reach.at,
+                whole: reach.whole,
+            }
+        }
+        None => name_reach(text),
+    }
+}
+
+/// An authority: user information or none, a host, and a port or none (RFC 3986 section 3.2).
+#[tactic(auto, using(crate::proofs::Reaching::octet_behind, crate::proofs::Cutting::before_nowhere, crate::proofs::Reaching::no_at_sign), unfolding(document_model::specs::ReferenceFaults::authority_prefix))]
+pub(crate) fn authority_reach(text: &str) -> Reach
+    ensures whole { result.whole ≡ references.is_authority text.now }
+    ensures at { result.at ≡ faults.authority_prefix text.now }
+    ensures bound { result.at ≤ length text.now }
+{
+    let (front, behind) = around(text, '@');
+    let user = text_reach(Class::User, front);
+    match behind {
+        Some(rest) => {
+            let host = host_reach(rest);
+            if user.whole {
+                return Reach {
+                    at: front.len() + 1 + host.at,
+                    whole: host.whole,
+                };
+            }
+            let begun = host_reach(front);
+            Reach {
+                at: user.at.max(begun.at),
+                whole: false,
+            }
+        }
+        None => {
+            let host = host_reach(front);
+            Reach {
+                at: user.at.max(host.at),
+                whole: host.whole,
+            }
+        }
+    }
+}
+
+/// Whether each octet may stand in a scheme behind its first letter.
+fn are_scheme_characters(text: &[u8]) -> bool
+    ensures { result ≡ list_all characters.is_scheme_character text.now }
+{
+    text.iter().all(|c| is_scheme_character(*c))
+}
+
+/// Whether a text is a scheme (RFC 3986 section 3.1).
+#[tactic(auto, using(crate::proofs::Reaching::scheme_cons))]
+pub(crate) fn is_scheme(text: &str) -> bool
+    ensures { result ≡ references.is_scheme text.now }
+{
+    match text.as_bytes().split_first() {
+        Some((first, rest)) => { first.is_ascii_alphabetic() && are_scheme_characters(rest) }
+        None => false,
+    }
+}
