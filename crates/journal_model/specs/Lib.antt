@@ -1,0 +1,16 @@
+pub mod Journal
+pub mod Sending
+pub mod Requests
+pub mod Bodies
+pub mod Looks
+pub mod Lookups
+pub mod Writes
+pub mod Changes
+pub mod Uploading
+pub mod Commits
+pub mod Empties
+pub mod Responses
+pub mod Ticks
+pub mod Rows
+pub mod Meantime
+pub mod Machine
