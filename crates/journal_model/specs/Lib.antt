@@ -14,3 +14,5 @@ pub mod Ticks
 pub mod Rows
 pub mod Meantime
 pub mod Machine
+pub mod Standing
+pub mod Headline
