@@ -1,2 +1,10 @@
 pub mod OnLiterals
-mod Try
+pub mod Writing
+mod RegistrationTraces
+mod LookupTraces
+mod BlockTraces
+mod ObserverTraces
+mod FetchTraces
+mod FullTableTraces
+mod BadLineTraces
+mod MeantimeTraces
