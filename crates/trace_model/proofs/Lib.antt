@@ -6,5 +6,6 @@ mod BlockTraces
 mod ObserverTraces
 mod FetchTraces
 mod FullTableTraces
+mod DueExamples
 mod BadLineTraces
 mod MeantimeTraces
