@@ -1,5 +1,5 @@
 -- What a history shows at a moment: the registrations that are live, and what stands before (RFC 9176 section 5).
-use Rattle.std.specs.Prelude.{ℕ, List, fold}
+use Rattle.std.specs.Prelude.{◌≢◌, ℕ, ◌<◌, List, fold, AllPairs}
 use mathlib.Core.List.{IsPrefix}
 use Rattle.rd_base.specs.declared.records.Record.{Record}
 use Rattle.history_model.specs.declared.entries.Entry.{Entry}
@@ -9,6 +9,14 @@ use Rattle.history_model.specs.Replay.{replay}
 -- the records that are live at a moment, in ascending number
 unfoldable pub live : List Entry → ℕ → List Record
 live history moment = live_among moment (replay history).records
+
+-- each record has a higher number than those before it
+abbrev pub AreAscending : List Record → Type 0
+AreAscending records = AllPairs (λ r other. r.number < other.number) records
+
+-- no two of the records have the same name
+abbrev pub HaveDistinctNames : List Record → Type 0
+HaveDistinctNames records = AllPairs (λ r other. r.name ≢ other.name) records
 
 -- the moment of the last entry, 0 where there is none
 unfoldable pub last_moment : List Entry → ℕ

@@ -49,23 +49,27 @@ is_full_of_records live (change.Register params links) = nat_le max_registration
 is_full_of_records live (change.Update number given) = false
 is_full_of_records live (change.Remove number) = false
 
--- a registration or an update would have the records weigh more than they may: these are the live ones with that of the change in its new form
-abbrev pub is_full_of_text : List Record → Change → Bool
-is_full_of_text behind (change.Register params links) = nat_lt max_text (text_of behind)
-is_full_of_text behind (change.Update number given) = nat_lt max_text (text_of behind)
-is_full_of_text behind (change.Remove number) = false
-
 -- the state with those of its records alone that are live at a moment
 abbrev pub only_live : ℕ → State → State
 only_live moment state = record state { records = live_among moment state.records }
 
+-- what the live records would weigh behind an entry: those that are live at its moment, with the one that it is about in its new form
+abbrev pub text_behind : State → Entry → ℕ
+text_behind state entry = text_of (apply (only_live entry.moment.0 state) entry).records
+
+-- a registration or an update would have the live records weigh more than they may
+abbrev pub is_full_of_text : ℕ → Change → Bool
+is_full_of_text text (change.Register params links) = nat_lt max_text text
+is_full_of_text text (change.Update number given) = nat_lt max_text text
+is_full_of_text text (change.Remove number) = false
+
 -- the first refusal of an entry in a state, where so many entries were counted before
 unfoldable pub refusal_in : State → ℕ → Entry → Option Refusal
 refusal_in state entries entry =
-    let live = only_live entry.moment.0 state in
-    if is_gone live.records entry.change then Some refusal.Registration
-    else if is_full_of_records live.records entry.change then Some refusal.Registrations
-    else if is_full_of_text (apply live entry).records entry.change then Some refusal.Text
+    let live = live_among entry.moment.0 state.records in
+    if is_gone live entry.change then Some refusal.Registration
+    else if is_full_of_records live entry.change then Some refusal.Registrations
+    else if is_full_of_text (text_behind state entry) entry.change then Some refusal.Text
     else if nat_le max_entries entries then Some refusal.Entries
     else None
 

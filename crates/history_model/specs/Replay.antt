@@ -1,5 +1,5 @@
 -- What the entries of a history make of the directory (RFC 9176 sections 5, 5.3.1 and 5.3.2).
-use Rattle.std.specs.Prelude.{ℕ, ◌+◌, Bool, not, ◌&&◌, ◌==◌, List, [], ◌∷◌, ◌++◌, map, filter, find, fold, Option, Some, None, option_map, if◌then◌else◌}
+use Rattle.std.specs.Prelude.{ℕ, ◌+◌, Bool, not, ◌&&◌, ◌==◌, List, [], ◌∷◌, ◌++◌, map, filter, find, fold, Option, Some, None, option_map, unwrap_or, if◌then◌else◌}
 use Rattle.rd_base.specs.declared.moments.Moment.{Moment}
 use Rattle.rd_base.specs.declared.parameters.RegParams.{RegParams}
 use Rattle.rd_base.specs.declared.peers.Peer.{Peer}
@@ -33,6 +33,10 @@ is_live_named name moment r = is_same_name r.name name && is_live_at moment r
 -- the number of the record of this name that is live at a moment, where there is one
 abbrev pub number_named : Name → ℕ → List Record → Option ℕ
 number_named name moment records = option_map (λ r. r.number) (find (is_live_named name moment) records)
+
+-- the number that a registration of this name has at a moment: that of the live record of the name, and else the next one (RFC 9176 section 5)
+abbrev pub number_for : Name → ℕ → State → ℕ
+number_for name moment state = unwrap_or (number_named name moment state.records) (state.drawn + 1)
 
 -- the records, with something else in place of that of this number
 abbrev pub with_changed : ℕ → (Record → Record) → List Record → List Record

@@ -3,7 +3,7 @@ use Rattle.std.specs.Prelude.{◌≡◌, ℕ, ◌+◌, List, length}
 use Rattle.rd_base.specs.declared.records.Record.{Record}
 use Rattle.history_model.specs.declared.entries.Entry.{Entry}
 use Rattle.history_model.specs.Leases.{live_among}
-use Rattle.history_model.specs.Replay.{replay}
+use Rattle.history_model.specs.Replay.{State, replay}
 use Rattle.history_model.specs.Live.{last_moment}
 use Rattle.history_model.specs.Listing.{lapsed_since}
 
@@ -16,6 +16,10 @@ pub record Version : Type 0 where
   pub drawn : ℕ
   pub swept_live : ℕ
   pub swept : ℕ
+
+-- what a version has made, without what it dropped
+abbrev pub state_of : Version → State
+state_of version = record { records = version.records; drawn = version.drawn }
 
 -- the version stands for a history, where so many entries were counted before the first: it has the records of the history
 -- that had not lapsed when it was swept, and counts those of the dropped ones that were live after the last entry
