@@ -1,1 +1,5 @@
 pub mod OnLiterals
+pub mod Telling
+pub mod QuietSteps
+pub mod ChangingSteps
+pub mod RowLaws

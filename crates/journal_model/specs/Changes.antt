@@ -49,11 +49,6 @@ entered_unless None entry done = record { reply = done.reply; notes = note.Enter
 abbrev pub change_made : List Entry → Entry → Outcome → Outcome
 change_made history entry done = entered_unless (change_refusal 0 history entry) entry done
 
--- why a body is no body of a registration: the word of the refusal
-abbrev pub unlimited_word : Bool → Option (List ℕ)
-unlimited_word true = Some (codes "limited")
-unlimited_word false = None
-
 -- the links of a body, or the word of its refusal: no document of references, or not in the Limited Link Format
 pub data BodyRead : Type 0 where
   bad_body : List ℕ → BodyRead

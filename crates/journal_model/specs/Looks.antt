@@ -40,13 +40,14 @@ unless_valid false s m current body = unless_held (is_long (asked_block m) body)
 abbrev pub looked_up : List Entry → ℕ → Step → Message → Effects
 looked_up history moment s m = unless_valid (names_tag (tag history moment) m) s m (tag history moment) (listing (query_of m) history moment)
 
+-- discovery, or a lookup
+abbrev pub looked_at : Bool → List Entry → ℕ → Step → Message → Effects
+looked_at true history moment s m = discovered s m
+looked_at false history moment s m = looked_up history moment s m
+
 -- what a look does, from a history at a moment
 unfoldable pub look_effects : List Entry → ℕ → Step → Message → Effects
-look_effects history moment s m = look_at (is_discovery (path_in m))
-  where
-    look_at : Bool → Effects
-    look_at true = discovered s m
-    look_at false = looked_up history moment s m
+look_effects history moment s m = looked_at (is_discovery (path_in m)) history moment s m
 
 -- the body of a look is kept under its tag, and its first block is sent
 unfoldable pub keep_effects : Step → Message → List ℕ → List ℕ → Effects

@@ -76,20 +76,22 @@ observed rows moment s m =
 unfoldable pub unobserved : List Row → ℕ → Step → Message → Effects
 unobserved rows moment s m = observed_if false rows s m (listing_now rows moment m)
 
--- a lookup by its Observe value: to begin an observation, to end it, or neither
+-- a lookup that asks to begin an observation, to end it, or neither
+abbrev pub observed_by : Bool → Bool → List Row → ℕ → Step → Message → Effects
+observed_by true _ rows moment s m = observed rows moment s m
+observed_by false true rows moment s m = unobserved rows moment s m
+observed_by false false rows moment s m = look_effects (entries rows) moment s m
+
+-- a lookup of a first block, by its Observe value
 abbrev pub by_observe : Option ℕ → List Row → ℕ → Step → Message → Effects
 by_observe None rows moment s m = look_effects (entries rows) moment s m
-by_observe (Some value) rows moment s m = by_value (value == register) (value == deregister)
-  where
-    by_value : Bool → Bool → Effects
-    by_value true _ = observed rows moment s m
-    by_value false true = unobserved rows moment s m
-    by_value false false = look_effects (entries rows) moment s m
+by_observe (Some value) rows moment s m = observed_by (value == register) (value == deregister) rows moment s m
 
--- a lookup: of a further block, beside which Observe is not heeded, or by its Observe value
+-- a lookup of a further block, beside which Observe is not heeded, or of a first one
+abbrev pub by_block : Bool → List Row → ℕ → Step → Message → Effects
+by_block true rows moment s m = later_block rows moment s m
+by_block false rows moment s m = by_observe (observe_in m) rows moment s m
+
+-- what a lookup does that the journal takes part in
 unfoldable pub lookup_effects : List Row → ℕ → Step → Message → Effects
-lookup_effects rows moment s m = by_block (is_later_block m)
-  where
-    by_block : Bool → Effects
-    by_block true = later_block rows moment s m
-    by_block false = by_observe (observe_in m) rows moment s m
+lookup_effects rows moment s m = by_block (is_later_block m) rows moment s m

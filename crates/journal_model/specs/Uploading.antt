@@ -54,17 +54,19 @@ block_behind (Some front) upload rows moment s m b =
     block_unless (nat_lt max_body (length front + length m.payload)) (is_one_too_many b upload (live_uploads moment (events rows)))
     rows moment s m b (front ++ m.payload)
 
+-- a block of a registration, by the live upload of its name
+abbrev pub block_with : Option (List ℕ) → List Row → ℕ → Step → Message → Block → Outcome
+block_with upload rows moment s m b = block_behind (collected_before b upload) upload rows moment s m b
+
 -- a block of a registration
 unfoldable pub block_uploaded : List Row → ℕ → Step → Message → Block → Outcome
-block_uploaded rows moment s m b = block_from (live_upload moment (s.peer, key_in m) (events rows))
-  where
-    block_from : Option (List ℕ) → Outcome
-    block_from upload = block_behind (collected_before b upload) upload rows moment s m b
+block_uploaded rows moment s m b = block_with (live_upload moment (s.peer, key_in m) (events rows)) rows moment s m b
 
 -- a registration: whole, or a block of one
 abbrev pub registered_by : Option Block → List Row → ℕ → Step → Message → Outcome
 registered_by None rows moment s m = registration (entries rows) moment s (registration_values (queries_in m)) m.payload [] []
 registered_by (Some b) rows moment s m = block_uploaded rows moment s m b
 
+-- what comes of a registration
 unfoldable pub registering : List Row → ℕ → Step → Message → Outcome
 registering rows moment s m = registered_by (sent_block m) rows moment s m
