@@ -1,6 +1,7 @@
 -- Steps that may tell an entry: commits and responses. The entry comes next behind the history, and is the only one.
-use Rattle.std.proofs.Common.{◌≡◌, ℕ, ◌+◌, ◌==◌, Bool, true, false, List, [], ◌∷◌, ◌++◌, length, Option, Some, None, refl, ap, nat_lt, nat_le}
+use Rattle.std.proofs.Common.{◌≡◌, ℕ, ◌+◌, ◌==◌, Bool, true, false, List, [], ◌∷◌, ◌++◌, length, Option, Some, None, is_some, codes, refl, ap, ◌∙◌, nat_lt, nat_le}
 use Rattle.rd_base.specs.declared.parameters.RegParams.{RegParams}
+use Rattle.rd_base.specs.declared.submitted.SubmittedLink.{SubmittedLink}
 use Rattle.message_model.specs.declared.blocks.Block.{Block}
 use Rattle.message_model.specs.declared.messages.Kind4.{Kind4}
 use Rattle.message_model.specs.declared.messages.Kind4.TheVariants.{Con, Non, Ack, Rst}
@@ -10,11 +11,14 @@ use Rattle.message_model.specs.Message.{Message, Opt}
 use Rattle.message_model.specs.Codes as codes_of
 use Rattle.message_model.specs.Request.{path_in, queries_in}
 use Rattle.message_model.specs.RequestKey.{key_in}
+use Rattle.document_model.specs.Bodies.{linked_references}
 use Rattle.document_model.specs.Parameters.{registration_values}
+use Rattle.document_model.specs.Refusals.{first_unlimited, is_refused_as_limited}
 use Rattle.history_model.specs.declared.entries.Change.TheVariants as change
 use Rattle.history_model.specs.declared.entries.Entry.{Entry}
 use Rattle.history_model.specs.declared.refusals.Refusal.{Refusal}
 use Rattle.history_model.specs.declared.refusals.Refusal.TheVariants as refusal
+use Rattle.history_model.specs.Legal.{HasGoodBody}
 use Rattle.history_model.specs.Refusals.{change_refusal}
 use Rattle.event_model.specs.declared.notes.Note.{Note}
 use Rattle.event_model.specs.declared.notes.Note.TheVariants as note
@@ -26,16 +30,16 @@ use Rattle.journal_model.specs.declared.rows.Row.{Row}
 use Rattle.journal_model.specs.Journal.{events, entries}
 use Rattle.journal_model.specs.Sending.{answering}
 use Rattle.journal_model.specs.Requests.{sent_block}
-use Rattle.journal_model.specs.Changes.{Outcome, refused_as, entered_unless, change_made, BodyRead, bad_body, good_body, body_read, registered_links, registration, created_at, number_behind, entry_by}
+use Rattle.journal_model.specs.Changes.{Outcome, refused_as, entered_unless, change_made, BodyRead, bad_body, good_body, limited_links, links_or_bad, body_read, registered_links, registration, created_at, number_behind, entry_by}
 use Rattle.journal_model.specs.Uploading.{collected_before, is_one_too_many, block_taken, block_unless, block_behind, block_with, block_uploaded, registered_by, registering}
 use Rattle.journal_model.specs.Commits.{settling, updating, removing, simple_unless, on_location, write_done, commit_effects}
 use Rattle.journal_model.specs.Responses.{fetch_of, strange, acknowledgement, more_follow, block_in, is_elsewhere, ends_fetch, completed, gathering, response_taken, response_to, response_by, response_effects}
 use Rattle.journal_model.proofs.Telling.{told, TellsNext, none, one, TellsNext-behind, TellsNext-before}
 
 -- a change is refused, or its entry is told
-pub change_made-TellsNext : (history : List Entry) (moment : ℕ) (entry : Entry) (done : Outcome) → entry.moment.0 ≡ moment → told done.notes ≡ []
+pub change_made-TellsNext : (history : List Entry) (moment : ℕ) (entry : Entry) (done : Outcome) → entry.moment.0 ≡ moment → HasGoodBody entry.change → told done.notes ≡ []
     → TellsNext history moment (change_made history entry done).notes
-change_made-TellsNext history moment entry done at quiet = by (change_refusal 0 history entry) refl
+change_made-TellsNext history moment entry done at good quiet = by (change_refusal 0 history entry) refl
   where
     refused : (why : Refusal) → told (refused_as why).notes ≡ []
     refused refusal.Registration = refl
@@ -45,20 +49,37 @@ change_made-TellsNext history moment entry done at quiet = by (change_refusal 0 
 
     by : (why : Option Refusal) → change_refusal 0 history entry ≡ why → TellsNext history moment (entered_unless why entry done).notes
     by (Some why) e = none (refused why)
-    by None e = one entry (ap (λ entries. entry ∷ entries) quiet) at e
+    by None e = one entry (ap (λ entries. entry ∷ entries) quiet) at good e
+
+-- what is read of a good body
+body_read-good : (body : List ℕ) (params : RegParams) (links : List SubmittedLink) → body_read body ≡ good_body links → HasGoodBody (change.Register params links)
+unfolding body_read is_refused_as_limited
+body_read-good body params links e = by (linked_references body) refl e
+  where
+    limited : (all : List SubmittedLink) (b : Bool) → linked_references body ≡ Some all → is_some (first_unlimited all) ≡ b → limited_links b all ≡ good_body links
+        → HasGoodBody (change.Register params links)
+    limited all true linked tested same = absurd (let h : bad_body (codes "limited") ≡ good_body links = same in cc)
+    limited all false linked tested same =
+        let equal : all ≡ links = cc in
+        (body, linked ∙ ap Some equal, rw linked tested)
+
+    by : (read : Option (List SubmittedLink)) → linked_references body ≡ read → links_or_bad read ≡ good_body links → HasGoodBody (change.Register params links)
+    by None linked same = absurd (let h : bad_body (codes "links") ≡ good_body links = same in cc)
+    by (Some all) linked same = limited all (is_some (first_unlimited all)) linked refl same
 
 -- a registration of a whole body
 pub registration-TellsNext : (history : List Entry) (moment : ℕ) (s : Step) (params : RegParams) (body : List ℕ) (further : List Opt) (notes : List Note) → told notes ≡ []
     → TellsNext history moment (registration history moment s params body further notes).notes
 unfolding registration
-registration-TellsNext history moment s params body further notes quiet = by (body_read body)
+registration-TellsNext history moment s params body further notes quiet = by (body_read body) refl
   where
-    by : (read : BodyRead) → TellsNext history moment (registered_links history moment s params further notes read).notes
-    by (bad_body word) = none refl
-    by (good_body links) =
+    by : (read : BodyRead) → body_read body ≡ read → TellsNext history moment (registered_links history moment s params further notes read).notes
+    by (bad_body word) e = none refl
+    by (good_body links) e =
         let entry : Entry = entry_by moment s (change.Register params links) in
         change_made-TellsNext history moment entry
-            (record { reply = created_at (number_behind params.name moment (history ++ entry ∷ [])) further; notes = notes }) refl quiet
+            (record { reply = created_at (number_behind params.name moment (history ++ entry ∷ [])) further; notes = notes }) refl
+            (body_read-good body params links e) quiet
 
 -- a registration, whole or a block of one
 pub registering-TellsNext : (rows : List Row) (moment : ℕ) (s : Step) (m : Message) → TellsNext (entries rows) moment (registering rows moment s m).notes
@@ -101,8 +122,8 @@ commit_effects-TellsNext rows moment place s m = by (path_in m)
     simple false false = none refl
 
     location : (b : Bool) (number : ℕ) → TellsNext (entries rows) moment (on_location b rows moment s m number).notes
-    location true number = change_made-TellsNext (entries rows) moment _ _ refl refl
-    location false number = change_made-TellsNext (entries rows) moment _ _ refl refl
+    location true number = change_made-TellsNext (entries rows) moment _ _ refl tt refl
+    location false number = change_made-TellsNext (entries rows) moment _ _ refl tt refl
 
     by : (p : Path) → TellsNext (entries rows) moment (write_done p rows moment place s m).notes
     by path.Core = none refl

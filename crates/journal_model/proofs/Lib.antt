@@ -3,3 +3,4 @@ pub mod Telling
 pub mod QuietSteps
 pub mod ChangingSteps
 pub mod RowLaws
+pub mod JournalLaws
