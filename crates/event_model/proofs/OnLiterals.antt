@@ -1,10 +1,6 @@
 -- What an example unfolds, so that looking back computes on events that are written out.
 use Rattle.std.specs.Prelude.{⊤}
-use Rattle.document_model.proofs.RecordLiterals.{record_on_literals}
-use Rattle.history_model.specs.Replay.{apply, replay}
-use Rattle.history_model.specs.Live.{live, last_moment}
-use Rattle.history_model.specs.Listing.{all_lines, listing, lapsed_since, tag_from}
-use Rattle.history_model.specs.Refusals.{refusal_in, change_refusal}
+use Rattle.history_model.proofs.OnLiterals.{history_on_literals}
 use Rattle.event_model.specs.Events.{events_since, last_said}
 use Rattle.event_model.specs.Repeats.{admissions, kept, repeated, settled}
 use Rattle.event_model.specs.Uploads.{upload, live_upload, uploads, live_uploads}
@@ -16,5 +12,5 @@ use Rattle.event_model.specs.Fetches.{fetches, next_token, gathered, collected, 
 
 -- the definitions of events
 unfoldable pub events_on_literals : ⊤
-unfolding record_on_literals apply replay live last_moment all_lines listing lapsed_since tag_from refusal_in change_refusal events_since last_said admissions kept repeated settled upload live_upload uploads live_uploads names_used kept_answer observers has_room_for observe_value body_given deadline flight is_waited_for is_change_of is_due fetches next_token gathered collected fetch_deadline
+unfolding history_on_literals events_since last_said admissions kept repeated settled upload live_upload uploads live_uploads names_used kept_answer observers has_room_for observe_value body_given deadline flight is_waited_for is_change_of is_due fetches next_token gathered collected fetch_deadline
 events_on_literals = tt

@@ -4,3 +4,4 @@ pub mod QuietSteps
 pub mod ChangingSteps
 pub mod RowLaws
 pub mod JournalLaws
+pub mod AnswerLaws

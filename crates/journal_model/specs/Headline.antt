@@ -52,25 +52,28 @@ is_end_of_fetch peer _ = false
 abbrev pub IsCompletion : Row → Type 0
 IsCompletion r = (r.step.kind ≡ step.Admit) × IsTrue (list_any (is_end_of_fetch r.step.peer) r.notes)
 
+-- the code of a message: its second octet (RFC 7252 section 3)
+abbrev pub code_at : List ℕ → ℕ
+code_at (first ∷ code ∷ others) = code
+code_at _ = codes_of.empty
+
 -- the code of the first message that a row sent
 abbrev pub code_sent : List (Peer × List ℕ) → ℕ
 code_sent [] = codes_of.empty
-code_sent (d ∷ sent) = code_read (reading d.1)
-  where
-    code_read : Result Message Unread → ℕ
-    code_read (Err fault) = codes_of.empty
-    code_read (Ok m) = m.code
+code_sent (d ∷ sent) = code_at d.1
 
 -- the datagram names a registration by its location
 abbrev pub names_location : Result Message Unread → Bool
 names_location (Err fault) = false
 names_location (Ok m) = is_location (path_in m)
 
--- the answer tells of a change: 2.01, 2.02, or 2.04 of an update
+-- the code tells of a change: 2.01, 2.02, or 2.04 of an update
+abbrev pub is_telling : ℕ → Bool → Bool
+is_telling code of_location = code == codes_of.created || code == codes_of.deleted || (code == codes_of.changed && of_location)
+
+-- the answer that a row sent tells of a change
 abbrev pub tells_change : Row → Bool
-tells_change r =
-    code_sent r.sent == codes_of.created || code_sent r.sent == codes_of.deleted
-    || (code_sent r.sent == codes_of.changed && names_location (reading r.step.datagram))
+tells_change r = is_telling (code_sent r.sent) (names_location (reading r.step.datagram))
 
 -- Registrations are the replay of one legal history that holds each accepted request once, despite repeats:
 -- a row has at most one entry; an entry stands in the row of a commit, or of a response that completed a fetch;
