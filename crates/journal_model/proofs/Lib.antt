@@ -5,3 +5,5 @@ pub mod ChangingSteps
 pub mod RowLaws
 pub mod JournalLaws
 pub mod AnswerLaws
+pub mod Origins
+pub mod TagStates

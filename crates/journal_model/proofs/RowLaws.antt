@@ -64,7 +64,7 @@ by_role-TellsNext role.Response false rows moment s m = response_effects-TellsNe
 by_role-TellsNext role.Ignored starved rows moment s m = none refl
 
 -- what is no message
-unread-told : (s : Step) (fault : Unread) → told (unread_answered s fault).notes ≡ []
+pub unread-told : (s : Step) (fault : Unread) → told (unread_answered s fault).notes ≡ []
 unread-told s unread.Short = refl
 unread-told s unread.Version = refl
 unread-told s (unread.Format Con mid) = refl

@@ -50,7 +50,7 @@ is_end_of_fetch peer _ = false
 
 -- a response that completed a fetch
 abbrev pub IsCompletion : Row → Type 0
-IsCompletion r = (r.step.kind ≡ step.Admit) × IsTrue (list_any (is_end_of_fetch r.step.peer) r.notes)
+IsCompletion r = (r.step.kind ≡ step.Admit) × (list_any (is_end_of_fetch r.step.peer) r.notes ≡ true)
 
 -- the code of a message: its second octet (RFC 7252 section 3)
 abbrev pub code_at : List ℕ → ℕ
@@ -88,8 +88,8 @@ pub record HoldsEachOnce (rows : List Row) : Type 0 where
   pub untold : (before : List Row) (r : Row) (place : ℕ) → Within rows before r → Commits r place → tells_change r ≡ false → entries_of r ≡ []
   pub once : (before earlier : List Row) (r other : Row) (place : ℕ) → Within rows before r → Within before earlier other → Commits r place → Commits other place → ⊥
   pub failed : (before earlier : List Row) (r other : Row) (peer : Peer) (mid : ℕ) → Within rows before r → Within before earlier other
-      → IsTrue (admits peer mid r) → IsTrue (admits peer mid other) → r.moment.0 < other.moment.0 + exchange_lifetime
-      → IsTrue (has_event (is_failure_of (length earlier)) (events rows))
+      → admits peer mid r ≡ true → admits peer mid other ≡ true → r.moment.0 < other.moment.0 + exchange_lifetime
+      → has_event (is_failure_of (length earlier)) (events rows) ≡ true
 
 -- a row with the rows before it
 pub record Placed : Type 0 where
