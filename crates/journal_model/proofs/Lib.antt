@@ -7,3 +7,4 @@ pub mod JournalLaws
 pub mod AnswerLaws
 pub mod Origins
 pub mod TagStates
+pub mod CommitLaws
