@@ -1,5 +1,6 @@
 pub mod OnLiterals
 pub mod Writing
+pub mod JournalLaw
 mod RegistrationTraces
 mod LookupTraces
 mod BlockTraces
