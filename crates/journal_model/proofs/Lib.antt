@@ -1,5 +1,7 @@
 pub mod OnLiterals
 pub mod Telling
+pub mod NoteKinds
+pub mod StepNotes
 pub mod QuietSteps
 pub mod ChangingSteps
 pub mod RowLaws
