@@ -10,3 +10,5 @@ pub mod AnswerLaws
 pub mod Origins
 pub mod TagStates
 pub mod CommitLaws
+pub mod ChangingNotes
+pub mod Admitting
