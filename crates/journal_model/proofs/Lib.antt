@@ -1,0 +1,14 @@
+pub mod OnLiterals
+pub mod Telling
+pub mod NoteKinds
+pub mod StepNotes
+pub mod QuietSteps
+pub mod ChangingSteps
+pub mod RowLaws
+pub mod JournalLaws
+pub mod AnswerLaws
+pub mod Origins
+pub mod TagStates
+pub mod CommitLaws
+pub mod ChangingNotes
+pub mod Admitting

@@ -1,0 +1,12 @@
+pub mod OnLiterals
+pub mod Writing
+pub mod JournalLaw
+mod RegistrationTraces
+mod LookupTraces
+mod BlockTraces
+mod ObserverTraces
+mod FetchTraces
+mod FullTableTraces
+mod DueExamples
+mod BadLineTraces
+mod MeantimeTraces
