@@ -1,19 +1,19 @@
 -- In each journal a step has its one entry exactly where it ends a job and is answered 2.01.
 use Rattle.std.proofs.Common.{◌≡◌, ℕ, ◌+◌, Bool, true, false, List, [], ◌∷◌, ◌++◌, Option, Some, None, Result, Ok, Err, refl, sym, ap, ◌∙◌, subst}
-use Rattle.std.specs.Prelude.{is_some, if◌then◌else◌, slice_index, ◌==◌, ◌&&◌, ◌||◌}
+use Rattle.std.specs.Prelude.{is_some, nat_lt, if◌then◌else◌, slice_index, ◌==◌, ◌&&◌, ◌||◌}
 use Rattle.std.specs.List.{AllByRecursion}
 use Rattle.rd_base.specs.declared.moments.Moment.{Moment}
 use Rattle.rd_base.specs.declared.peers.Peer.{Peer}
 use Rattle.rd_server.specs.declared.desk.Job.{Job}
 use Rattle.rd_server.specs.declared.desk.Heard.{Heard}
 use Rattle.rd_server.specs.declared.desk.Heard.TheVariants as heard
-use Rattle.rd_server.specs.declared.lines.Line.{Line}
-use Rattle.rd_server.specs.declared.lines.Line.TheVariants as line
-use Rattle.rd_server.specs.declared.endings.Reason.{Reason}
-use Rattle.rd_server.specs.declared.endings.Reason.TheVariants as reason
-use Rattle.rd_server.specs.TraceLines.{line_of}
+use Rattle.line_model.specs.declared.lines.Line.{Line}
+use Rattle.line_model.specs.declared.lines.Line.TheVariants as line
+use Rattle.line_model.specs.declared.lines.Reason.{Reason}
+use Rattle.line_model.specs.declared.lines.Reason.TheVariants as reason
+use Rattle.line_model.specs.Lines.{line_of}
 use Rattle.rd_server.specs.Forms.{Asking, asking_of, registering_of, acknowledgement, created_code, location}
-use Rattle.rd_server.specs.Journal.{Row, Journal, IsAccounted, heard_of, heard_as, heard_asking, job_in, job_of, held, come_row, go_row, gone, number_for, after_line, goes_on, journal}
+use Rattle.rd_server.specs.Journal.{Row, Journal, IsAccounted, heard_of, heard_as, heard_asking, job_in, job_after, held, come_row, go_row, gone, number_for, worker_in, workers, after_step, after_line, goes_on, journal}
 
 -- the answer of a job is an acknowledgement of the code 2.01
 record IsCreated (job : Job) : Type 0 where
@@ -31,14 +31,15 @@ created_asking : (peer : Peer) (asking : Option Asking) (job : Job) → job_in (
 created_asking peer None job e = cc
 created_asking peer (Some asking) job e = created_as peer asking (registering_of asking) job e
 
-created_by : (step : Line) (job : Job) → job_of step ≡ Some job → IsCreated job
+created_after : (step : Line) (earlier : Option Job) (job : Job) → ((other : Job) → earlier ≡ Some other → IsCreated other) → job_after step earlier ≡ Some job → IsCreated job
 unfolding heard_of
-created_by (line.Come moment peer datagram) job e = created_asking peer (asking_of datagram) job e
-created_by (line.Go moment) job e = cc
+created_after (line.Come worker moment peer datagram) earlier job h e = created_asking peer (asking_of datagram) job e
+created_after (line.Go worker moment) earlier job h e = cc
+created_after (line.Tick worker moment word) earlier job h e = h job e
 
 created_held : (rows : List Row) (job : Job) → held rows ≡ Some job → IsCreated job
 created_held [] job e = cc
-created_held (row ∷ rows) job e = created_by row.step job e
+created_held (row ∷ rows) job e = created_after row.step (held rows) job (created_held rows) e
 
 -- the second octet of an acknowledgement is its code
 second : (asking : Asking) (rest : List ℕ) → slice_index (acknowledgement asking created_code ++ rest) 1 ≡ created_code
@@ -49,8 +50,8 @@ or_false : (b : Bool) → b ≡ true → true ≡ b || false
 or_false true e = refl
 or_false false e = cc
 
-go_accounted : (moment : Moment) (job : Job) (number : ℕ) → IsCreated job → IsAccounted (go_row moment job number)
-go_accounted moment job number h =
+go_accounted : (worker : ℕ) (moment : Moment) (job : Job) (number : ℕ) → IsCreated job → IsAccounted (go_row worker moment job number)
+go_accounted worker moment job number h =
     let code : slice_index (job.answer ++ location number) 1 ≡ created_code = ap (λ (l : List ℕ). slice_index (l ++ location number) 1) h.answer_is ∙ second h.asking (location number) in
     or_false _ (ap (λ (n : ℕ). n == created_code) code)
 
@@ -58,19 +59,27 @@ abbrev AreAccounted : Result (List Row) Reason → Type 0
 AreAccounted (Ok more) = AllByRecursion IsAccounted more
 AreAccounted (Err why) = Unit {0}
 
-come_accounted : (busy : Bool) (rows : List Row) (moment : Moment) (peer : Peer) (datagram : List ℕ) → AllByRecursion IsAccounted rows
-    → AreAccounted (if busy then Err reason.Busy else Ok (come_row moment peer datagram ∷ rows))
-come_accounted true rows moment peer datagram h = tt
-come_accounted false rows moment peer datagram h = (refl, h)
+come_accounted : (busy : Bool) (rows : List Row) (worker : ℕ) (moment : Moment) (peer : Peer) (datagram : List ℕ) → AllByRecursion IsAccounted rows
+    → AreAccounted (if busy then Err reason.Busy else Ok (come_row worker moment peer datagram ∷ rows))
+come_accounted true rows worker moment peer datagram h = tt
+come_accounted false rows worker moment peer datagram h = (refl, h)
 
-gone_accounted : (rows : List Row) (moment : Moment) (o : Option Job) → held rows ≡ o → AllByRecursion IsAccounted rows → AllByRecursion IsAccounted (gone rows moment o)
-gone_accounted rows moment None e h = h
-gone_accounted rows moment (Some job) e h = (go_accounted moment job (number_for job.name rows) (created_held rows job e), h)
+gone_accounted : (rows : List Row) (worker : ℕ) (moment : Moment) (o : Option Job) → held rows ≡ o → AllByRecursion IsAccounted rows → AllByRecursion IsAccounted (gone rows worker moment o)
+gone_accounted rows worker moment None e h = h
+gone_accounted rows worker moment (Some job) e h = (go_accounted worker moment job (number_for job.name rows) (created_held rows job e), h)
 
-after_accounted : (rows : List Row) (o : Option Line) → AllByRecursion IsAccounted rows → AreAccounted (after_line rows o)
-after_accounted rows None h = tt
-after_accounted rows (Some (line.Come moment peer datagram)) h = come_accounted (is_some (held rows)) rows moment peer datagram h
-after_accounted rows (Some (line.Go moment)) h = gone_accounted rows moment (held rows) refl h
+step_accounted : (rows : List Row) (step : Line) → AllByRecursion IsAccounted rows → AreAccounted (after_step rows step)
+step_accounted rows (line.Come worker moment peer datagram) h = come_accounted (is_some (held rows)) rows worker moment peer datagram h
+step_accounted rows (line.Go worker moment) h = gone_accounted rows worker moment (held rows) refl h
+step_accounted rows (line.Tick worker moment word) h = (refl, h)
+
+if_accounted : (b : Bool) (r : Result (List Row) Reason) → AreAccounted r → AreAccounted (if b then r else Err reason.Worker)
+if_accounted true r h = h
+if_accounted false r h = tt
+
+after_accounted : (rows : List Row) (read : Result Line Reason) → AllByRecursion IsAccounted rows → AreAccounted (after_line rows read)
+after_accounted rows (Err why) h = tt
+after_accounted rows (Ok step) h = if_accounted (nat_lt (worker_in step) workers) (after_step rows step) (step_accounted rows step h)
 
 goes_accounted : (r : Result (List Row) Reason) (rows : List Row) (number : ℕ) (rest : List Row → Journal) → AllByRecursion IsAccounted rows → AreAccounted r
     → ((more : List Row) → AllByRecursion IsAccounted more → AllByRecursion IsAccounted (rest more).rows) → AllByRecursion IsAccounted (goes_on r rows number rest).rows

@@ -4,10 +4,10 @@ use Rattle.std.specs.Prelude.{IsOkAnd}
 use Rattle.rd_base.specs.declared.peers.Peer.{Peer}
 use Rattle.rd_server.specs.declared.desk.Desk.{Desk}
 use Rattle.rd_server.specs.declared.sessions.Session.{Session}
-use Rattle.rd_server.specs.declared.endings.Reason.{Reason}
+use Rattle.line_model.specs.declared.lines.Reason.{Reason}
 use Rattle.rd_server.specs.declared.endings.Stop.{Stop}
 use Rattle.rd_server.specs.declared.endings.Stop.TheVariants as stop
-use Rattle.rd_server.specs.TraceLines.{line_of}
+use Rattle.line_model.specs.Lines.{line_of}
 use Rattle.rd_server.specs.Journal.{Row, after_line, text}
 use Rattle.rd_server.specs.Standing.{StandsFor}
 use Rattle.rd_server.specs.Going.{Performs, DoesLine, Writes, WritesMore, sent_text}

@@ -3,14 +3,14 @@ use Rattle.std.proofs.Common.{◌≡◌, ℕ, List, [], ◌∷◌, ◌++◌, Opt
 use Rattle.std.specs.Prelude.{IfSome}
 use Rattle.std.specs.Io.KnownBytes.{Appends, Consumes, IsAtEnd}
 use Rattle.std.proofs.KnownBytes.{Appends-trans}
-use Rattle.rd_server.specs.declared.endings.LineBad.{LineBad}
+use Rattle.line_model.specs.declared.lines.LineBad.{LineBad}
 use Rattle.rd_server.specs.declared.endings.Stop.{Stop}
 use Rattle.rd_server.specs.declared.endings.Stop.TheVariants as stop
 use Rattle.rd_server.specs.declared.endings.Status.{Status}
 use Rattle.rd_server.specs.declared.endings.Status.TheVariants as status
 use Rattle.rd_server.specs.declared.sessions.Session.{Session}
 use Rattle.rd_server.specs.Journal.{Journal, journal_of, text, end_line, journal}
-use Rattle.rd_server.specs.TraceLines.{lines_of}
+use Rattle.line_model.specs.Texts.{lines_of}
 use Rattle.rd_server.specs.Endings.{IsWritten, IsFrontOf, whole_text, ending, status_of, EndsBy}
 use Rattle.rd_server.specs.Going.{Place, Goes, Feeds, Halts, Finishes, start, journal_from}
 use Rattle.rd_server.proofs.Fronts.{journal_front, whole_front}

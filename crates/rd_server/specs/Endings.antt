@@ -2,9 +2,9 @@
 use Rattle.std.specs.Prelude.{◌≡◌, ℕ, ◌≤◌, List, [], ◌∷◌, ◌++◌, codes, decimal, Bool, true, false, Option, Some, None, if◌then◌else◌, bytes_eq}
 use Rattle.std.specs.Io.KnownBytes.{Appends}
 use Rattle.rd_base.specs.Outside.{Rose}
-use Rattle.rd_server.specs.declared.endings.Reason.{Reason}
-use Rattle.rd_server.specs.declared.endings.Reason.TheVariants as reason
-use Rattle.rd_server.specs.declared.endings.LineBad.{LineBad}
+use Rattle.line_model.specs.declared.lines.Reason.{Reason}
+use Rattle.line_model.specs.declared.lines.Reason.TheVariants as reason
+use Rattle.line_model.specs.declared.lines.LineBad.{LineBad}
 use Rattle.rd_server.specs.declared.endings.Stop.{Stop}
 use Rattle.rd_server.specs.declared.endings.Stop.TheVariants as stop
 use Rattle.rd_server.specs.declared.endings.Status.{Status}
@@ -51,7 +51,9 @@ CountsWrites before now _ = now ≡ before
 
 -- the name of a reason
 abbrev pub reason_text : Reason → List ℕ
+reason_text reason.Long = codes "long"
 reason_text reason.Form = codes "form"
+reason_text reason.Worker = codes "worker"
 reason_text reason.Busy = codes "busy"
 
 -- what is said of a bad line

@@ -3,8 +3,8 @@ use Rattle.std.specs.Prelude.{◌≡◌, ℕ, ◌≤◌, List, [], ◌∷◌, �
 use Rattle.std.specs.Io.KnownBytes.{Appends, Consumes, IsAtEnd}
 use Rattle.rd_base.specs.Outside.{Rose}
 use Rattle.rd_base.specs.declared.peers.Peer.{Peer}
-use Rattle.rd_server.specs.declared.endings.Reason.{Reason}
-use Rattle.rd_server.specs.declared.endings.LineBad.{LineBad}
+use Rattle.line_model.specs.declared.lines.Reason.{Reason}
+use Rattle.line_model.specs.declared.lines.LineBad.{LineBad}
 use Rattle.rd_server.specs.declared.endings.Stop.{Stop}
 use Rattle.rd_server.specs.declared.endings.Stop.TheVariants as stop
 use Rattle.rd_server.specs.declared.endings.Read.{Read}
@@ -14,8 +14,9 @@ use Rattle.rd_server.specs.declared.sessions.Session.{Session}
 use Rattle.rd_server.specs.declared.sessions.Trouble.{Trouble}
 use Rattle.rd_server.specs.declared.sessions.Trouble.TheVariants as trouble
 use Rattle.rd_server.specs.Fields.{cut}
-use Rattle.rd_server.specs.TraceLines.{lines_of, line_of, out_line}
-use Rattle.rd_server.specs.Journal.{Row, Journal, journal, after_line, text}
+use Rattle.line_model.specs.Lines.{line_of}
+use Rattle.line_model.specs.Texts.{lines_of}
+use Rattle.rd_server.specs.Journal.{Row, Journal, journal, after_line, out_line, text}
 use Rattle.rd_server.specs.Standing.{StandsFor}
 use Rattle.rd_server.specs.Endings.{IsFrontOf, whole_text, ending}
 

@@ -1,23 +1,7 @@
 // How a replay ends.
 ghost use Rattle.std.specs.Prelude.{◌≡◌};
 
-/// Why a line of a trace is bad.
-#[derive(Clone, Copy, Debug, PartialEq, Eq)]
-pub enum Reason {
-    /// The text spells no line.
-    Form,
-    /// A datagram comes while the worker holds a job.
-    Busy,
-}
-
-/// The first bad line of a trace.
-#[derive(Clone, Copy, Debug, PartialEq, Eq)]
-pub struct LineBad {
-    /// Its number, from 1.
-    pub line: u64,
-    /// Why it is bad.
-    pub why: Reason,
-}
+use trace_text::LineBad;
 
 /// Why a replay stops before the trace is done.
 #[derive(Clone, Copy, Debug, PartialEq, Eq)]

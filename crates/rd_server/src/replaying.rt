@@ -8,10 +8,11 @@ ghost use Rattle.rd_server.specs.Endings as ends;
 ghost use Rattle.rd_server.specs.Endings.{IsWritten, EndsBy, CountsReads, CountsWrites, IsReported};
 ghost use Rattle.rd_server.specs.Going.{Place, IsAt, ReadsAll, CountsFailed, CountsStopped, start};
 
-use crate::endings::{LineBad, Read, Reason, Status, Stop};
+use crate::endings::{Read, Status, Stop};
 use crate::sessions::{Session, write_all};
 use rd_base::{Bytes, Got, Sink, Source, Starved};
 use std::alloc::Global;
+use trace_text::{LineBad, Reason};
 
 /// Reads the trace piece by piece, and does its lines.
 fn read_all<S: Source, K: Sink>(
@@ -105,7 +106,9 @@ fn line_text(alloc: Global, bad: LineBad) -> Result<Bytes, Starved>
 {
     let line = bad.line;
     let why = match bad.why {
+        Reason::Long => "long",
         Reason::Form => "form",
+        Reason::Worker => "worker",
         Reason::Busy => "busy",
     };
     let text = format!(in alloc; "line {line}: {why}\n")?;

@@ -56,6 +56,24 @@ fn traces_give_their_output(rt: HostRuntime) -> Result<(), Fail> {
             said: b"line 2: form\n",
         },
         Case {
+            trace: b"tick 0 5\ntick 3 5\n",
+            output: b"",
+            status: Status::Line(LineBad {
+                line: 2,
+                why: Reason::Worker,
+            }),
+            said: b"line 2: worker\n",
+        },
+        Case {
+            trace: b"tick 0 5 9\n\r\n",
+            output: b"",
+            status: Status::Line(LineBad {
+                line: 2,
+                why: Reason::Form,
+            }),
+            said: b"line 2: form\n",
+        },
+        Case {
             trace: b"in 0 5 192.0.2.10:5683 41020001a1b2726411283865703d6e6f646531ff3c2f74656d703e\nin 0 6 192.0.2.10:5683 -\n",
             output: b"",
             status: Status::Line(LineBad {
