@@ -6,7 +6,7 @@ use Rattle.std.proofs.lemmas.Str.{IsUtf8-from_ascii}
 use Rattle.std.proofs.lemmas.Fmt.{IsAscii-decimal, parse-decimal}
 use Rattle.std.proofs.lemmas.Bool.{both_ways}
 use Rattle.std.proofs.lemmas.Slice.Eq.{bytes_eq-Decides}
-use Rattle.line_model.specs.Numbers.{IsNumber, number_of}
+use Rattle.line_model.specs.Numbers.{number_of}
 use Rattle.line_model.proofs.Numbers.{number_of-found, number_of-IsNumber}
 
 no_value : (o : Option ℕ) → ((n : ℕ) → o ≢ Some n) → None ≡ o

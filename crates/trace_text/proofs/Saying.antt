@@ -1,11 +1,9 @@
 -- What fields say, by their number, and that what is said is a line.
-use Rattle.std.proofs.Common.{◌≡◌, ◌≢◌, ℕ, ◌+◌, ◌<◌, ◌≤◌, List, [], ◌∷◌, length, Option, Some, None, Ok, refl, sym, ap, subst, inl, inr, ◌∙◌, arith}
+use Rattle.std.proofs.Common.{◌≡◌, ℕ, ◌<◌, ◌≤◌, List, [], ◌∷◌, length, Some, None, Ok, refl, sym, ap, subst, inl, inr, ◌∙◌, arith}
 use Rattle.std.proofs.lemmas.List.Splits.{length-slice_split}
 use Rattle.std.specs.Prelude.{◌==◌}
 use Rattle.hex.specs.Hex.{IsBytes}
 use Rattle.hex.proofs.HexLemmas.{decode_of-ok}
-use Rattle.rd_base.specs.declared.moments.Moment.{Moment}
-use Rattle.rd_base.specs.declared.peers.Peer.{Peer}
 use Rattle.line_model.specs.declared.lines.Line.{Line}
 use Rattle.line_model.specs.Datagrams.{max_datagram, IsDatagramText}
 use Rattle.line_model.specs.Lines.{space, fields, said_by, line_of, line_text, IsLine, come, go, tick, AreFieldsOf, comes, goes, ticks, ticks_alone}

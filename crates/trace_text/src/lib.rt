@@ -7,6 +7,8 @@ mod numbers;
 mod octets;
 mod printing;
 mod reading;
+#[cfg(test)]
+mod tests;
 
 pub use faults::LineFault;
 pub use line_model::{Line, LineBad, Reason};

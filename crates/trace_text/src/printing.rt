@@ -10,7 +10,13 @@ use rd_base::{Bytes, Moment, Peer, Starved, peer_text};
 use std::alloc::Global;
 
 /// The line of a datagram that comes.
-fn come_print(alloc: Global, worker: u8, moment: Moment, peer: &Peer, octets: &[u8]) -> Result<String, Starved>
+fn come_print(
+    alloc: Global,
+    worker: u8,
+    moment: Moment,
+    peer: &Peer,
+    octets: &[u8],
+) -> Result<String, Starved>
     ensures { IfOk result (λ text. string_bytes text ≡ lines.joined (lines.printed_fields (line_kind.Come worker moment peer.now octets.now))) }
 {
     let Moment(at) = moment;

@@ -26,7 +26,13 @@ const MAX_WORD: u64 = 4_294_967_295;
 
 /// What the fields of a datagram that comes say.
 #[tactic(auto, unfolding(line_model::specs::Lines::come_of))]
-fn come_read(alloc: Global, worker: &[u8], moment: &[u8], peer: &[u8], octets: &[u8]) -> Result<Line, FieldFault>
+fn come_read(
+    alloc: Global,
+    worker: &[u8],
+    moment: &[u8],
+    peer: &[u8],
+    octets: &[u8],
+) -> Result<Line, FieldFault>
     ensures { IsSaid result (lines.come_of worker.now moment.now peer.now octets.now) }
 {
     let worker = number_read(MAX_WORKER, worker).ok_or(FieldFault::Form)?;
@@ -94,7 +100,14 @@ fn four_read(verb: &[u8], worker: &[u8], moment: &[u8], word: &[u8]) -> Option<L
 
 /// What five fields say.
 #[tactic(auto, unfolding(line_model::specs::Lines::said_by))]
-fn five_read(alloc: Global, verb: &[u8], worker: &[u8], moment: &[u8], peer: &[u8], octets: &[u8]) -> Result<Line, FieldFault>
+fn five_read(
+    alloc: Global,
+    verb: &[u8],
+    worker: &[u8],
+    moment: &[u8],
+    peer: &[u8],
+    octets: &[u8],
+) -> Result<Line, FieldFault>
     ensures { IsSaid result (lines.said_by (verb.now ∷ worker.now ∷ moment.now ∷ peer.now ∷ octets.now ∷ [])) }
 {
     if verb == b"in".as_slice() {

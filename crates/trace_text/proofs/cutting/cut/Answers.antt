@@ -1,4 +1,4 @@
-use Rattle.std.proofs.Common.{◌∙◌, ◌+◌, ◌∷◌, ap, sym, take, drop, length, arith}
+use Rattle.std.proofs.Common.{◌∙◌, ◌+◌, ◌∷◌, ap, sym, take, drop, arith}
 use Rattle.std.proofs.lemmas.List.{length-drop, take_all}
 use Rattle.line_model.specs.Lines.{fields}
 use Rattle.trace_text.proofs.Cuts.{one_field, first_field}
