@@ -12,3 +12,5 @@ pub mod TagStates
 pub mod CommitLaws
 pub mod ChangingNotes
 pub mod Admitting
+pub mod FailedLaws
+pub mod HoldsEachOnce
