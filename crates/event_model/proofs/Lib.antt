@@ -1,3 +1,5 @@
 pub mod OnLiterals
 pub mod SameLaws
 pub mod KeptLaws
+pub mod Noting
+pub mod ObserverLaws

@@ -8,6 +8,7 @@ use Rattle.event_model.specs.declared.notes.Note.{Note}
 use Rattle.event_model.specs.Events.{Event, noted, last_event, has_event, exchange_lifetime, is_young}
 use Rattle.event_model.specs.Repeats.{is_admission_of, is_failure_of, repeated}
 use Rattle.event_model.proofs.KeptLaws.{last_failed}
+use Rattle.event_model.proofs.Noting.{has_event-noted, last_event-before, Found, last_event-here}
 use Rattle.journal_model.specs.declared.steps.Step.{Step}
 use Rattle.journal_model.specs.declared.rows.Row.{Row}
 use Rattle.journal_model.specs.Journal.{events, latest}
@@ -17,62 +18,6 @@ use Rattle.journal_model.specs.Headline.{Within, admits}
 use Rattle.journal_model.proofs.RowLaws.{row-moment_latest}
 use Rattle.journal_model.proofs.JournalLaws.{Made, newest, latest-row, latest-before}
 use Rattle.journal_model.proofs.Admitting.{row_admits}
-
--- an event of a row
-abbrev event_at : ℕ → ℕ → ℕ → Note → Event
-event_at place moment word n = record { place = place; moment = moment; word = word; note = n }
-
--- what one of the events before is, one of all is
-has_event-noted : (test : Note → Bool) (place moment word : ℕ) (notes : List Note) (before : List Event) → has_event test before ≡ true → has_event test (noted place moment word notes before) ≡ true
-has_event-noted test place moment word [] before h = h
-has_event-noted test place moment word (n ∷ notes) before h = has_event-noted test place moment word notes (event_at place moment word n ∷ before) (by (test n))
-  where
-    by : (b : Bool) → (b || has_event test before) ≡ true
-    by true = refl
-    by false = h
-
--- where a row notes nothing of a kind, the last event of the kind is the one before
-last_event-before : (test : Note → Bool) (place moment word : ℕ) (notes : List Note) (before : List Event) → list_any test notes ≡ false
-    → last_event test (noted place moment word notes before) ≡ last_event test before
-last_event-before test place moment word [] before none = refl
-last_event-before test place moment word (n ∷ notes) before none =
-    by (test n) refl none (λ h. last_event-before test place moment word notes (event_at place moment word n ∷ before) h)
-  where
-    Same : List Event → Type 0
-    Same more = last_event test (noted place moment word notes (event_at place moment word n ∷ before)) ≡ last_event test more
-
-    by : (b : Bool) → test n ≡ b → (b || list_any test notes) ≡ false → (list_any test notes ≡ false → Same (event_at place moment word n ∷ before)) → Same before
-    by true it h more = absurd (false≢true (sym h))
-    by false it h more = more h ∙ rw it refl
-
--- an event with a place and a moment
-record Found (test : Note → Bool) (events : List Event) (place moment : ℕ) : Type 0 where
-  event : Event
-  last : last_event test events ≡ Some event
-  at_place : event.place ≡ place
-  at_moment : event.moment ≡ moment
-
--- and where it notes something of the kind, the last event is its own
-last_event-here : (test : Note → Bool) (place moment word : ℕ) (notes : List Note) (before : List Event) → list_any test notes ≡ true → Found test (noted place moment word notes before) place moment
-last_event-here test place moment word [] before some = absurd (false≢true some)
-last_event-here test place moment word (n ∷ notes) before some =
-    by (list_any test notes) refl (λ h. last_event-here test place moment word notes (event_at place moment word n ∷ before) h)
-  where
-    one : (b c : Bool) → (b || c) ≡ true → c ≡ false → b ≡ true
-    one true c h g = refl
-    one false c h g = absurd (false≢true (sym g ∙ h))
-
-    Here : Type 0
-    Here = Found test (noted place moment word notes (event_at place moment word n ∷ before)) place moment
-
-    by : (b : Bool) → list_any test notes ≡ b → (list_any test notes ≡ true → Here) → Here
-    by true more later = later more
-    by false none later = record {
-      event = event_at place moment word n;
-      last = last_event-before test place moment word notes (event_at place moment word n ∷ before) none ∙ rw (one (test n) (list_any test notes) some none) refl;
-      at_place = refl;
-      at_moment = refl;
-    }
 
 -- a row within a journal is its newest, or within the rows before that
 within_cases : (x : Row) (rest before : List Row) (r : Row) → Within (x ∷ rest) before r → ((x ≡ r) × (rest ≡ before)) ⊎ Within rest before r
