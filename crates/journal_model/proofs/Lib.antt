@@ -14,3 +14,4 @@ pub mod ChangingNotes
 pub mod Admitting
 pub mod FailedLaws
 pub mod HoldsEachOnce
+pub mod Knowing
