@@ -24,7 +24,7 @@ apart-sym a b h = by (is_same_request b a) refl
     by false e = e
 
 -- a negated test
-not_true : (b : Bool) → not b ≡ true → b ≡ false
+pub not_true : (b : Bool) → not b ≡ true → b ≡ false
 not_true true h = absurd (false≢true h)
 not_true false h = refl
 

@@ -15,3 +15,6 @@ pub mod Admitting
 pub mod FailedLaws
 pub mod HoldsEachOnce
 pub mod Knowing
+pub mod Observing
+pub mod TickKnowing
+pub mod ObserversKnow

@@ -29,7 +29,7 @@ use Rattle.journal_model.specs.Writes.{again_answered, admitted_unless, write_un
 use Rattle.journal_model.specs.Empties.{waited_for, is_last_request, acknowledged, reset}
 use Rattle.journal_model.specs.Ticks.{first_block, is_given, listing_for, is_looked_at, events_with, ticking, sent_again, each_of, notice_again, flight_again, notices_again, Ticking, noticed, noticed_unless, noticed_if, notice_next, notices, request_again, fetch_again, requests_again, tick_effects}
 use Rattle.std.proofs.lemmas.Bool.{and_from}
-use Rattle.journal_model.proofs.NoteKinds.{of_lookup, of_write, of_empty, of_tick, are, are-append}
+use Rattle.journal_model.proofs.NoteKinds.{of_lookup, of_write, of_empty, of_again, of_resent, of_tick, are, are-append, again_tick, resent_tick}
 
 -- a look
 pub look_effects-notes : (history : List Entry) (moment : ℕ) (s : Step) (m : Message) → (look_effects history moment s m).notes ≡ []
@@ -156,27 +156,27 @@ tick_one true n fits = and_from (of_tick n) true fits refl
 tick_one false n fits = refl
 
 -- what is done one after the other
-each_of-notes : {A : Type 0} (does : A → Effects) → ((x : A) → are of_tick (does x).notes ≡ true) → (xs : List A) → are of_tick (each_of does xs).notes ≡ true
-each_of-notes does quiet [] = refl
-each_of-notes does quiet (x ∷ xs) = are-append of_tick (does x).notes (each_of does xs).notes (quiet x) (each_of-notes does quiet xs)
+each_of-notes : {A : Type 0} (kind : Note → Bool) (does : A → Effects) → ((x : A) → are kind (does x).notes ≡ true) → (xs : List A) → are kind (each_of does xs).notes ≡ true
+each_of-notes kind does quiet [] = refl
+each_of-notes kind does quiet (x ∷ xs) = are-append kind (does x).notes (each_of does xs).notes (quiet x) (each_of-notes kind does quiet xs)
 
 -- a message is sent again
-sent_again-notes : (d : Option (Peer × List ℕ)) (n : Note) → of_tick n ≡ true → are of_tick (sent_again d n).notes ≡ true
-sent_again-notes None n fits = and_from (of_tick n) true fits refl
-sent_again-notes (Some d) n fits = and_from (of_tick n) true fits refl
+sent_again-notes : (kind : Note → Bool) (d : Option (Peer × List ℕ)) (n : Note) → kind n ≡ true → are kind (sent_again d n).notes ≡ true
+sent_again-notes kind None n fits = and_from (kind n) true fits refl
+sent_again-notes kind (Some d) n fits = and_from (kind n) true fits refl
 
 -- notices are sent again
-pub notices_again-notes : (rows : List Row) (moment : ℕ) → are of_tick (notices_again rows moment).notes ≡ true
+pub notices_again-notes : (rows : List Row) (moment : ℕ) → are of_again (notices_again rows moment).notes ≡ true
 unfolding notices_again
 notices_again-notes rows moment =
-    each_of-notes (λ o. flight_again rows moment o (flight o (events rows))) (λ o. flying o (flight o (events rows))) (observers (events rows))
+    each_of-notes of_again (λ o. flight_again rows moment o (flight o (events rows))) (λ o. flying o (flight o (events rows))) (observers (events rows))
   where
-    again : (b c : Bool) (o : Observer) (f : Flight) → are of_tick (notice_again b c rows o f).notes ≡ true
+    again : (b c : Bool) (o : Observer) (f : Flight) → are of_again (notice_again b c rows o f).notes ≡ true
     again false c o f = refl
     again true true o f = refl
-    again true false o f = sent_again-notes _ _ refl
+    again true false o f = sent_again-notes of_again _ _ refl
 
-    flying : (o : Observer) (f : Option Flight) → are of_tick (flight_again rows moment o f).notes ≡ true
+    flying : (o : Observer) (f : Option Flight) → are of_again (flight_again rows moment o f).notes ≡ true
     flying o None = refl
     flying o (Some f) = again _ _ o f
 
@@ -200,25 +200,26 @@ notices-notes t done quiet = folded (observers (events_with t done)) done quiet
             (are-append of_tick so_far.notes (noticed_if (is_looked_at t so_far o) t so_far o).notes h (looked (is_looked_at t so_far o) so_far o))
 
 -- requests of fetches are sent again
-pub requests_again-notes : (rows : List Row) (moment : ℕ) → are of_tick (requests_again rows moment).notes ≡ true
+pub requests_again-notes : (rows : List Row) (moment : ℕ) → are of_resent (requests_again rows moment).notes ≡ true
 unfolding requests_again
 requests_again-notes rows moment =
-    each_of-notes (λ peer. fetch_again rows moment peer (last_request peer (events rows))) (λ peer. running peer (last_request peer (events rows))) (fetches (events rows))
+    each_of-notes of_resent (λ peer. fetch_again rows moment peer (last_request peer (events rows))) (λ peer. running peer (last_request peer (events rows))) (fetches (events rows))
   where
-    again : (b c : Bool) (peer : Peer) (e : Event) (request : Option Request) → are of_tick (request_again b c rows peer e request).notes ≡ true
+    again : (b c : Bool) (peer : Peer) (e : Event) (request : Option Request) → are of_resent (request_again b c rows peer e request).notes ≡ true
     again false c peer e request = refl
     again true c peer e None = refl
     again true true peer e (Some request) = refl
-    again true false peer e (Some request) = sent_again-notes _ _ refl
+    again true false peer e (Some request) = sent_again-notes of_resent _ _ refl
 
-    running : (peer : Peer) (e : Option Event) → are of_tick (fetch_again rows moment peer e).notes ≡ true
+    running : (peer : Peer) (e : Option Event) → are of_resent (fetch_again rows moment peer e).notes ≡ true
     running peer None = refl
     running peer (Some e) = again _ _ peer e _
 
 -- a tick
 pub tick_effects-notes : (starved : Bool) (rows : List Row) (moment : ℕ) (s : Step) → are of_tick (tick_effects starved rows moment s).notes ≡ true
 unfolding tick_effects
-tick_effects-notes true rows moment s = are-append of_tick (notices_again rows moment).notes (requests_again rows moment).notes (notices_again-notes rows moment) (requests_again-notes rows moment)
+tick_effects-notes true rows moment s = are-append of_tick (notices_again rows moment).notes (requests_again rows moment).notes (again_tick (notices_again rows moment).notes (notices_again-notes rows moment)) (resent_tick (requests_again rows moment).notes (requests_again-notes rows moment))
 tick_effects-notes false rows moment s =
     are-append of_tick (notices (ticking rows moment s) (notices_again rows moment)).notes (requests_again rows moment).notes
-        (notices-notes (ticking rows moment s) (notices_again rows moment) (notices_again-notes rows moment)) (requests_again-notes rows moment)
+        (notices-notes (ticking rows moment s) (notices_again rows moment) (again_tick (notices_again rows moment).notes (notices_again-notes rows moment)))
+        (resent_tick (requests_again rows moment).notes (requests_again-notes rows moment))
