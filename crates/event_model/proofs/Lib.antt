@@ -2,4 +2,5 @@ pub mod OnLiterals
 pub mod SameLaws
 pub mod KeptLaws
 pub mod Noting
+pub mod LookingBack
 pub mod ObserverLaws

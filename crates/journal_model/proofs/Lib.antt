@@ -5,6 +5,7 @@ pub mod StepNotes
 pub mod QuietSteps
 pub mod ChangingSteps
 pub mod RowLaws
+pub mod RowEquations
 pub mod JournalLaws
 pub mod AnswerLaws
 pub mod Origins
