@@ -1,5 +1,5 @@
 -- The last admission of a peer and a Message ID: where it is young and did not fail, it is kept, and a write of them is a repeat.
-use Rattle.std.proofs.Common.{◌≡◌, ℕ, ◌==◌, ◌||◌, Bool, true, false, not, cond, List, [], ◌∷◌, ◌++◌, filter, Option, Some, None, option_and_then, refl, sym, ap, subst, ◌∙◌, eqb-true, arith}
+use Rattle.std.proofs.Common.{◌≡◌, ℕ, ◌==◌, ◌||◌, Bool, true, false, not, cond, List, [], ◌∷◌, ◌++◌, filter, Some, None, option_and_then, refl, sym, ap, subst, ◌∙◌, eqb-true, arith}
 use Rattle.std.specs.List.{list_any}
 use Rattle.std.proofs.lemmas.Bool.{false≢true}
 use Rattle.std.proofs.lemmas.List.Elements.{filter-append}
@@ -40,8 +40,8 @@ found_behind : (test young keep : Event → Bool) → ((o : Event) → test o �
     → list_any test (filter young (xs ++ filter keep ys)) ≡ true
 found_behind test young keep kept_too xs ys h =
     rw (filter-append young xs (filter keep ys)) (rw (list_any-append test (filter young xs) (filter young (filter keep ys)))
-        (or_right (list_any test (filter young xs)) (list_any test (filter young (filter keep ys)))
-            (ap (list_any test) (filter_swapped young keep ys) ∙ (found_among test keep kept_too (filter young ys) ∙ h))))
+    (or_right (list_any test (filter young xs)) (list_any test (filter young (filter keep ys)))
+    (ap (list_any test) (filter_swapped young keep ys) ∙ (found_among test keep kept_too (filter young ys) ∙ h))))
 
 -- the note of an admission
 admitted_by : (peer : Peer) (mid : ℕ) (n : Note) (e : Event) → is_admission_of peer mid n ≡ true → admission_by n e ≡ e ∷ []
@@ -55,7 +55,7 @@ unfolding admissions kept
 last_is_kept now peer mid [] a last young alive = absurd (let h : None ≡ Some a = last in cc)
 last_is_kept now peer mid (e ∷ before) a last young alive =
     by (is_admission_of peer mid e.note) refl last (neither (is_failure_of a.place e.note) (has_event (is_failure_of a.place) before) alive)
-        (λ found alive_before. last_is_kept now peer mid before a found young alive_before)
+    (λ found alive_before. last_is_kept now peer mid before a found young alive_before)
   where
     by : (b : Bool) → is_admission_of peer mid e.note ≡ b → cond b (Some e) (last_event (is_admission_of peer mid) before) ≡ Some a
         → (is_failure_of a.place e.note ≡ false) × (has_event (is_failure_of a.place) before ≡ false)
@@ -66,7 +66,7 @@ last_is_kept now peer mid (e ∷ before) a last young alive =
         rw (admitted_by peer mid e.note e it) (rw (subst (λ (x : Event). is_young now x.moment ≡ true) (sym same) young) (rw (subst (λ (x : Event). (x.place == a.place) ≡ true) (sym same) (eqb-refl a.place)) refl))
     by false it found both more =
         found_behind (λ other. other.place == a.place) (λ x. is_young now x.moment) (λ x. not (is_failure_of x.place e.note))
-            (λ o t. ap not (subst (λ p. is_failure_of p e.note ≡ false) (sym (eqb-true o.place a.place t)) both.0)) (admission_by e.note e) (admissions before) (more found both.1)
+        (λ o t. ap not (subst (λ p. is_failure_of p e.note ≡ false) (sym (eqb-true o.place a.place t)) both.0)) (admission_by e.note e) (admissions before) (more found both.1)
 
 -- where no kept admission has a peer and a Message ID, but the last one with them is young, that one failed
 pub last_failed : (now : ℕ) (peer : Peer) (mid : ℕ) (events : List Event) (a : Event) → repeated now peer mid events ≡ None → last_event (is_admission_of peer mid) events ≡ Some a

@@ -1,5 +1,5 @@
 -- What looking back finds where a row adds its notes.
-use Rattle.std.proofs.Common.{◌≡◌, ℕ, ◌||◌, Bool, true, false, cond, not, List, [], ◌∷◌, ◌++◌, filter, find, fold, Option, Some, None, refl, sym, ap, subst, ◌∙◌, append-nil}
+use Rattle.std.proofs.Common.{◌≡◌, ℕ, ◌||◌, Bool, true, false, not, List, [], ◌∷◌, ◌++◌, filter, Option, Some, None, refl, sym, ◌∙◌, append-nil}
 use Rattle.std.specs.List.{list_any, AllByRecursion}
 use Rattle.std.proofs.lemmas.Bool.{false≢true}
 use Rattle.std.proofs.lemmas.List.Sums.{fold-append}
@@ -7,7 +7,7 @@ use Rattle.history_model.proofs.Pairs.{each_filter}
 use Rattle.event_model.specs.declared.notes.Note.{Note}
 use Rattle.event_model.specs.declared.notes.Note.TheVariants as note
 use Rattle.event_model.specs.declared.notes.Observer.{Observer}
-use Rattle.event_model.specs.Same.{RequestName, is_same_request}
+use Rattle.event_model.specs.Same.{RequestName}
 use Rattle.event_model.specs.Events.{Event, noted, last_event, has_event, or_else, last_said}
 use Rattle.event_model.specs.Observers.{name_of, is_end_of, watched_by, observers, body_formed, body_given}
 use Rattle.event_model.specs.Due.{is_looking_for}

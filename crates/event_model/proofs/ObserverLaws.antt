@@ -1,5 +1,5 @@
 -- No two observers that stand have the same peer and token.
-use Rattle.std.proofs.Common.{◌≡◌, Bool, true, false, not, List, [], ◌∷◌, ◌++◌, filter, refl, sym, ap, subst, ◌∙◌, append-nil}
+use Rattle.std.proofs.Common.{◌≡◌, Bool, true, false, not, List, [], ◌∷◌, ◌++◌, filter, refl, sym, subst, ◌∙◌, append-nil}
 use Rattle.std.specs.List.{AllByRecursion}
 use Rattle.std.proofs.lemmas.Bool.{false≢true}
 use Rattle.history_model.proofs.Pairs.{each_weaker, each_both, each_passes, PairsByRecursion, pairs_filter, pairs_push}
@@ -40,9 +40,9 @@ observers-apart (e ∷ before) = by e.note (observers-apart before)
     by : (n : Note) → PairsByRecursion Apart (observers before) → PairsByRecursion Apart (Left n ++ watched_by n)
     by (note.Watched o) h =
         pairs_push Apart (Left (note.Watched o)) o (pairs_filter Apart (λ x. not (is_same_request (name_of o) (name_of x))) (observers before) h)
-            (each_weaker (λ x. not (is_same_request (name_of o) (name_of x)) ≡ true) (λ x. Apart x o)
-                (λ x passes. apart-sym (name_of o) (name_of x) (not_true (is_same_request (name_of o) (name_of x)) passes))
-                (Left (note.Watched o)) (each_passes (λ x. not (is_same_request (name_of o) (name_of x))) (observers before)))
+        (each_weaker (λ x. not (is_same_request (name_of o) (name_of x)) ≡ true) (λ x. Apart x o)
+        (λ x passes. apart-sym (name_of o) (name_of x) (not_true (is_same_request (name_of o) (name_of x)) passes))
+        (Left (note.Watched o)) (each_passes (λ x. not (is_same_request (name_of o) (name_of x))) (observers before)))
     by n h = subst (PairsByRecursion Apart) (sym (append-nil (Left n))) (pairs_filter Apart (λ o. not (is_end_of n (name_of o))) (observers before) h)
 
 -- among these, only an observer itself has its name

@@ -1,19 +1,15 @@
 -- Of two admissions with one peer and Message ID that are less than the lifetime of an exchange apart, the earlier ended in 5.00.
-use Rattle.std.proofs.Common.{◌≡◌, ◌⊎◌, inl, inr, ℕ, ◌+◌, ◌<◌, ◌≤◌, ◌||◌, Bool, true, false, cond, max, List, [], ◌∷◌, ◌++◌, length, find, fold, Option, Some, None, refl, sym, ap, subst, ◌∙◌, nat_lt, lt-ltb, arith}
-use Rattle.std.specs.List.{list_any}
+use Rattle.std.proofs.Common.{◌≡◌, ◌⊎◌, inl, inr, ℕ, ◌+◌, ◌<◌, ◌≤◌, Bool, true, false, List, [], ◌∷◌, ◌++◌, length, None, refl, sym, ap, subst, ◌∙◌, lt-ltb, arith}
 use Rattle.std.proofs.lemmas.Bool.{false≢true}
-use Rattle.std.proofs.Math.Nat.{le-max_left, le-max_right}
 use Rattle.rd_base.specs.declared.peers.Peer.{Peer}
 use Rattle.event_model.specs.declared.notes.Note.{Note}
-use Rattle.event_model.specs.Events.{Event, noted, last_event, has_event, exchange_lifetime, is_young}
+use Rattle.event_model.specs.Events.{has_event, exchange_lifetime}
 use Rattle.event_model.specs.Repeats.{is_admission_of, is_failure_of, repeated}
 use Rattle.event_model.proofs.KeptLaws.{last_failed}
 use Rattle.event_model.proofs.Noting.{has_event-noted, last_event-before, Found, last_event-here}
-use Rattle.journal_model.specs.declared.steps.Step.{Step}
 use Rattle.journal_model.specs.declared.rows.Row.{Row}
 use Rattle.journal_model.specs.Journal.{events, latest}
-use Rattle.journal_model.specs.Rows.{row}
-use Rattle.journal_model.specs.Machine.{IsJournal, begun, made}
+use Rattle.journal_model.specs.Machine.{IsJournal}
 use Rattle.journal_model.specs.Headline.{Within, admits}
 use Rattle.journal_model.proofs.RowLaws.{row-moment_latest}
 use Rattle.journal_model.proofs.JournalLaws.{Made, newest, latest-row, latest-before}
@@ -123,7 +119,7 @@ newest_failed before earlier r other peer mid it further now then close more = b
         let moments : last.row_of.moment.0 ≡ other.moment.0 = ap (λ (y : Row). y.moment.0) same.0 in
         let at = last.found.at_moment in
         let failed : has_event (is_failure_of last.found.event.place) (events before) ≡ true =
-            last_failed r.moment.0 peer mid (events before) last.found.event nothing_kept last.found.last (lt-ltb r.moment.0 (last.found.event.moment + exchange_lifetime) (omega (arith, close, moments, at))) in
+        last_failed r.moment.0 peer mid (events before) last.found.event nothing_kept last.found.last (lt-ltb r.moment.0 (last.found.event.moment + exchange_lifetime) (omega (arith, close, moments, at))) in
         subst (λ n. has_event (is_failure_of n) (events before) ≡ true) (last.found.at_place ∙ ap length same.1) failed
     by (inr between) =
         let low : last.row_of.moment.0 ≤ latest before = moment-latest before last.behind last.row_of last.within in
@@ -135,13 +131,13 @@ pub journal-failed : (rows before earlier : List Row) (r other : Row) (peer : Pe
 journal-failed [] before earlier r other peer mid journal within further now then close = absurd (nothing_within before r within)
 journal-failed (x ∷ rest) before earlier r other peer mid journal within further now then close =
     by (within_cases x rest before r within) (newest rest x journal)
-        (λ between y inside deeper also near. journal-failed rest between earlier y other peer mid (newest rest x journal).journal inside deeper also then near)
+    (λ between y inside deeper also near. journal-failed rest between earlier y other peer mid (newest rest x journal).journal inside deeper also then near)
   where
     by : ((x ≡ r) × (rest ≡ before)) ⊎ Within rest before r → Made rest x
         → ((between : List Row) (y : Row) → Within rest between y → Within between earlier other → admits peer mid y ≡ true → y.moment.0 < other.moment.0 + exchange_lifetime → Failed rest earlier)
         → has_event (is_failure_of (length earlier)) (events (x ∷ rest)) ≡ true
     by (inl same) it more =
         has_event-more (is_failure_of (length earlier)) x rest
-            (newest_failed rest earlier x other peer mid it (subst (λ rows. Within rows earlier other) (sym same.1) further)
-                (subst (λ (y : Row). admits peer mid y ≡ true) (sym same.0) now) then (subst (λ (y : Row). y.moment.0 < other.moment.0 + exchange_lifetime) (sym same.0) close) more)
+        (newest_failed rest earlier x other peer mid it (subst (λ rows. Within rows earlier other) (sym same.1) further)
+        (subst (λ (y : Row). admits peer mid y ≡ true) (sym same.0) now) then (subst (λ (y : Row). y.moment.0 < other.moment.0 + exchange_lifetime) (sym same.0) close) more)
     by (inr inside) it more = has_event-more (is_failure_of (length earlier)) x rest (more before r inside further now close)

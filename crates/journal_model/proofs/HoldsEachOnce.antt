@@ -1,10 +1,9 @@
 -- Registrations are the replay of one legal history that holds each accepted request once, despite repeats.
-use Rattle.std.proofs.Common.{◌≡◌, ◌⊎◌, ℕ, ◌+◌, ◌<◌, Bool, true, false, List, [], ◌∷◌, length, refl, sym, ap, subst, ◌∙◌}
+use Rattle.std.proofs.Common.{◌≡◌, ◌⊎◌, ℕ, ◌<◌, Bool, true, false, List, [], length, sym, ap, subst, ◌∙◌}
 use Rattle.std.proofs.lemmas.Bool.{false≢true}
 use Rattle.message_model.specs.Reading.{reading}
 use Rattle.journal_model.specs.declared.steps.Step.{Step}
 use Rattle.journal_model.specs.declared.steps.StepKind.{StepKind}
-use Rattle.journal_model.specs.declared.steps.StepKind.TheVariants as step
 use Rattle.journal_model.specs.declared.rows.Row.{Row}
 use Rattle.journal_model.specs.Journal.{entries_of}
 use Rattle.journal_model.specs.Rows.{effects, moment_of, row}
@@ -22,13 +21,13 @@ row-Weighs : (rows : List Row) (s : Step) (starved : Bool) (place : ℕ) → Com
 unfolding row
 row-Weighs rows s starved place commits =
     subst (λ (k : StepKind). Weighs (told (effects k starved rows (moment_of rows s) s).notes) (is_telling (code_sent (effects k starved rows (moment_of rows s) s).sent) (names_location (reading s.datagram))))
-        (sym commits) (commit-Weighs place starved rows (moment_of rows s) s)
+    (sym commits) (commit-Weighs place starved rows (moment_of rows s) s)
 
 commit_weighs : (rows before : List Row) (r : Row) (place : ℕ) → IsJournal rows → Within rows before r → Commits r place → Weighs (entries_of r) (tells_change r)
 commit_weighs rows before r place journal within commits =
     let it : Made before r = each_row rows before r journal within in
     subst (λ (x : Row). Weighs (entries_of x) (tells_change x)) (sym it.is)
-        (row-Weighs before it.step it.starved place (subst (λ (x : Row). Commits x place) it.is commits))
+    (row-Weighs before it.step it.starved place (subst (λ (x : Row). Commits x place) it.is commits))
 
 -- one entry, or none
 one_entry : (r : Row) → Weighs (entries_of r) (tells_change r) → tells_change r ≡ true → length (entries_of r) ≡ 1
@@ -55,4 +54,4 @@ journal-HoldsEachOnce rows journal = record {
     origin before r within some =
         let it : Made before r = each_row rows before r journal within in
         subst (λ (x : Row). ((place : ℕ) × Commits x place) ⊎ IsCompletion x) (sym it.is)
-            (row-origin before it.step it.starved (subst (λ (x : Row). 0 < length (entries_of x)) it.is some))
+        (row-origin before it.step it.starved (subst (λ (x : Row). 0 < length (entries_of x)) it.is some))

@@ -1,8 +1,7 @@
 -- What an observer knows: when its listing was last looked at, and that the body it was given is the listing now unless it is due.
-use Rattle.std.proofs.Common.{◌≡◌, ℕ, suc, ◌+◌, ◌<◌, ◌==◌, ◌&&◌, ◌||◌, Bool, true, false, not, cond, List, [], ◌∷◌, ◌++◌, length, map, filter, filter_map, Option, Some, None, refl, sym, ap, ap₂, subst, ◌∙◌, append-nil, bytes_eq, nat_lt, lt-ltb, eqb-true, arith}
+use Rattle.std.proofs.Common.{◌≡◌, ℕ, suc, ◌<◌, ◌==◌, ◌&&◌, ◌||◌, Bool, true, false, not, cond, List, [], ◌∷◌, ◌++◌, length, map, filter, filter_map, Some, refl, sym, ap, ap₂, subst, ◌∙◌, append-nil, bytes_eq, nat_lt, lt-ltb, eqb-true, arith}
 use Rattle.std.specs.List.{list_any, AllByRecursion}
 use Rattle.std.proofs.lemmas.Bool.{false≢true, and_parts}
-use Rattle.std.proofs.lemmas.List.Folds.{list_any-append}
 use Rattle.std.proofs.lemmas.Slice.Eq.{bytes_eq-Decides}
 use Rattle.rd_base.specs.declared.queries.Query.{Query}
 use Rattle.document_model.specs.ListingLines.{shown}
@@ -47,8 +46,8 @@ unchanged : (query : Query) (t : Turn) → is_change_of query t ≡ false → li
 unfolding is_change_of listing
 unchanged query t h =
     ap (λ lines. shown query (map (λ (numbered : ℕ × List ℕ). numbered.1) lines))
-        (same_lines (all_lines query t.before t.moment_before) (all_lines query t.after t.moment_after)
-            (not_changed (are_same_lines (all_lines query t.before t.moment_before) (all_lines query t.after t.moment_after)) h))
+    (same_lines (all_lines query t.before t.moment_before) (all_lines query t.after t.moment_after)
+    (not_changed (are_same_lines (all_lines query t.before t.moment_before) (all_lines query t.after t.moment_after)) h))
 
 neither : (a b : Bool) → (a || b) ≡ false → (a ≡ false) × (b ≡ false)
 neither true b h = absurd (false≢true (sym h))
@@ -144,7 +143,7 @@ pub quiet_row : (rows : List Row) (r : Row) → is_desk_row r ≡ true → list_
 unfolding events
 quiet_row rows r desk quiet all =
     observers-noted (KnownIn (r ∷ rows)) (length rows) r.moment.0 r.step.word r.notes (events rows) (not_watching r.notes quiet)
-        (each_weaker (KnownIn rows) (KnownIn (r ∷ rows)) (λ o known. known_row rows r o desk (not_looking (name_of o) r.notes quiet) known) (observers (events rows)) all)
+    (each_weaker (KnownIn rows) (KnownIn (r ∷ rows)) (λ o known. known_row rows r o desk (not_looking (name_of o) r.notes quiet) known) (observers (events rows)) all)
 
 -- a row that notes nothing adds no event and no entry
 events-nothing : (rows : List Row) (r : Row) → r.notes ≡ [] → events (r ∷ rows) ≡ events rows
@@ -168,7 +167,7 @@ now-look rows r look = ap (λ b. cond b r.moment.0 (now rows)) look
 pub look_row : (rows : List Row) (r : Row) → is_desk_row r ≡ false → r.notes ≡ [] → AllKnown rows → AllKnown (r ∷ rows)
 look_row rows r look none all =
     subst (λ past. AllByRecursion (KnownIn (r ∷ rows)) (observers past)) (sym (events-nothing rows r none))
-        (each_weaker (KnownIn rows) (KnownIn (r ∷ rows)) same (observers (events rows)) all)
+    (each_weaker (KnownIn rows) (KnownIn (r ∷ rows)) same (observers (events rows)) all)
   where
     longer : (o : Observer) → KnownIn rows o → Known (events rows) (turns rows) (entries rows) (now rows) (suc (length rows)) o
     longer o known = record { event = known.event; last = known.last; place = let low = known.place in omega (arith, low); knows = known.knows }
@@ -176,6 +175,6 @@ look_row rows r look none all =
     same : (o : Observer) → KnownIn rows o → KnownIn (r ∷ rows) o
     same o known =
         subst (λ past. Known past (turns (r ∷ rows)) (entries (r ∷ rows)) (now (r ∷ rows)) (suc (length rows)) o) (sym (events-nothing rows r none))
-            (subst (λ seen. Known (events rows) seen (entries (r ∷ rows)) (now (r ∷ rows)) (suc (length rows)) o) (sym (turns-look rows r look))
-                (subst (λ history. Known (events rows) (turns rows) history (now (r ∷ rows)) (suc (length rows)) o) (sym (entries-nothing rows r none))
-                    (subst (λ moment. Known (events rows) (turns rows) (entries rows) moment (suc (length rows)) o) (sym (now-look rows r look)) (longer o known))))
+        (subst (λ seen. Known (events rows) seen (entries (r ∷ rows)) (now (r ∷ rows)) (suc (length rows)) o) (sym (turns-look rows r look))
+        (subst (λ history. Known (events rows) (turns rows) history (now (r ∷ rows)) (suc (length rows)) o) (sym (entries-nothing rows r none))
+        (subst (λ moment. Known (events rows) (turns rows) (entries rows) moment (suc (length rows)) o) (sym (now-look rows r look)) (longer o known))))

@@ -1,5 +1,5 @@
 -- An observer with no notice due was last given the listing now.
-use Rattle.std.proofs.Common.{◌≡◌, ℕ, ◌==◌, Bool, true, false, cond, not, List, [], ◌∷◌, ◌++◌, Option, Some, None, Result, Ok, Err, refl, sym, ap, subst, ◌∙◌}
+use Rattle.std.proofs.Common.{◌≡◌, ℕ, ◌==◌, Bool, true, false, cond, not, List, [], ◌∷◌, Option, Some, None, Result, Ok, Err, refl, sym, ap, subst, ◌∙◌}
 use Rattle.std.specs.List.{list_any, AllByRecursion, IsAmong}
 use Rattle.std.proofs.lemmas.Bool.{false≢true}
 use Rattle.std.proofs.lemmas.List.Folds.{list_any-append}
@@ -24,15 +24,13 @@ use Rattle.event_model.specs.declared.notes.Note.{Note}
 use Rattle.event_model.specs.declared.notes.Note.TheVariants as note
 use Rattle.event_model.specs.declared.notes.Observer.{Observer}
 use Rattle.event_model.specs.Same.{RequestName}
-use Rattle.event_model.specs.Events.{Event}
 use Rattle.event_model.specs.KeptAnswers.{Answer, kept_answer}
-use Rattle.event_model.specs.Observers.{name_of, observers, is_observer, has_room_for, body_given}
-use Rattle.event_model.specs.Due.{is_due}
+use Rattle.event_model.specs.Observers.{observers, is_observer, has_room_for}
 use Rattle.journal_model.specs.declared.steps.Step.{Step}
 use Rattle.journal_model.specs.declared.steps.StepKind.{StepKind}
 use Rattle.journal_model.specs.declared.steps.StepKind.TheVariants as step
 use Rattle.journal_model.specs.declared.rows.Row.{Row}
-use Rattle.journal_model.specs.Journal.{is_look, is_desk_row, events, entries, now, turns}
+use Rattle.journal_model.specs.Journal.{is_look, is_desk_row, events, entries}
 use Rattle.journal_model.specs.Sending.{Reply, answering}
 use Rattle.journal_model.specs.Bodies.{is_long}
 use Rattle.journal_model.specs.Requests.{refusal_by_request, query_of, asked_block, number_of, szx_of, is_later_block, register, deregister}
@@ -42,25 +40,23 @@ use Rattle.journal_model.specs.Writes.{write_effects}
 use Rattle.journal_model.specs.Commits.{commit_effects}
 use Rattle.journal_model.specs.Empties.{acknowledged, reset}
 use Rattle.journal_model.specs.Responses.{response_effects}
-use Rattle.journal_model.specs.Ticks.{tick_effects}
 use Rattle.journal_model.specs.Rows.{served, refusal_answered, request_by, by_role, unread_answered, heard, looked, done, kept_body, effects, moment_of, row}
 use Rattle.journal_model.specs.Machine.{IsJournal, begun, made}
 use Rattle.journal_model.specs.Headline.{ObserversKnow}
 use Rattle.journal_model.proofs.Telling.{told}
 use Rattle.journal_model.proofs.NoteKinds.{of_write, of_empty, of_commit, of_response, are, none_of}
-use Rattle.journal_model.proofs.StepNotes.{look_effects-notes, keep_effects-notes, lookup_effects-notes, write_effects-notes, acknowledged-notes, reset-notes}
+use Rattle.journal_model.proofs.StepNotes.{look_effects-notes, keep_effects-notes, write_effects-notes, acknowledged-notes, reset-notes}
 use Rattle.journal_model.proofs.QuietSteps.{lookup_effects-told}
 use Rattle.journal_model.proofs.ChangingNotes.{commit_effects-notes, response_effects-notes}
-use Rattle.journal_model.proofs.RowLaws.{request_by-told}
 use Rattle.journal_model.proofs.Knowing.{KnownIn, AllKnown, is_observing, quiet_row, look_row}
-use Rattle.journal_model.proofs.Observing.{around, Adds, observed_row}
+use Rattle.journal_model.proofs.Observing.{around, observed_row}
 use Rattle.journal_model.proofs.TickKnowing.{tick_row}
 
 -- what notes do for observers behind a journal at a moment: nothing; or they tell no entry, and add one, with its first listing
 data Shows (rows : List Row) (moment : ℕ) (notes : List Note) : Type 0 where
   quiet : list_any is_observing notes ≡ false → Shows rows moment notes
   adds : (o : Observer) (front back : List Note) (body : List ℕ) → notes ≡ around front o body back → list_any is_observing front ≡ false → list_any is_observing back ≡ false
-    → body ≡ listing o.query (entries rows) moment → told notes ≡ [] → Shows rows moment notes
+      → body ≡ listing o.query (entries rows) moment → told notes ≡ [] → Shows rows moment notes
 
 -- notes of a kind that does nothing for observers
 quiet_of : (kind : Note → Bool) → ((o : Observer) → kind (note.Watched o) ≡ false) → ((peer : Peer) (token body : List ℕ) (mid : Option ℕ) → kind (note.Formed peer token body mid) ≡ false)

@@ -1,7 +1,6 @@
 -- What observers know behind a row that adds one.
-use Rattle.std.proofs.Common.{◌≡◌, ℕ, ◌||◌, Bool, true, false, not, List, [], ◌∷◌, ◌++◌, length, filter, filter_map, Option, Some, None, refl, sym, ap, subst, ◌∙◌, append-nil}
+use Rattle.std.proofs.Common.{◌≡◌, ℕ, ◌||◌, Bool, true, false, not, List, [], ◌∷◌, ◌++◌, length, filter, Some, None, refl, sym, ap, subst, ◌∙◌, append-nil}
 use Rattle.std.specs.List.{list_any, AllByRecursion}
-use Rattle.std.proofs.lemmas.Bool.{false≢true}
 use Rattle.std.proofs.lemmas.List.Folds.{list_any-append}
 use Rattle.history_model.specs.Listing.{listing}
 use Rattle.history_model.proofs.Pairs.{each_weaker, each_both, each_filter, each_passes, each_push}
@@ -63,8 +62,8 @@ unfolding body_given last_said
 new_given place moment word front back o body past quiet_back =
     ap (body_given (name_of o)) (noted-append place moment word front (note.Watched o ∷ note.Formed o.peer o.token body None ∷ back) past)
     ∙ (body_given-before (name_of o) place moment word back
-        (event_at place moment word (note.Formed o.peer o.token body None) ∷ event_at place moment word (note.Watched o) ∷ noted place moment word front past)
-        (not_looking (name_of o) back quiet_back)
+    (event_at place moment word (note.Formed o.peer o.token body None) ∷ event_at place moment word (note.Watched o) ∷ noted place moment word front past)
+    (not_looking (name_of o) back quiet_back)
     ∙ rw (is_same_request-refl (name_of o)) refl)
 
 -- behind a row that adds an observer, each that stands knows
@@ -72,10 +71,10 @@ pub observed_row : (rows : List Row) (r : Row) → is_desk_row r ≡ true → to
 unfolding events observers
 observed_row rows r desk silent adds all =
     subst (λ notes. AllByRecursion (KnownIn (r ∷ rows)) (observers (noted (length rows) r.moment.0 r.step.word notes (events rows)))) (sym adds.notes)
-        (subst (λ past. AllByRecursion (KnownIn (r ∷ rows)) (observers past))
-            (sym (noted-append (length rows) r.moment.0 r.step.word adds.front (note.Watched o ∷ formed ∷ adds.back) (events rows)))
-            (observers-noted (KnownIn (r ∷ rows)) (length rows) r.moment.0 r.step.word (formed ∷ adds.back) (event_at (length rows) r.moment.0 r.step.word (note.Watched o) ∷ before)
-                (not_watching adds.back adds.quiet_back) with_new))
+    (subst (λ past. AllByRecursion (KnownIn (r ∷ rows)) (observers past))
+    (sym (noted-append (length rows) r.moment.0 r.step.word adds.front (note.Watched o ∷ formed ∷ adds.back) (events rows)))
+    (observers-noted (KnownIn (r ∷ rows)) (length rows) r.moment.0 r.step.word (formed ∷ adds.back) (event_at (length rows) r.moment.0 r.step.word (note.Watched o) ∷ before)
+    (not_watching adds.back adds.quiet_back) with_new))
   where
     o : Observer
     o = adds.observer
@@ -92,22 +91,22 @@ observed_row rows r desk silent adds all =
     others : AllByRecursion (λ x. Apart adds.observer x → KnownIn (r ∷ rows) x) (observers before)
     others =
         observers-noted (λ x. Apart adds.observer x → KnownIn (r ∷ rows) x) (length rows) r.moment.0 r.step.word adds.front (events rows) (not_watching adds.front adds.quiet_front)
-            (each_weaker (KnownIn rows) (λ x. Apart adds.observer x → KnownIn (r ∷ rows) x)
-                (λ x known apart. known_row rows r x desk
-                    (subst (λ notes. list_any (is_looking_for (name_of x)) notes ≡ false) (sym adds.notes) (others_quiet adds.front adds.back adds.observer x adds.body adds.quiet_front adds.quiet_back apart)) known)
-                (observers (events rows)) all)
+        (each_weaker (KnownIn rows) (λ x. Apart adds.observer x → KnownIn (r ∷ rows) x)
+        (λ x known apart. known_row rows r x desk
+        (subst (λ notes. list_any (is_looking_for (name_of x)) notes ≡ false) (sym adds.notes) (others_quiet adds.front adds.back adds.observer x adds.body adds.quiet_front adds.quiet_back apart)) known)
+        (observers (events rows)) all)
 
     new : KnownIn (r ∷ rows) adds.observer
     new = looked_row rows r adds.observer desk
         (subst (λ notes. list_any (is_looking_for (name_of adds.observer)) notes ≡ true) (sym adds.notes) (new_looked adds.front adds.back adds.observer adds.body))
         (subst (λ notes. body_given (name_of adds.observer) (noted (length rows) r.moment.0 r.step.word notes (events rows)) ≡ Some (listing adds.observer.query (entries (r ∷ rows)) r.moment.0)) (sym adds.notes)
-            (new_given (length rows) r.moment.0 r.step.word adds.front adds.back adds.observer adds.body (events rows) adds.quiet_back
-            ∙ ap (λ body. Some body) (adds.listed ∙ ap (λ history. listing adds.observer.query history r.moment.0) (sym (entries-untold rows r silent)))))
+        (new_given (length rows) r.moment.0 r.step.word adds.front adds.back adds.observer adds.body (events rows) adds.quiet_back
+        ∙ ap (λ body. Some body) (adds.listed ∙ ap (λ history. listing adds.observer.query history r.moment.0) (sym (entries-untold rows r silent)))))
 
     with_new : AllByRecursion (KnownIn (r ∷ rows)) (filter apart_from (observers before) ++ adds.observer ∷ [])
     with_new = each_push (KnownIn (r ∷ rows)) (filter apart_from (observers before)) adds.observer
         (each_both (λ x. Apart adds.observer x → KnownIn (r ∷ rows) x) (λ x. apart_from x ≡ true) (KnownIn (r ∷ rows))
-            (λ x known passes. known (not_true (is_same_request (name_of adds.observer) (name_of x)) passes)) (filter apart_from (observers before))
-            (each_filter (λ x. Apart adds.observer x → KnownIn (r ∷ rows) x) apart_from (observers before) others)
-            (each_passes apart_from (observers before)))
+        (λ x known passes. known (not_true (is_same_request (name_of adds.observer) (name_of x)) passes)) (filter apart_from (observers before))
+        (each_filter (λ x. Apart adds.observer x → KnownIn (r ∷ rows) x) apart_from (observers before) others)
+        (each_passes apart_from (observers before)))
         new

@@ -1,9 +1,8 @@
 -- The parts of a row, and what a journal shows with one row more.
-use Rattle.std.proofs.Common.{◌≡◌, ℕ, Bool, true, false, cond, max, List, [], ◌∷◌, ◌++◌, length, fold, refl}
+use Rattle.std.proofs.Common.{◌≡◌, ℕ, Bool, cond, max, List, [], ◌∷◌, length, fold, refl}
 use Rattle.message_model.specs.Reading.{reading}
 use Rattle.event_model.specs.Events.{noted}
 use Rattle.journal_model.specs.declared.steps.Step.{Step}
-use Rattle.journal_model.specs.declared.steps.StepKind.{StepKind}
 use Rattle.journal_model.specs.declared.steps.StepKind.TheVariants as step
 use Rattle.journal_model.specs.declared.rows.Row.{Row}
 use Rattle.journal_model.specs.Journal.{is_desk_row, events, now, latest, turn_of, turns}

@@ -1,6 +1,5 @@
 -- What looks, keeps, lookups, writes as they are heard, empty messages, and ticks note; so none of them tells an entry.
 use Rattle.std.proofs.Common.{◌≡◌, ℕ, Bool, true, false, cond, List, [], ◌∷◌, ◌++◌, map, fold, Option, Some, None, refl, ◌==◌}
-use Rattle.message_model.specs.declared.blocks.Block.{Block}
 use Rattle.message_model.specs.Message.{Message}
 use Rattle.history_model.specs.declared.entries.Entry.{Entry}
 use Rattle.rd_base.specs.declared.peers.Peer.{Peer}
@@ -14,7 +13,7 @@ use Rattle.event_model.specs.Flights.{Flight}
 use Rattle.event_model.specs.Fetches.{Request}
 use Rattle.journal_model.specs.declared.steps.Step.{Step}
 use Rattle.journal_model.specs.declared.rows.Row.{Row}
-use Rattle.journal_model.specs.Sending.{Effects, Reply, joined, answering}
+use Rattle.journal_model.specs.Sending.{Effects, answering}
 use Rattle.message_model.specs.Request.{observe_in}
 use Rattle.message_model.specs.RequestKey.{key_in}
 use Rattle.event_model.specs.Observers.{has_room_for, name_of, observers, is_observer, body_given}
@@ -27,7 +26,7 @@ use Rattle.journal_model.specs.Looks.{unless_held, unless_valid, looked_at, look
 use Rattle.journal_model.specs.Lookups.{without, listing_now, addition, observer_of, block_now, block_of_kept, later_block, removal, keeping, observed_if, observed, unobserved, observed_by, by_observe, by_block, lookup_effects}
 use Rattle.journal_model.specs.Writes.{again_answered, admitted_unless, write_unless, write_effects}
 use Rattle.journal_model.specs.Empties.{waited_for, is_last_request, acknowledged, reset}
-use Rattle.journal_model.specs.Ticks.{first_block, is_given, listing_for, is_looked_at, events_with, ticking, sent_again, each_of, notice_again, flight_again, notices_again, Ticking, noticed, noticed_unless, noticed_if, notice_next, notices, request_again, fetch_again, requests_again, tick_effects}
+use Rattle.journal_model.specs.Ticks.{first_block, is_given, listing_for, is_looked_at, events_with, ticking, sent_again, each_of, notice_again, flight_again, notices_again, Ticking, noticed_unless, noticed_if, notice_next, notices, request_again, fetch_again, requests_again, tick_effects}
 use Rattle.std.proofs.lemmas.Bool.{and_from}
 use Rattle.journal_model.proofs.NoteKinds.{of_lookup, of_write, of_empty, of_again, of_resent, of_tick, are, are-append, again_tick, resent_tick}
 
@@ -84,11 +83,11 @@ observed_if-notes : (b : Bool) (rows : List Row) (s : Step) (m : Message) (answe
 unfolding answering
 observed_if-notes true rows s m answer =
     are-append of_lookup (removal (s.peer, m.token) (observers (events rows))) (addition (observer_of s m) answer.body ++ keeping s m answer)
-        (removal-notes (s.peer, m.token) (observers (events rows)))
-        (are-append of_lookup (addition (observer_of s m) answer.body) (keeping s m answer) refl (keeping-notes s m answer))
+    (removal-notes (s.peer, m.token) (observers (events rows)))
+    (are-append of_lookup (addition (observer_of s m) answer.body) (keeping s m answer) refl (keeping-notes s m answer))
 observed_if-notes false rows s m answer =
     are-append of_lookup (removal (s.peer, m.token) (observers (events rows))) (keeping s m answer)
-        (removal-notes (s.peer, m.token) (observers (events rows))) (keeping-notes s m answer)
+    (removal-notes (s.peer, m.token) (observers (events rows))) (keeping-notes s m answer)
 
 -- a lookup that the journal takes part in
 pub lookup_effects-notes : (rows : List Row) (moment : ℕ) (s : Step) (m : Message) → are of_lookup (lookup_effects rows moment s m).notes ≡ true
@@ -140,15 +139,15 @@ pub acknowledged-notes : (peer : Peer) (mid : ℕ) (events : List Event) → are
 unfolding acknowledged
 acknowledged-notes peer mid events =
     are-append of_empty (map (λ (o : Observer). note.Landed peer mid) (waited_for peer mid events)) (cond (is_last_request peer mid events) (note.Waiting peer ∷ []) [])
-        (made-notes (λ (o : Observer). note.Landed peer mid) (λ o. refl) (waited_for peer mid events))
-        (empty_one (is_last_request peer mid events) (note.Waiting peer) refl)
+    (made-notes (λ (o : Observer). note.Landed peer mid) (λ o. refl) (waited_for peer mid events))
+    (empty_one (is_last_request peer mid events) (note.Waiting peer) refl)
 
 pub reset-notes : (peer : Peer) (mid : ℕ) (events : List Event) → are of_empty (reset peer mid events).notes ≡ true
 unfolding reset
 reset-notes peer mid events =
     are-append of_empty (map (λ (o : Observer). note.Unwatched o.peer o.token) (waited_for peer mid events)) (cond (is_last_request peer mid events) (note.Ceased peer ∷ []) [])
-        (made-notes (λ (o : Observer). note.Unwatched o.peer o.token) (λ o. refl) (waited_for peer mid events))
-        (empty_one (is_last_request peer mid events) (note.Ceased peer) refl)
+    (made-notes (λ (o : Observer). note.Unwatched o.peer o.token) (λ o. refl) (waited_for peer mid events))
+    (empty_one (is_last_request peer mid events) (note.Ceased peer) refl)
 
 -- one note or none
 tick_one : (b : Bool) (n : Note) → of_tick n ≡ true → are of_tick (cond b (n ∷ []) []) ≡ true
@@ -197,7 +196,7 @@ notices-notes t done quiet = folded (observers (events_with t done)) done quiet
     folded [] so_far h = h
     folded (o ∷ standing) so_far h =
         folded standing (notice_next t so_far o)
-            (are-append of_tick so_far.notes (noticed_if (is_looked_at t so_far o) t so_far o).notes h (looked (is_looked_at t so_far o) so_far o))
+        (are-append of_tick so_far.notes (noticed_if (is_looked_at t so_far o) t so_far o).notes h (looked (is_looked_at t so_far o) so_far o))
 
 -- requests of fetches are sent again
 pub requests_again-notes : (rows : List Row) (moment : ℕ) → are of_resent (requests_again rows moment).notes ≡ true
@@ -221,5 +220,5 @@ unfolding tick_effects
 tick_effects-notes true rows moment s = are-append of_tick (notices_again rows moment).notes (requests_again rows moment).notes (again_tick (notices_again rows moment).notes (notices_again-notes rows moment)) (resent_tick (requests_again rows moment).notes (requests_again-notes rows moment))
 tick_effects-notes false rows moment s =
     are-append of_tick (notices (ticking rows moment s) (notices_again rows moment)).notes (requests_again rows moment).notes
-        (notices-notes (ticking rows moment s) (notices_again rows moment) (again_tick (notices_again rows moment).notes (notices_again-notes rows moment)))
-        (resent_tick (requests_again rows moment).notes (requests_again-notes rows moment))
+    (notices-notes (ticking rows moment s) (notices_again rows moment) (again_tick (notices_again rows moment).notes (notices_again-notes rows moment)))
+    (resent_tick (requests_again rows moment).notes (requests_again-notes rows moment))

@@ -1,17 +1,16 @@
 -- What observers know behind a tick.
-use Rattle.std.proofs.Common.{◌≡◌, ◌⊎◌, inl, inr, ℕ, ◌+◌, ◌||◌, Bool, true, false, cond, List, [], ◌∷◌, ◌++◌, length, fold, Option, Some, None, refl, sym, ap, subst, ◌∙◌, append-nil, bytes_eq}
-use Rattle.std.specs.List.{list_any, AllByRecursion}
+use Rattle.std.proofs.Common.{◌≡◌, ◌⊎◌, inl, inr, ℕ, ◌+◌, ◌||◌, Bool, true, false, cond, List, [], ◌∷◌, ◌++◌, length, fold, Option, Some, None, refl, sym, ap, subst, ◌∙◌}
+use Rattle.std.specs.List.{list_any}
 use Rattle.std.proofs.lemmas.Bool.{false≢true}
 use Rattle.std.proofs.lemmas.List.Folds.{list_any-append}
 use Rattle.std.proofs.lemmas.Slice.Eq.{bytes_eq-Decides}
-use Rattle.rd_base.specs.declared.peers.Peer.{Peer}
 use Rattle.history_model.specs.Listing.{listing}
-use Rattle.history_model.proofs.Pairs.{each_weaker, each_both}
+use Rattle.history_model.proofs.Pairs.{each_both}
 use Rattle.event_model.specs.declared.notes.Note.{Note}
 use Rattle.event_model.specs.declared.notes.Note.TheVariants as note
 use Rattle.event_model.specs.declared.notes.Observer.{Observer}
 use Rattle.event_model.specs.Same.{is_same_request}
-use Rattle.event_model.specs.Events.{Event, noted, last_said}
+use Rattle.event_model.specs.Events.{noted, last_said}
 use Rattle.event_model.specs.KeptAnswers.{Answer}
 use Rattle.event_model.specs.Observers.{name_of, observers, body_given}
 use Rattle.event_model.specs.Due.{is_looking_for}
@@ -21,7 +20,7 @@ use Rattle.event_model.proofs.ObserverLaws.{observers-apart, Only, apart_only}
 use Rattle.journal_model.specs.declared.steps.Step.{Step}
 use Rattle.journal_model.specs.declared.rows.Row.{Row}
 use Rattle.journal_model.specs.Journal.{is_desk_row, events, entries}
-use Rattle.journal_model.specs.Sending.{Effects, joined, mid_of}
+use Rattle.journal_model.specs.Sending.{Effects, mid_of}
 use Rattle.journal_model.specs.Bodies.{is_long}
 use Rattle.journal_model.specs.Ticks.{first_block, is_given, listing_for, is_looked_at, events_with, Ticking, ticking, noticed_unless, noticed_if, notice_next, notices_again, notices, requests_again, tick_effects}
 use Rattle.journal_model.proofs.Telling.{told}
@@ -50,7 +49,7 @@ told_quiet rows moment word o notes more quiet (inl h) = inl (list_any-append (i
 told_quiet rows moment word o notes more quiet (inr h) = inr (
   list_any-append (is_looking_for (name_of o)) notes more ∙ or_left (list_any (is_looking_for (name_of o)) notes) (list_any (is_looking_for (name_of o)) more) h.0,
   ap (body_given (name_of o)) (noted-append (length rows) moment word notes more (events rows))
-  ∙ (body_given-before (name_of o) (length rows) moment word more (noted (length rows) moment word notes (events rows)) quiet ∙ h.1),
+      ∙ (body_given-before (name_of o) (length rows) moment word more (noted (length rows) moment word notes (events rows)) quiet ∙ h.1),
 )
 
 -- further notes that look at its listing, where it is then given the listing now
@@ -106,8 +105,8 @@ came_to rows moment s o x done only h = looked (is_looked_at (ticking rows momen
     unchanged true same given =
         let it : x ≡ o = only same in
         told_looked rows moment s.word o done.notes (note.Unchanged x.peer x.token ∷ []) (rw same refl)
-            (given_same (body_given (name_of o) (events_with (ticking rows moment s) done)) (listing o.query (entries rows) moment)
-                (subst (λ (y : Observer). is_given (body_given (name_of y) (events_with (ticking rows moment s) done)) (listing_for (ticking rows moment s) y).body ≡ true) it given))
+        (given_same (body_given (name_of o) (events_with (ticking rows moment s) done)) (listing o.query (entries rows) moment)
+        (subst (λ (y : Observer). is_given (body_given (name_of y) (events_with (ticking rows moment s) done)) (listing_for (ticking rows moment s) y).body ≡ true) it given))
     unchanged false same given = told_quiet rows moment s.word o done.notes (note.Unchanged x.peer x.token ∷ []) (rw same refl) h
 
     formed : (b : Bool) (mid : ℕ) → is_same_request (name_of x) (name_of o) ≡ b
@@ -115,15 +114,15 @@ came_to rows moment s o x done only h = looked (is_looked_at (ticking rows momen
     formed true mid same =
         let it : x ≡ o = only same in
         subst (λ (y : Observer). Told rows moment s.word o (done.notes ++ note.Formed y.peer y.token (listing_for (ticking rows moment s) y).body (Some mid) ∷ kept_notes y)) (sym it)
-            (told_looked rows moment s.word o done.notes (note.Formed o.peer o.token (listing_for (ticking rows moment s) o).body (Some mid) ∷ kept_notes o)
-                (or_left (is_same_request (name_of o) (name_of o)) (list_any (is_looking_for (name_of o)) (kept_notes o)) (is_same_request-refl (name_of o)))
-                (body_given-before (name_of o) (length rows) moment s.word (kept_notes o)
-                    (event_at (length rows) moment s.word (note.Formed o.peer o.token (listing_for (ticking rows moment s) o).body (Some mid)) ∷ noted (length rows) moment s.word done.notes (events rows))
-                    (kept_quiet (is_long (first_block o) (listing_for (ticking rows moment s) o).body) o o (listing_for (ticking rows moment s) o))
-                ∙ rw (is_same_request-refl (name_of o)) refl))
+        (told_looked rows moment s.word o done.notes (note.Formed o.peer o.token (listing_for (ticking rows moment s) o).body (Some mid) ∷ kept_notes o)
+        (or_left (is_same_request (name_of o) (name_of o)) (list_any (is_looking_for (name_of o)) (kept_notes o)) (is_same_request-refl (name_of o)))
+        (body_given-before (name_of o) (length rows) moment s.word (kept_notes o)
+        (event_at (length rows) moment s.word (note.Formed o.peer o.token (listing_for (ticking rows moment s) o).body (Some mid)) ∷ noted (length rows) moment s.word done.notes (events rows))
+        (kept_quiet (is_long (first_block o) (listing_for (ticking rows moment s) o).body) o o (listing_for (ticking rows moment s) o))
+        ∙ rw (is_same_request-refl (name_of o)) refl))
     formed false mid same =
         told_quiet rows moment s.word o done.notes (note.Formed x.peer x.token (listing_for (ticking rows moment s) x).body (Some mid) ∷ kept_notes x)
-            (rw (same, kept_quiet (is_long (first_block x) (listing_for (ticking rows moment s) x).body) o x (listing_for (ticking rows moment s) x)) refl) h
+        (rw (same, kept_quiet (is_long (first_block x) (listing_for (ticking rows moment s) x).body) o x (listing_for (ticking rows moment s) x)) refl) h
 
     unless : (b : Bool) → is_given (body_given (name_of x) (events_with (ticking rows moment s) done)) (listing_for (ticking rows moment s) x).body ≡ b
         → Told rows moment s.word o (done.notes ++ (noticed_unless b (ticking rows moment s) done x (listing_for (ticking rows moment s) x)).notes)
@@ -146,15 +145,15 @@ tick_told_of : (starved : Bool) (rows : List Row) (moment : ℕ) (s : Step) (o :
 unfolding tick_effects notices
 tick_told_of true rows moment s o only =
     told_quiet rows moment s.word o (notices_again rows moment).notes (requests_again rows moment).notes
-        (not_looking (name_of o) (requests_again rows moment).notes (requests_again-quiet rows moment))
-        (inl (not_looking (name_of o) (notices_again rows moment).notes (notices_again-quiet rows moment)))
+    (not_looking (name_of o) (requests_again rows moment).notes (requests_again-quiet rows moment))
+    (inl (not_looking (name_of o) (notices_again rows moment).notes (notices_again-quiet rows moment)))
 tick_told_of false rows moment s o only =
     told_quiet rows moment s.word o (notices (ticking rows moment s) (notices_again rows moment)).notes (requests_again rows moment).notes
-        (not_looking (name_of o) (requests_again rows moment).notes (requests_again-quiet rows moment))
-        (came_to_all rows moment s o (observers (events_with (ticking rows moment s) (notices_again rows moment))) (notices_again rows moment)
-            (observers-noted (λ x. is_same_request (name_of x) (name_of o) ≡ true → x ≡ o) (length rows) moment s.word (notices_again rows moment).notes (events rows)
-                (not_watching (notices_again rows moment).notes (notices_again-quiet rows moment)) only)
-            (inl (not_looking (name_of o) (notices_again rows moment).notes (notices_again-quiet rows moment))))
+    (not_looking (name_of o) (requests_again rows moment).notes (requests_again-quiet rows moment))
+    (came_to_all rows moment s o (observers (events_with (ticking rows moment s) (notices_again rows moment))) (notices_again rows moment)
+    (observers-noted (λ x. is_same_request (name_of x) (name_of o) ≡ true → x ≡ o) (length rows) moment s.word (notices_again rows moment).notes (events rows)
+    (not_watching (notices_again rows moment).notes (notices_again-quiet rows moment)) only)
+    (inl (not_looking (name_of o) (notices_again rows moment).notes (notices_again-quiet rows moment))))
 
 -- no tick adds an observer
 tick_adds_none : (starved : Bool) (rows : List Row) (moment : ℕ) (s : Step) → list_any is_watching (tick_effects starved rows moment s).notes ≡ false
@@ -169,10 +168,10 @@ pub tick_row : (rows : List Row) (r : Row) (starved : Bool) → is_desk_row r �
 unfolding events
 tick_row rows r starved desk notes all =
     observers-noted (KnownIn (r ∷ rows)) (length rows) r.moment.0 r.step.word r.notes (events rows)
-        (subst (λ ns. list_any is_watching ns ≡ false) (sym notes) (tick_adds_none starved rows r.moment.0 r.step))
-        (each_both (KnownIn rows) (λ o. Only o (observers (events rows))) (KnownIn (r ∷ rows))
-            (λ o known only. by o known (subst (Told rows r.moment.0 r.step.word o) (sym notes) (tick_told_of starved rows r.moment.0 r.step o only)))
-            (observers (events rows)) all (apart_only (observers (events rows)) (observers-apart (events rows))))
+    (subst (λ ns. list_any is_watching ns ≡ false) (sym notes) (tick_adds_none starved rows r.moment.0 r.step))
+    (each_both (KnownIn rows) (λ o. Only o (observers (events rows))) (KnownIn (r ∷ rows))
+    (λ o known only. by o known (subst (Told rows r.moment.0 r.step.word o) (sym notes) (tick_told_of starved rows r.moment.0 r.step o only)))
+    (observers (events rows)) all (apart_only (observers (events rows)) (observers-apart (events rows))))
   where
     silent : told r.notes ≡ []
     silent = subst (λ ns. told ns ≡ []) (sym notes) (tick_told (tick_effects starved rows r.moment.0 r.step).notes (tick_effects-notes starved rows r.moment.0 r.step))
