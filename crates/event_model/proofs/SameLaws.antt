@@ -1,5 +1,5 @@
 -- The tests of peers, requests and queries tell whether they are equal.
-use Rattle.std.proofs.Common.{◌≡◌, ℕ, Bool, true, false, ◌&&◌, ◌==◌, List, [], ◌∷◌, Option, Some, None, Decides, bytes_eq, refl, sym, ap, ap₂, eqb-true, ◌∙◌, subst, arith}
+use Rattle.std.proofs.Common.{◌≡◌, ℕ, true, ◌&&◌, ◌==◌, List, [], ◌∷◌, Option, Some, None, Decides, bytes_eq, refl, ap, ap₂, eqb-true, ◌∙◌, subst, arith}
 use Rattle.std.proofs.lemmas.Bool.{false≢true, and_parts, and_from}
 use Rattle.std.proofs.lemmas.Slice.Eq.{bytes_eq-Decides}
 use Rattle.rd_base.specs.declared.peers.Host.{Host}
@@ -96,9 +96,9 @@ are_same_criteria-Decides (a ∷ more) (b ∷ others) = (forth (are_same_criteri
         let first : a ≡ b = cc in
         let rest : more ≡ others = cc in
         and_from (bytes_eq a.name b.name && bytes_eq a.pattern b.pattern) (are_same_criteria more others)
-            (and_from (bytes_eq a.name b.name) (bytes_eq a.pattern b.pattern)
-                ((bytes_eq-Decides a.name b.name).1 (ap (λ (c : Criterion). c.name) first)) ((bytes_eq-Decides a.pattern b.pattern).1 (ap (λ (c : Criterion). c.pattern) first)))
-            (tail.1 rest)
+        (and_from (bytes_eq a.name b.name) (bytes_eq a.pattern b.pattern)
+        ((bytes_eq-Decides a.name b.name).1 (ap (λ (c : Criterion). c.name) first)) ((bytes_eq-Decides a.pattern b.pattern).1 (ap (λ (c : Criterion). c.pattern) first)))
+        (tail.1 rest)
 
 -- queries
 query_of : Kind → List Criterion → Option ℕ → Option ℕ → Query
@@ -114,14 +114,14 @@ is_same_query-Decides a b = (forth, back)
         let two = and_parts (is_same_kind a.kind b.kind && are_same_criteria a.criteria b.criteria) (is_same_number a.page b.page) one.0 in
         let three = and_parts (is_same_kind a.kind b.kind) (are_same_criteria a.criteria b.criteria) two.0 in
         let first : query_of a.kind a.criteria a.page a.count ≡ query_of b.kind b.criteria a.page a.count =
-            ap₂ (λ k cs. query_of k cs a.page a.count) ((is_same_kind-Decides a.kind b.kind).0 three.0) ((are_same_criteria-Decides a.criteria b.criteria).0 three.1) in
+        ap₂ (λ k cs. query_of k cs a.page a.count) ((is_same_kind-Decides a.kind b.kind).0 three.0) ((are_same_criteria-Decides a.criteria b.criteria).0 three.1) in
         first ∙ ap₂ (λ page count. query_of b.kind b.criteria page count) ((is_same_number-Decides a.page b.page).0 two.1) ((is_same_number-Decides a.count b.count).0 one.1)
 
     back : a ≡ b → is_same_query a b ≡ true
     back e =
         and_from (is_same_kind a.kind b.kind && are_same_criteria a.criteria b.criteria && is_same_number a.page b.page) (is_same_number a.count b.count)
-            (and_from (is_same_kind a.kind b.kind && are_same_criteria a.criteria b.criteria) (is_same_number a.page b.page)
-                (and_from (is_same_kind a.kind b.kind) (are_same_criteria a.criteria b.criteria)
-                    ((is_same_kind-Decides a.kind b.kind).1 (ap (λ (q : Query). q.kind) e)) ((are_same_criteria-Decides a.criteria b.criteria).1 (ap (λ (q : Query). q.criteria) e)))
-                ((is_same_number-Decides a.page b.page).1 (ap (λ (q : Query). q.page) e)))
-            ((is_same_number-Decides a.count b.count).1 (ap (λ (q : Query). q.count) e))
+        (and_from (is_same_kind a.kind b.kind && are_same_criteria a.criteria b.criteria) (is_same_number a.page b.page)
+        (and_from (is_same_kind a.kind b.kind) (are_same_criteria a.criteria b.criteria)
+        ((is_same_kind-Decides a.kind b.kind).1 (ap (λ (q : Query). q.kind) e)) ((are_same_criteria-Decides a.criteria b.criteria).1 (ap (λ (q : Query). q.criteria) e)))
+        ((is_same_number-Decides a.page b.page).1 (ap (λ (q : Query). q.page) e)))
+        ((is_same_number-Decides a.count b.count).1 (ap (λ (q : Query). q.count) e))

@@ -1,5 +1,5 @@
 -- Fetches of simple registrations (RFC 9176 section 5.1): which run, what each collected, and until when it waits.
-use Rattle.std.specs.Prelude.{ℕ, ◌+◌, Bool, false, not, ◌&&◌, ◌==◌, List, [], ◌∷◌, ◌++◌, reverse, length, filter, flat_map, filter_map, count_by, Option, Some, None, if◌then◌else◌}
+use Rattle.std.specs.Prelude.{ℕ, ◌+◌, Bool, false, not, ◌&&◌, ◌==◌, List, [], ◌∷◌, ◌++◌, reverse, filter, flat_map, filter_map, count_by, Option, Some, None, if◌then◌else◌}
 use Rattle.std.specs.List.{list_any}
 use Rattle.std.specs.Int.{bytes_high_first}
 use Rattle.rd_base.specs.declared.peers.Peer.{Peer}

@@ -1,5 +1,5 @@
 -- Writes that come again (RFC 7252 section 4.5): which admissions are kept, and what a repeat finds.
-use Rattle.std.specs.Prelude.{ℕ, Bool, false, not, ◌&&◌, ◌==◌, nat_le, List, [], ◌∷◌, ◌++◌, length, filter, Option, Some, None, is_none, option_and_then, if◌then◌else◌}
+use Rattle.std.specs.Prelude.{ℕ, Bool, false, not, ◌&&◌, ◌==◌, nat_le, List, [], ◌∷◌, ◌++◌, length, filter, Option, Some, None, option_and_then, if◌then◌else◌}
 use Rattle.std.specs.List.{list_any}
 use Rattle.rd_base.specs.declared.peers.Peer.{Peer}
 use Rattle.event_model.specs.declared.notes.Note.{Note}
@@ -16,13 +16,10 @@ abbrev pub is_admission_of : Peer → ℕ → Note → Bool
 is_admission_of peer mid (note.Admitted p m) = is_same_peer p peer && m == mid
 is_admission_of peer mid _ = false
 
--- the admission, where the event is one
-abbrev pub admission : Event → List Event
-admission e = admission_by e.note
-  where
-    admission_by : Note → List Event
-    admission_by (note.Admitted p m) = e ∷ []
-    admission_by _ = []
+-- the event, where its note is an admission
+abbrev pub admission_by : Note → Event → List Event
+admission_by (note.Admitted peer mid) e = e ∷ []
+admission_by _ e = []
 
 -- the admission of this place ended for want of memory
 abbrev pub is_failure_of : ℕ → Note → Bool
@@ -32,7 +29,7 @@ is_failure_of place _ = false
 -- the admissions that no later failure follows, the newest first
 unfoldable pub admissions : List Event → List Event
 admissions [] = []
-admissions (e ∷ before) = admission e ++ filter (λ a. not (is_failure_of a.place e.note)) (admissions before)
+admissions (e ∷ before) = admission_by e.note e ++ filter (λ a. not (is_failure_of a.place e.note)) (admissions before)
 
 -- the admissions that are kept at a moment: no failure follows them, and they are young enough
 unfoldable pub kept : ℕ → List Event → List Event

@@ -1,5 +1,5 @@
 -- A write is admitted only where no kept admission has its peer and Message ID.
-use Rattle.std.proofs.Common.{◌≡◌, ℕ, ◌==◌, ◌&&◌, ◌||◌, Bool, true, false, List, [], ◌∷◌, length, Option, Some, None, Result, Ok, Err, refl, sym, ap, ap₂, subst, ◌∙◌, eqb-true}
+use Rattle.std.proofs.Common.{◌≡◌, ℕ, ◌==◌, ◌&&◌, ◌||◌, Bool, true, false, List, [], Option, Some, None, Result, Ok, Err, refl, sym, ap, subst, ◌∙◌, eqb-true}
 use Rattle.std.specs.List.{list_any}
 use Rattle.std.proofs.lemmas.Bool.{and_parts, false≢true}
 use Rattle.rd_base.specs.declared.peers.Peer.{Peer}
@@ -35,7 +35,7 @@ use Rattle.journal_model.specs.Ticks.{tick_effects}
 use Rattle.journal_model.specs.Writes.{again_answered, admitted_unless, write_unless, write_effects}
 use Rattle.journal_model.specs.Rows.{served, refusal_answered, request_by, by_role, unread_answered, heard, looked, done, kept_body, effects, moment_of, row}
 use Rattle.journal_model.specs.Headline.{admits}
-use Rattle.journal_model.proofs.NoteKinds.{of_lookup, of_write, of_empty, of_tick, of_commit, of_response, are, none_of}
+use Rattle.journal_model.proofs.NoteKinds.{of_lookup, of_empty, of_tick, of_commit, of_response, are, none_of}
 use Rattle.journal_model.proofs.StepNotes.{look_effects-notes, keep_effects-notes, lookup_effects-notes, acknowledged-notes, reset-notes, tick_effects-notes}
 use Rattle.journal_model.proofs.ChangingNotes.{commit_effects-notes, response_effects-notes}
 
@@ -74,7 +74,7 @@ write_admits rows moment s m peer mid = by (repeated moment s.peer m.mid (events
     full false none e =
         let both = and_parts (is_same_peer s.peer peer) (m.mid == mid) (one (is_same_peer s.peer peer && m.mid == mid) e) in
         subst (λ n. repeated moment peer n (events rows) ≡ None) (eqb-true m.mid mid both.1)
-            (subst (λ p. repeated moment p m.mid (events rows) ≡ None) ((is_same_peer-Decides s.peer peer).0 both.0) none)
+        (subst (λ p. repeated moment p m.mid (events rows) ≡ None) ((is_same_peer-Decides s.peer peer).0 both.0) none)
       where
         one : (b : Bool) → (b || false) ≡ true → b ≡ true
         one true h = refl

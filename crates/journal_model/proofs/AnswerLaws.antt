@@ -1,7 +1,5 @@
 -- A commit has an entry exactly where its answer tells of a change, and other entries stand in rows of responses that complete a fetch.
-use Rattle.std.proofs.Common.{◌≡◌, ◌⊎◌, inl, inr, ℕ, ◌<◌, ◌+◌, ◌==◌, ◌||◌, Bool, true, false, List, [], ◌∷◌, ◌++◌, length, Option, Some, None, Result, Ok, Err, IsTrue, refl, sym, ap, subst, ◌∙◌, nat_lt, nat_le, arith}
-use Rattle.std.specs.List.{list_any}
-use Rattle.std.proofs.lemmas.List.Folds.{list_any-append}
+use Rattle.std.proofs.Common.{◌≡◌, ℕ, ◌+◌, ◌==◌, Bool, true, false, List, [], ◌∷◌, ◌++◌, length, Option, Some, None, Result, Ok, Err, refl, ap, ◌∙◌, nat_lt, nat_le}
 use Rattle.rd_base.specs.declared.parameters.RegParams.{RegParams}
 use Rattle.message_model.specs.declared.blocks.Block.{Block}
 use Rattle.message_model.specs.declared.messages.Unread.{Unread}
@@ -24,10 +22,9 @@ use Rattle.event_model.specs.declared.notes.Note.TheVariants as note
 use Rattle.event_model.specs.Uploads.{max_body, live_upload, live_uploads}
 use Rattle.event_model.specs.Fetches.{max_fetches, fetches, is_fetching}
 use Rattle.journal_model.specs.declared.steps.Step.{Step}
-use Rattle.journal_model.specs.declared.steps.StepKind.{StepKind}
 use Rattle.journal_model.specs.declared.steps.StepKind.TheVariants as step
 use Rattle.journal_model.specs.declared.rows.Row.{Row}
-use Rattle.journal_model.specs.Journal.{events, entries, entries_of}
+use Rattle.journal_model.specs.Journal.{events, entries}
 use Rattle.journal_model.specs.Sending.{answering}
 use Rattle.journal_model.specs.Requests.{sent_block}
 use Rattle.journal_model.specs.Changes.{Outcome, refused_as, entered_unless, change_made, BodyRead, bad_body, good_body, body_read, registered_links, registration, created_at, number_behind, entry_by}
@@ -140,7 +137,7 @@ commit_effects-Weighs rows moment place s m = by (path_in m)
 -- a commit has an entry exactly where its answer tells of a change
 pub commit-Weighs : (place : ℕ) (starved : Bool) (rows : List Row) (moment : ℕ) (s : Step)
     → Weighs (told (effects (step.Commit place) starved rows moment s).notes)
-        (is_telling (code_sent (effects (step.Commit place) starved rows moment s).sent) (names_location (reading s.datagram)))
+    (is_telling (code_sent (effects (step.Commit place) starved rows moment s).sent) (names_location (reading s.datagram)))
 unfolding effects answering spelling header_spelling
 commit-Weighs place starved rows moment s = by starved (reading s.datagram)
   where

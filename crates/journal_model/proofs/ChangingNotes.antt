@@ -130,7 +130,7 @@ response_effects-notes rows moment s m = by (fetch_of s m (events rows))
     whole : (request : Request) (body : List ℕ) → are of_response (completed rows moment s request body).notes ≡ true
     whole request body =
         are-append of_response (registration (entries rows) moment s request.params body [] []).notes (note.Ceased s.peer ∷ [])
-            (registration-notes of_response (λ entry. refl) (entries rows) moment s request.params body [] [] refl) refl
+        (registration-notes of_response (λ entry. refl) (entries rows) moment s request.params body [] [] refl) refl
 
     gathers : (more : Bool) (b : Option Block) (request : Request) → are of_response (gathering more b rows moment s m request).notes ≡ true
     gathers more None request = whole request (collected s.peer (events rows) ++ m.payload)
@@ -146,5 +146,5 @@ response_effects-notes rows moment s m = by (fetch_of s m (events rows))
     by None = foreign m.kind
     by (Some request) =
         are-append of_response (acknowledgement s m m.kind).notes (response_to rows moment s m request).notes (acknowledged m.kind)
-            (taken (is_elsewhere (block_in m) (length (collected s.peer (events rows))))
-                (ends_fetch m (gathered s.peer (events rows)) (length (collected s.peer (events rows)))) request)
+        (taken (is_elsewhere (block_in m) (length (collected s.peer (events rows))))
+        (ends_fetch m (gathered s.peer (events rows)) (length (collected s.peer (events rows)))) request)

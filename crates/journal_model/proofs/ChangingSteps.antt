@@ -22,7 +22,6 @@ use Rattle.history_model.specs.Legal.{HasGoodBody}
 use Rattle.history_model.specs.Refusals.{change_refusal}
 use Rattle.event_model.specs.declared.notes.Note.{Note}
 use Rattle.event_model.specs.declared.notes.Note.TheVariants as note
-use Rattle.event_model.specs.Events.{Event}
 use Rattle.event_model.specs.Uploads.{max_body, live_upload, live_uploads}
 use Rattle.event_model.specs.Fetches.{Request, max_fetches, fetches, is_fetching, gathered, collected}
 use Rattle.journal_model.specs.declared.steps.Step.{Step}
@@ -31,8 +30,8 @@ use Rattle.journal_model.specs.Journal.{events, entries}
 use Rattle.journal_model.specs.Sending.{answering}
 use Rattle.journal_model.specs.Requests.{sent_block}
 use Rattle.journal_model.specs.Changes.{Outcome, refused_as, entered_unless, change_made, BodyRead, bad_body, good_body, limited_links, links_or_bad, body_read, registered_links, registration, created_at, number_behind, entry_by}
-use Rattle.journal_model.specs.Uploading.{collected_before, is_one_too_many, block_taken, block_unless, block_behind, block_with, block_uploaded, registered_by, registering}
-use Rattle.journal_model.specs.Commits.{settling, updating, removing, simple_unless, on_location, write_done, commit_effects}
+use Rattle.journal_model.specs.Uploading.{collected_before, is_one_too_many, block_taken, block_unless, block_behind, block_uploaded, registered_by, registering}
+use Rattle.journal_model.specs.Commits.{settling, simple_unless, on_location, write_done, commit_effects}
 use Rattle.journal_model.specs.Responses.{fetch_of, strange, acknowledgement, more_follow, block_in, is_elsewhere, ends_fetch, completed, gathering, response_taken, response_to, response_by, response_effects}
 use Rattle.journal_model.proofs.Telling.{told, TellsNext, none, one, TellsNext-behind, TellsNext-before}
 
@@ -78,8 +77,8 @@ registration-TellsNext history moment s params body further notes quiet = by (bo
     by (good_body links) e =
         let entry : Entry = entry_by moment s (change.Register params links) in
         change_made-TellsNext history moment entry
-            (record { reply = created_at (number_behind params.name moment (history ++ entry ∷ [])) further; notes = notes }) refl
-            (body_read-good body params links e) quiet
+        (record { reply = created_at (number_behind params.name moment (history ++ entry ∷ [])) further; notes = notes }) refl
+        (body_read-good body params links e) quiet
 
 -- a registration, whole or a block of one
 pub registering-TellsNext : (rows : List Row) (moment : ℕ) (s : Step) (m : Message) → TellsNext (entries rows) moment (registering rows moment s m).notes
@@ -155,7 +154,7 @@ response_effects-TellsNext rows moment s m = by (fetch_of s m (events rows))
     whole : (request : Request) (body : List ℕ) → TellsNext (entries rows) moment (completed rows moment s request body).notes
     whole request body =
         TellsNext-before (entries rows) moment (registration (entries rows) moment s request.params body [] []).notes (note.Ceased s.peer ∷ [])
-            (registration-TellsNext (entries rows) moment s request.params body [] [] refl) refl
+        (registration-TellsNext (entries rows) moment s request.params body [] [] refl) refl
 
     gathers : (more : Bool) (b : Option Block) (request : Request) → TellsNext (entries rows) moment (gathering more b rows moment s m request).notes
     gathers more None request = whole request (collected s.peer (events rows) ++ m.payload)
@@ -171,5 +170,5 @@ response_effects-TellsNext rows moment s m = by (fetch_of s m (events rows))
     by None = none (foreign m.kind)
     by (Some request) =
         TellsNext-behind (entries rows) moment (acknowledgement s m m.kind).notes (response_to rows moment s m request).notes (acknowledged m.kind)
-            (taken (is_elsewhere (block_in m) (length (collected s.peer (events rows))))
-                (ends_fetch m (gathered s.peer (events rows)) (length (collected s.peer (events rows)))) request)
+        (taken (is_elsewhere (block_in m) (length (collected s.peer (events rows))))
+        (ends_fetch m (gathered s.peer (events rows)) (length (collected s.peer (events rows)))) request)

@@ -1,5 +1,5 @@
 -- Each admission is committed at most once.
-use Rattle.std.proofs.Common.{◌≡◌, ℕ, ◌+◌, ◌<◌, ◌≤◌, ◌==◌, Bool, true, false, cond, List, [], ◌∷◌, ◌++◌, length, Option, Some, None, option_map, Result, Ok, Err, refl, sym, ap, subst, ◌∙◌, eqb-true, arith}
+use Rattle.std.proofs.Common.{◌≡◌, ℕ, ◌<◌, ◌≤◌, ◌==◌, Bool, true, false, cond, List, [], ◌∷◌, ◌++◌, length, Option, Some, None, option_map, Result, Ok, Err, refl, sym, ap, subst, ◌∙◌, eqb-true, arith}
 use Rattle.std.specs.Prelude.{⊤}
 use Rattle.std.proofs.lemmas.Bool.{false≢true}
 use Rattle.rd_base.specs.declared.peers.Peer.{Peer}
@@ -14,7 +14,7 @@ use Rattle.journal_model.specs.declared.steps.StepKind.TheVariants as step
 use Rattle.journal_model.specs.declared.rows.Row.{Row}
 use Rattle.journal_model.specs.Journal.{row_at}
 use Rattle.journal_model.specs.Rows.{row}
-use Rattle.journal_model.specs.Machine.{is_look_datagram, hearing, Job, job_behind, write_job, keep_kind, keep_job, job_after, job_of, MayBegin, hears, goes, ticks, MayMake, IsJournal, begun, made}
+use Rattle.journal_model.specs.Machine.{is_look_datagram, Job, write_job, keep_kind, keep_job, job_after, job_of, MayBegin, hears, goes, ticks, IsJournal, begun, made}
 use Rattle.journal_model.specs.Headline.{Within, Commits}
 use Rattle.journal_model.proofs.JournalLaws.{Made, each_row}
 
@@ -127,10 +127,10 @@ jobs_step rows s starved below jobs may worker place job held commits = by (s.wo
     by false other e =
         let mine : Holds rows worker place = jobs worker place job e commits in
         Holds-row rows (row rows s starved) worker place mine (λ commit.
-            let its : Holds rows s.worker place = may_commit rows s place jobs may commit in
-            let both : Some s.worker ≡ Some worker = sym its.by ∙ mine.by in
-            let same : s.worker ≡ worker = cc in
-            false≢true (sym other ∙ subst (λ w. (s.worker == w) ≡ true) same (eqb-refl s.worker)))
+        let its : Holds rows s.worker place = may_commit rows s place jobs may commit in
+        let both : Some s.worker ≡ Some worker = sym its.by ∙ mine.by in
+        let same : s.worker ≡ worker = cc in
+        false≢true (sym other ∙ subst (λ w. (s.worker == w) ≡ true) same (eqb-refl s.worker)))
 
 -- in each journal, commits are of earlier places, and jobs may be committed
 record Orderly (rows : List Row) : Type 0 where

@@ -5,6 +5,7 @@ pub mod StepNotes
 pub mod QuietSteps
 pub mod ChangingSteps
 pub mod RowLaws
+pub mod RowEquations
 pub mod JournalLaws
 pub mod AnswerLaws
 pub mod Origins
@@ -12,3 +13,9 @@ pub mod TagStates
 pub mod CommitLaws
 pub mod ChangingNotes
 pub mod Admitting
+pub mod FailedLaws
+pub mod HoldsEachOnce
+pub mod Knowing
+pub mod Observing
+pub mod TickKnowing
+pub mod ObserversKnow

@@ -1,5 +1,5 @@
 -- Which kinds of notes a step may note.
-use Rattle.std.proofs.Common.{◌≡◌, ℕ, ◌&&◌, ◌||◌, Bool, true, false, List, [], ◌∷◌, ◌++◌, None, refl, sym, ap, ◌∙◌}
+use Rattle.std.proofs.Common.{◌≡◌, Bool, true, false, List, [], ◌∷◌, ◌++◌, None, refl}
 use Rattle.std.specs.List.{list_any, list_all}
 use Rattle.std.proofs.lemmas.Bool.{and_parts, and_from}
 use Rattle.event_model.specs.declared.notes.Note.{Note}
@@ -28,6 +28,17 @@ of_empty (note.Unwatched peer token) = true
 of_empty (note.Waiting peer) = true
 of_empty (note.Ceased peer) = true
 of_empty _ = false
+
+-- of notices, and of requests of fetches, that are sent again
+abbrev pub of_again : Note → Bool
+of_again (note.Unwatched peer token) = true
+of_again (note.Again peer mid) = true
+of_again _ = false
+
+abbrev pub of_resent : Note → Bool
+of_resent (note.Resent peer) = true
+of_resent (note.Ceased peer) = true
+of_resent _ = false
 
 -- of ticks
 abbrev pub of_tick : Note → Bool
@@ -68,6 +79,30 @@ are-append kind [] more h g = g
 are-append kind (n ∷ notes) more h g =
     let both = and_parts (kind n) (are kind notes) h in
     and_from (kind n) (are kind (notes ++ more)) both.0 (are-append kind notes more both.1 g)
+
+-- of a wider kind
+pub are-weaker : (kind other : Note → Bool) → ((n : Note) → kind n ≡ true → other n ≡ true) → (notes : List Note) → are kind notes ≡ true → are other notes ≡ true
+are-weaker kind other wider [] h = refl
+are-weaker kind other wider (n ∷ notes) h =
+    let both = and_parts (kind n) (are kind notes) h in
+    and_from (other n) (are other notes) (wider n both.0) (are-weaker kind other wider notes both.1)
+
+-- what is sent again is of a tick
+pub again_tick : (notes : List Note) → are of_again notes ≡ true → are of_tick notes ≡ true
+again_tick notes h = are-weaker of_again of_tick wider notes h
+  where
+    wider : (n : Note) → of_again n ≡ true → of_tick n ≡ true
+    wider (note.Unwatched peer token) e = refl
+    wider (note.Again peer mid) e = refl
+    wider _ e = absurd (let h : false ≡ true = e in cc)
+
+pub resent_tick : (notes : List Note) → are of_resent notes ≡ true → are of_tick notes ≡ true
+resent_tick notes h = are-weaker of_resent of_tick wider notes h
+  where
+    wider : (n : Note) → of_resent n ≡ true → of_tick n ≡ true
+    wider (note.Resent peer) e = refl
+    wider (note.Ceased peer) e = refl
+    wider _ e = absurd (let h : false ≡ true = e in cc)
 
 -- what no note of a kind is, none of them is
 pub none_of : (kind test : Note → Bool) → ((n : Note) → kind n ≡ true → test n ≡ false) → (notes : List Note) → are kind notes ≡ true → list_any test notes ≡ false

@@ -1,5 +1,5 @@
 -- Where entries come from: commits, and responses that complete a fetch.
-use Rattle.std.proofs.Common.{◌≡◌, ◌⊎◌, inl, inr, ℕ, ◌<◌, ◌||◌, Bool, true, false, List, [], ◌∷◌, ◌++◌, length, Option, Some, None, Result, Ok, Err, refl, sym, ap, subst, ◌∙◌, arith}
+use Rattle.std.proofs.Common.{◌≡◌, ◌⊎◌, inl, inr, ℕ, ◌<◌, ◌||◌, Bool, true, false, List, [], ◌∷◌, ◌++◌, length, Option, Some, None, Result, Ok, Err, refl, ap, ◌∙◌, arith}
 use Rattle.std.specs.List.{list_any}
 use Rattle.std.proofs.lemmas.List.Folds.{list_any-append}
 use Rattle.message_model.specs.declared.blocks.Block.{Block}
@@ -88,8 +88,8 @@ response_effects-Responds rows moment s m = by (fetch_of s m (events rows))
     by None = silent (foreign m.kind)
     by (Some request) =
         Responds-behind s.peer (acknowledgement s m m.kind).notes (response_to rows moment s m request).notes (acknowledged m.kind)
-            (taken (is_elsewhere (block_in m) (length (collected s.peer (events rows))))
-                (ends_fetch m (gathered s.peer (events rows)) (length (collected s.peer (events rows)))) request)
+        (taken (is_elsewhere (block_in m) (length (collected s.peer (events rows))))
+        (ends_fetch m (gathered s.peer (events rows)) (length (collected s.peer (events rows)))) request)
 
 -- where the entry of a step comes from
 pub data Origin (kind : StepKind) (peer : Peer) (notes : List Note) : Type 0 where

@@ -1,5 +1,5 @@
 -- Laws of rows: at most one entry, which comes next behind the entries before; and moments do not fall.
-use Rattle.std.proofs.Common.{◌≡◌, ℕ, ◌≤◌, Bool, true, false, max, List, [], ◌∷◌, ◌++◌, length, Option, Some, None, Result, Ok, Err, refl, sym, ap, subst, ◌∙◌, append-nil}
+use Rattle.std.proofs.Common.{◌≡◌, ℕ, ◌≤◌, Bool, true, false, List, [], ◌∷◌, ◌++◌, length, Option, Some, None, Result, Ok, Err, refl, sym, ap, subst, ◌∙◌, append-nil}
 use Rattle.std.proofs.Math.Nat.{le-max_left, le-max_right}
 use Rattle.message_model.specs.declared.messages.Kind4.{Kind4}
 use Rattle.message_model.specs.declared.messages.Kind4.TheVariants.{Con, Non, Ack, Rst}
@@ -13,8 +13,6 @@ use Rattle.message_model.specs.Message.{Message, role_of}
 use Rattle.message_model.specs.OptionTable.{first_bad_option}
 use Rattle.message_model.specs.Reading.{reading}
 use Rattle.message_model.specs.Request.{path_in}
-use Rattle.history_model.specs.declared.entries.Entry.{Entry}
-use Rattle.event_model.specs.declared.notes.Note.{Note}
 use Rattle.journal_model.specs.declared.steps.Step.{Step}
 use Rattle.journal_model.specs.declared.steps.StepKind.{StepKind}
 use Rattle.journal_model.specs.declared.steps.StepKind.TheVariants as step
@@ -23,7 +21,7 @@ use Rattle.journal_model.specs.Journal.{events, entries, entries_of, latest}
 use Rattle.journal_model.specs.Sending.{Reply, answering}
 use Rattle.journal_model.specs.Requests.{refusal_by_request}
 use Rattle.journal_model.specs.Rows.{served, refusal_answered, request_by, by_role, unread_answered, heard, looked, done, kept_body, effects, moment_of, row}
-use Rattle.journal_model.proofs.Telling.{told, TellsNext, none, one, TellsNext-single}
+use Rattle.journal_model.proofs.Telling.{told, TellsNext, none, TellsNext-single}
 use Rattle.journal_model.proofs.QuietSteps.{look_effects-told, keep_effects-told, lookup_effects-told, write_effects-told, acknowledged-told, reset-told, tick_effects-told}
 use Rattle.journal_model.proofs.ChangingSteps.{commit_effects-TellsNext, response_effects-TellsNext}
 

@@ -1,6 +1,5 @@
 -- What looks, keeps, lookups, writes as they are heard, empty messages, and ticks note; so none of them tells an entry.
 use Rattle.std.proofs.Common.{◌≡◌, ℕ, Bool, true, false, cond, List, [], ◌∷◌, ◌++◌, map, fold, Option, Some, None, refl, ◌==◌}
-use Rattle.message_model.specs.declared.blocks.Block.{Block}
 use Rattle.message_model.specs.Message.{Message}
 use Rattle.history_model.specs.declared.entries.Entry.{Entry}
 use Rattle.rd_base.specs.declared.peers.Peer.{Peer}
@@ -14,7 +13,7 @@ use Rattle.event_model.specs.Flights.{Flight}
 use Rattle.event_model.specs.Fetches.{Request}
 use Rattle.journal_model.specs.declared.steps.Step.{Step}
 use Rattle.journal_model.specs.declared.rows.Row.{Row}
-use Rattle.journal_model.specs.Sending.{Effects, Reply, joined, answering}
+use Rattle.journal_model.specs.Sending.{Effects, answering}
 use Rattle.message_model.specs.Request.{observe_in}
 use Rattle.message_model.specs.RequestKey.{key_in}
 use Rattle.event_model.specs.Observers.{has_room_for, name_of, observers, is_observer, body_given}
@@ -27,9 +26,9 @@ use Rattle.journal_model.specs.Looks.{unless_held, unless_valid, looked_at, look
 use Rattle.journal_model.specs.Lookups.{without, listing_now, addition, observer_of, block_now, block_of_kept, later_block, removal, keeping, observed_if, observed, unobserved, observed_by, by_observe, by_block, lookup_effects}
 use Rattle.journal_model.specs.Writes.{again_answered, admitted_unless, write_unless, write_effects}
 use Rattle.journal_model.specs.Empties.{waited_for, is_last_request, acknowledged, reset}
-use Rattle.journal_model.specs.Ticks.{first_block, is_given, listing_for, is_looked_at, events_with, ticking, sent_again, each_of, notice_again, flight_again, notices_again, Ticking, noticed, noticed_unless, noticed_if, notice_next, notices, request_again, fetch_again, requests_again, tick_effects}
+use Rattle.journal_model.specs.Ticks.{first_block, is_given, listing_for, is_looked_at, events_with, ticking, sent_again, each_of, notice_again, flight_again, notices_again, Ticking, noticed_unless, noticed_if, notice_next, notices, request_again, fetch_again, requests_again, tick_effects}
 use Rattle.std.proofs.lemmas.Bool.{and_from}
-use Rattle.journal_model.proofs.NoteKinds.{of_lookup, of_write, of_empty, of_tick, are, are-append}
+use Rattle.journal_model.proofs.NoteKinds.{of_lookup, of_write, of_empty, of_again, of_resent, of_tick, are, are-append, again_tick, resent_tick}
 
 -- a look
 pub look_effects-notes : (history : List Entry) (moment : ℕ) (s : Step) (m : Message) → (look_effects history moment s m).notes ≡ []
@@ -84,11 +83,11 @@ observed_if-notes : (b : Bool) (rows : List Row) (s : Step) (m : Message) (answe
 unfolding answering
 observed_if-notes true rows s m answer =
     are-append of_lookup (removal (s.peer, m.token) (observers (events rows))) (addition (observer_of s m) answer.body ++ keeping s m answer)
-        (removal-notes (s.peer, m.token) (observers (events rows)))
-        (are-append of_lookup (addition (observer_of s m) answer.body) (keeping s m answer) refl (keeping-notes s m answer))
+    (removal-notes (s.peer, m.token) (observers (events rows)))
+    (are-append of_lookup (addition (observer_of s m) answer.body) (keeping s m answer) refl (keeping-notes s m answer))
 observed_if-notes false rows s m answer =
     are-append of_lookup (removal (s.peer, m.token) (observers (events rows))) (keeping s m answer)
-        (removal-notes (s.peer, m.token) (observers (events rows))) (keeping-notes s m answer)
+    (removal-notes (s.peer, m.token) (observers (events rows))) (keeping-notes s m answer)
 
 -- a lookup that the journal takes part in
 pub lookup_effects-notes : (rows : List Row) (moment : ℕ) (s : Step) (m : Message) → are of_lookup (lookup_effects rows moment s m).notes ≡ true
@@ -140,15 +139,15 @@ pub acknowledged-notes : (peer : Peer) (mid : ℕ) (events : List Event) → are
 unfolding acknowledged
 acknowledged-notes peer mid events =
     are-append of_empty (map (λ (o : Observer). note.Landed peer mid) (waited_for peer mid events)) (cond (is_last_request peer mid events) (note.Waiting peer ∷ []) [])
-        (made-notes (λ (o : Observer). note.Landed peer mid) (λ o. refl) (waited_for peer mid events))
-        (empty_one (is_last_request peer mid events) (note.Waiting peer) refl)
+    (made-notes (λ (o : Observer). note.Landed peer mid) (λ o. refl) (waited_for peer mid events))
+    (empty_one (is_last_request peer mid events) (note.Waiting peer) refl)
 
 pub reset-notes : (peer : Peer) (mid : ℕ) (events : List Event) → are of_empty (reset peer mid events).notes ≡ true
 unfolding reset
 reset-notes peer mid events =
     are-append of_empty (map (λ (o : Observer). note.Unwatched o.peer o.token) (waited_for peer mid events)) (cond (is_last_request peer mid events) (note.Ceased peer ∷ []) [])
-        (made-notes (λ (o : Observer). note.Unwatched o.peer o.token) (λ o. refl) (waited_for peer mid events))
-        (empty_one (is_last_request peer mid events) (note.Ceased peer) refl)
+    (made-notes (λ (o : Observer). note.Unwatched o.peer o.token) (λ o. refl) (waited_for peer mid events))
+    (empty_one (is_last_request peer mid events) (note.Ceased peer) refl)
 
 -- one note or none
 tick_one : (b : Bool) (n : Note) → of_tick n ≡ true → are of_tick (cond b (n ∷ []) []) ≡ true
@@ -156,27 +155,27 @@ tick_one true n fits = and_from (of_tick n) true fits refl
 tick_one false n fits = refl
 
 -- what is done one after the other
-each_of-notes : {A : Type 0} (does : A → Effects) → ((x : A) → are of_tick (does x).notes ≡ true) → (xs : List A) → are of_tick (each_of does xs).notes ≡ true
-each_of-notes does quiet [] = refl
-each_of-notes does quiet (x ∷ xs) = are-append of_tick (does x).notes (each_of does xs).notes (quiet x) (each_of-notes does quiet xs)
+each_of-notes : {A : Type 0} (kind : Note → Bool) (does : A → Effects) → ((x : A) → are kind (does x).notes ≡ true) → (xs : List A) → are kind (each_of does xs).notes ≡ true
+each_of-notes kind does quiet [] = refl
+each_of-notes kind does quiet (x ∷ xs) = are-append kind (does x).notes (each_of does xs).notes (quiet x) (each_of-notes kind does quiet xs)
 
 -- a message is sent again
-sent_again-notes : (d : Option (Peer × List ℕ)) (n : Note) → of_tick n ≡ true → are of_tick (sent_again d n).notes ≡ true
-sent_again-notes None n fits = and_from (of_tick n) true fits refl
-sent_again-notes (Some d) n fits = and_from (of_tick n) true fits refl
+sent_again-notes : (kind : Note → Bool) (d : Option (Peer × List ℕ)) (n : Note) → kind n ≡ true → are kind (sent_again d n).notes ≡ true
+sent_again-notes kind None n fits = and_from (kind n) true fits refl
+sent_again-notes kind (Some d) n fits = and_from (kind n) true fits refl
 
 -- notices are sent again
-pub notices_again-notes : (rows : List Row) (moment : ℕ) → are of_tick (notices_again rows moment).notes ≡ true
+pub notices_again-notes : (rows : List Row) (moment : ℕ) → are of_again (notices_again rows moment).notes ≡ true
 unfolding notices_again
 notices_again-notes rows moment =
-    each_of-notes (λ o. flight_again rows moment o (flight o (events rows))) (λ o. flying o (flight o (events rows))) (observers (events rows))
+    each_of-notes of_again (λ o. flight_again rows moment o (flight o (events rows))) (λ o. flying o (flight o (events rows))) (observers (events rows))
   where
-    again : (b c : Bool) (o : Observer) (f : Flight) → are of_tick (notice_again b c rows o f).notes ≡ true
+    again : (b c : Bool) (o : Observer) (f : Flight) → are of_again (notice_again b c rows o f).notes ≡ true
     again false c o f = refl
     again true true o f = refl
-    again true false o f = sent_again-notes _ _ refl
+    again true false o f = sent_again-notes of_again _ _ refl
 
-    flying : (o : Observer) (f : Option Flight) → are of_tick (flight_again rows moment o f).notes ≡ true
+    flying : (o : Observer) (f : Option Flight) → are of_again (flight_again rows moment o f).notes ≡ true
     flying o None = refl
     flying o (Some f) = again _ _ o f
 
@@ -197,28 +196,29 @@ notices-notes t done quiet = folded (observers (events_with t done)) done quiet
     folded [] so_far h = h
     folded (o ∷ standing) so_far h =
         folded standing (notice_next t so_far o)
-            (are-append of_tick so_far.notes (noticed_if (is_looked_at t so_far o) t so_far o).notes h (looked (is_looked_at t so_far o) so_far o))
+        (are-append of_tick so_far.notes (noticed_if (is_looked_at t so_far o) t so_far o).notes h (looked (is_looked_at t so_far o) so_far o))
 
 -- requests of fetches are sent again
-pub requests_again-notes : (rows : List Row) (moment : ℕ) → are of_tick (requests_again rows moment).notes ≡ true
+pub requests_again-notes : (rows : List Row) (moment : ℕ) → are of_resent (requests_again rows moment).notes ≡ true
 unfolding requests_again
 requests_again-notes rows moment =
-    each_of-notes (λ peer. fetch_again rows moment peer (last_request peer (events rows))) (λ peer. running peer (last_request peer (events rows))) (fetches (events rows))
+    each_of-notes of_resent (λ peer. fetch_again rows moment peer (last_request peer (events rows))) (λ peer. running peer (last_request peer (events rows))) (fetches (events rows))
   where
-    again : (b c : Bool) (peer : Peer) (e : Event) (request : Option Request) → are of_tick (request_again b c rows peer e request).notes ≡ true
+    again : (b c : Bool) (peer : Peer) (e : Event) (request : Option Request) → are of_resent (request_again b c rows peer e request).notes ≡ true
     again false c peer e request = refl
     again true c peer e None = refl
     again true true peer e (Some request) = refl
-    again true false peer e (Some request) = sent_again-notes _ _ refl
+    again true false peer e (Some request) = sent_again-notes of_resent _ _ refl
 
-    running : (peer : Peer) (e : Option Event) → are of_tick (fetch_again rows moment peer e).notes ≡ true
+    running : (peer : Peer) (e : Option Event) → are of_resent (fetch_again rows moment peer e).notes ≡ true
     running peer None = refl
     running peer (Some e) = again _ _ peer e _
 
 -- a tick
 pub tick_effects-notes : (starved : Bool) (rows : List Row) (moment : ℕ) (s : Step) → are of_tick (tick_effects starved rows moment s).notes ≡ true
 unfolding tick_effects
-tick_effects-notes true rows moment s = are-append of_tick (notices_again rows moment).notes (requests_again rows moment).notes (notices_again-notes rows moment) (requests_again-notes rows moment)
+tick_effects-notes true rows moment s = are-append of_tick (notices_again rows moment).notes (requests_again rows moment).notes (again_tick (notices_again rows moment).notes (notices_again-notes rows moment)) (resent_tick (requests_again rows moment).notes (requests_again-notes rows moment))
 tick_effects-notes false rows moment s =
     are-append of_tick (notices (ticking rows moment s) (notices_again rows moment)).notes (requests_again rows moment).notes
-        (notices-notes (ticking rows moment s) (notices_again rows moment) (notices_again-notes rows moment)) (requests_again-notes rows moment)
+    (notices-notes (ticking rows moment s) (notices_again rows moment) (again_tick (notices_again rows moment).notes (notices_again-notes rows moment)))
+    (resent_tick (requests_again rows moment).notes (requests_again-notes rows moment))

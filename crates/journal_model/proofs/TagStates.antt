@@ -1,5 +1,5 @@
 -- Equally tagged answers come from one state.
-use Rattle.std.proofs.Common.{◌≡◌, ℕ, ◌≤◌, List, ◌∷◌, arith, subst, sym}
+use Rattle.std.proofs.Common.{◌≡◌, ◌≤◌, List, ◌∷◌, arith, subst, sym}
 use Rattle.std.proofs.Math.Nat.{max-le, le_refl}
 use Rattle.rd_base.specs.declared.queries.Query.{Query}
 use Rattle.history_model.specs.Live.{live, last_moment}
@@ -9,7 +9,7 @@ use Rattle.journal_model.specs.declared.rows.Row.{Row}
 use Rattle.journal_model.specs.Journal.{entries, latest}
 use Rattle.journal_model.specs.Machine.{IsJournal, made}
 use Rattle.journal_model.specs.Headline.{Within, TagsTellStates}
-use Rattle.journal_model.proofs.JournalLaws.{Made, each_row, newest, HasHistory, journal-HasHistory, journal-moments, entries-IsFront}
+use Rattle.journal_model.proofs.JournalLaws.{Made, each_row, HasHistory, journal-HasHistory, journal-moments, entries-IsFront}
 
 -- a row with the rows before it is a journal
 journal_up_to : (rows before : List Row) (r : Row) → IsJournal rows → Within rows before r → IsJournal (r ∷ before)
@@ -31,8 +31,8 @@ both : (rows before other_before : List Row) (r other : Row) → IsJournal rows 
     → (entries (r ∷ before) ≡ entries (other ∷ other_before)) × (live (entries (r ∷ before)) r.moment.0 ≡ live (entries (other ∷ other_before)) other.moment.0)
 both rows before other_before r other journal here there same =
     tag_from_tells 0 (entries rows) (entries (r ∷ before)) (entries (other ∷ other_before)) r.moment.0 other.moment.0 (omega arith)
-        (journal-HasHistory rows journal).legal (entries-IsFront rows before r here) (entries-IsFront rows other_before other there)
-        (in_time rows before r journal here) (in_time rows other_before other journal there) same
+    (journal-HasHistory rows journal).legal (entries-IsFront rows before r here) (entries-IsFront rows other_before other there)
+    (in_time rows before r journal here) (in_time rows other_before other journal there) same
 
 -- equally tagged answers come from one state
 pub journal-TagsTellStates : (rows : List Row) → IsJournal rows → TagsTellStates rows
@@ -47,4 +47,4 @@ pub journal-listings : (rows before other_before : List Row) (r other : Row) (qu
     → listing query (entries (r ∷ before)) r.moment.0 ≡ listing query (entries (other ∷ other_before)) other.moment.0
 journal-listings rows before other_before r other query journal here there same =
     listing-live query (entries (r ∷ before)) (entries (other ∷ other_before)) r.moment.0 other.moment.0
-        ((journal-TagsTellStates rows journal).records before other_before r other here there same)
+    ((journal-TagsTellStates rows journal).records before other_before r other here there same)

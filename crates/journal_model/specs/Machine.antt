@@ -1,5 +1,5 @@
 -- The machine: which jobs workers hold, which steps they may make, and the journals that come of it.
-use Rattle.std.specs.Prelude.{◌≡◌, ℕ, ◌+◌, ◌%◌, ◌^◌, Bool, false, ◌==◌, List, [], ◌∷◌, length, fold, Option, Some, None, Result, Ok, Err, if◌then◌else◌}
+use Rattle.std.specs.Prelude.{◌≡◌, ℕ, ◌+◌, ◌%◌, ◌^◌, Bool, false, ◌==◌, List, [], ◌∷◌, length, fold, Option, Some, None, Result, Ok, Err, ⊤, if◌then◌else◌}
 use Rattle.rd_base.specs.declared.peers.Peer.{Peer}
 use Rattle.message_model.specs.declared.messages.Role.{Role}
 use Rattle.message_model.specs.declared.messages.Role.TheVariants as role
@@ -95,3 +95,8 @@ pub data IsJournal : List Row → Type 0 where
 -- the journal of steps, each with the mark whether it met want of memory
 unfoldable pub run : List (Step × Bool) → List Row
 run steps = fold (λ rows marked. row rows marked.0 marked.1 ∷ rows) [] steps
+
+-- steps that may be made one after the other, behind a journal
+abbrev pub MayRun : List (Step × Bool) → List Row → Type 0
+MayRun [] rows = ⊤
+MayRun (marked ∷ steps) rows = MayMake rows marked.0 × MayRun steps (row rows marked.0 marked.1 ∷ rows)

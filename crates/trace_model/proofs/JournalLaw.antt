@@ -1,12 +1,10 @@
 -- What a trace gives is a journal of the machine: each step of a line might be made where it is made.
-use Rattle.std.proofs.Common.{◌≡◌, ℕ, ◌&&◌, ◌||◌, Bool, true, false, not, cond, max, nat_lt, List, [], ◌∷◌, fold, Option, Some, None, Result, Ok, Err, refl, sym, ap, subst, ◌∙◌}
-use Rattle.rd_base.specs.declared.peers.Peer.{Peer}
+use Rattle.std.proofs.Common.{◌≡◌, ℕ, ◌&&◌, ◌||◌, Bool, true, false, cond, nat_lt, List, [], ◌∷◌, fold, Option, Some, None, Result, Ok, Err, refl, sym, ap, subst}
 use Rattle.message_model.specs.declared.messages.Role.{Role}
 use Rattle.message_model.specs.declared.messages.Role.TheVariants as role
 use Rattle.message_model.specs.declared.messages.Unread.{Unread}
 use Rattle.message_model.specs.Message.{Message, role_of}
 use Rattle.message_model.specs.Reading.{reading}
-use Rattle.message_model.specs.Refusals.{refusal_of}
 use Rattle.line_model.specs.declared.lines.Line.{Line}
 use Rattle.line_model.specs.declared.lines.Line.TheVariants as line
 use Rattle.line_model.specs.declared.lines.LineBad.{LineBad}
@@ -19,8 +17,8 @@ use Rattle.journal_model.specs.declared.steps.StepKind.TheVariants as step
 use Rattle.journal_model.specs.declared.rows.Row.{Row}
 use Rattle.journal_model.specs.Rows.{row, moment_of}
 use Rattle.journal_model.specs.Meantime.{is_never, is_left_out, is_left_out_of, is_too_long, is_heard, row_unless, row_where}
-use Rattle.journal_model.specs.Machine.{is_look_datagram, hearing, Job, job_of, drawn_by, MayBegin, hears, goes, ticks, MayMake, IsJournal, begun, made}
-use Rattle.trace_model.specs.Steps.{nobody, hearing_where, step_behind, come_step, go_step, step_of_worker, worker_of, if_worker, step_of_line, Told, untold, told_step, told_unless, told_line, told}
+use Rattle.journal_model.specs.Machine.{is_look_datagram, hearing, Job, job_of, hears, goes, ticks, MayMake, IsJournal, begun, made}
+use Rattle.trace_model.specs.Steps.{hearing_where, come_step, go_step, step_of_worker, worker_of, if_worker, step_of_line, Told, untold, told_step, told_unless, told_line, told}
 
 -- a test and false, and a test and true
 and_false : (b : Bool) → (b && false) ≡ false

@@ -1,6 +1,7 @@
 pub mod OnLiterals
 pub mod Writing
 pub mod JournalLaw
+pub mod HeadlineLaw
 mod RegistrationTraces
 mod LookupTraces
 mod BlockTraces
