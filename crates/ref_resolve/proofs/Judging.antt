@@ -91,10 +91,3 @@ sizes c = omega (
 
 pub size_taken_apart : (text : List ℕ) (c : Components) → c ≡ components text → size_of c ≡ length text
 size_taken_apart text c e = sym (sizes c) ∙ ap length (ap recomposed e ∙ recomposed-components text)
-
--- a fault of the fragment stands as far behind the end of the query as the fragment goes
-pub last_fault : (c : Components) (size fragment at : ℕ) → where_given is_scheme c.scheme ≡ true → where_given is_authority c.authority ≡ true → is_text_of is_path_character c.path ≡ true
-    → where_given (is_text_of is_query_character) c.query ≡ true → where_given (is_text_of is_query_character) c.fragment ≡ false
-    → size_of c ≡ size → fragment ≡ length (fragment_text c.fragment) → at ≡ 1 + text_prefix is_query_character (unwrap_or c.fragment [])
-    → (have_no_fault c ≡ false) × (size - fragment + at ≡ prefix_of_parts (parts_of c))
-last_fault c size fragment at e1 e2 e3 e4 e5 s f k = (rw (e1, e2, e3, e4, e5) refl, rw (e1, e2, e3, e4, e5) (omega (arith, s, f, k)))
