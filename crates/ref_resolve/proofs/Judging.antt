@@ -1,10 +1,9 @@
 -- The components that a text is taken apart into are judged one by one.
-use Rattle.std.proofs.Common.{◌≡◌, ℕ, ◌+◌, ◌-◌, ◌<◌, Bool, true, false, not, ◌&&◌, ◌||◌, List, [], ◌∷◌, ◌++◌, Option, Some, None, is_some, unwrap_or, length, if◌then◌else◌, refl, sym, ap, ◌∙◌, length-append, arith}
-use Rattle.std.specs.Prelude.{◌==◌}
+use Rattle.std.proofs.Common.{◌≡◌, ℕ, Bool, true, false, not, ◌&&◌, ◌||◌, List, [], ◌∷◌, ◌++◌, Option, Some, None, is_some, length, refl, sym, ap, ◌∙◌, length-append, arith}
 use Rattle.std.proofs.lemmas.Bool.Decides.{nat_tests}
-use Rattle.document_model.specs.Characters.{slash, colon, is_empty, is_path_character, is_query_character}
+use Rattle.document_model.specs.Characters.{slash, is_empty, is_path_character, is_query_character}
 use Rattle.document_model.specs.References.{Components, begins_with, from_first, without_query, has_colon_in_first_segment, scheme_in, behind_scheme, behind_two_slashes, authority_in, path_in, components, recomposed, scheme_text, authority_text, query_text, fragment_text, where_given, is_scheme, is_authority, is_text_of, path_fits, is_allowed, IsReference}
-use Rattle.document_model.specs.ReferenceFaults.{text_prefix, prefix_of_parts, parts_of, reference_fault_at}
+use Rattle.document_model.specs.ReferenceFaults.{prefix_of_parts, parts_of, reference_fault_at}
 use Rattle.document_model.proofs.ReferenceLaws.{recomposed-components}
 use Rattle.document_model.proofs.ReferenceReading.{components-recomposed}
 use Rattle.ref_resolve.specs.Faults.{have_no_fault, size_of}
