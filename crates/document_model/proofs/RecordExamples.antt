@@ -9,7 +9,7 @@ use Rattle.rd_base.specs.declared.records.Record.{Record}
 use Rattle.document_model.specs.Bodies.{linked_references}
 use Rattle.document_model.specs.Parameters.{registration_values, update_values}
 use Rattle.document_model.specs.Criteria.{lookup_values}
-use Rattle.document_model.specs.Bases.{base_of}
+use Rattle.rd_base.specs.Bases.{base_of}
 use Rattle.document_model.specs.Matching.{matches_value, matches_named}
 use Rattle.document_model.specs.ListingLines.{endpoint_line, part, weight, shown}
 use Rattle.document_model.specs.Records.{registered, updated}

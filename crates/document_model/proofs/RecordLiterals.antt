@@ -5,7 +5,7 @@ use Rattle.std.specs.Net.Text.{hex, hex_groups_text, ipv6_text}
 use Rattle.document_model.specs.Options.{value_named}
 use Rattle.document_model.specs.Parameters.{has_control, is_base, is_link_local, parameter_fault, parameters_fault, registration_values, update_values, registration_parameters, update_parameters}
 use Rattle.document_model.specs.Criteria.{option_fault, lookup_fault, lookup_values, lookup_query, fault_of}
-use Rattle.document_model.specs.Bases.{base_of}
+use Rattle.rd_base.specs.Bases.{base_of}
 use Rattle.document_model.specs.Matching.{matches_value, matches_named, link_matches, location, endpoint_pairs, endpoint_matches}
 use Rattle.document_model.specs.ListingLines.{link_listed, endpoint_listed, link_line, endpoint_line, part, weight, shown}
 use Rattle.document_model.specs.Records.{based, item_of, rebased, updated_attributes, registered, updated}

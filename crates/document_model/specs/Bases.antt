@@ -1,26 +1,7 @@
 -- The base of a registration: given, or that of the peer that it comes from (RFC 9176 section 5).
-use Rattle.std.specs.Prelude.{ℕ, Bool, true, false, ◌||◌, ◌==◌, List, [], ◌++◌, codes, decimal, Option, Some, None, is_some, unwrap_or, if◌then◌else◌}
-use Rattle.std.specs.Net.Text.{ipv4_text, ipv6_text}
-use Rattle.rd_base.specs.declared.peers.Host.{Host}
-use Rattle.rd_base.specs.declared.peers.Host.TheVariants as host
+use Rattle.std.specs.Prelude.{ℕ, Bool, true, false, ◌||◌, List, Option, Some, None, is_some, unwrap_or}
 use Rattle.rd_base.specs.declared.peers.Peer.{Peer}
-
--- the port of CoAP, which a base leaves out (RFC 7252 section 6.1)
-abbrev pub coap_port : ℕ
-coap_port = 5683
-
--- an address as a host, an IPv6 address in brackets (RFC 3986 section 3.2.2, RFC 5952)
-abbrev pub host_text : Host → List ℕ
-host_text (host.V4 octets) = ipv4_text octets
-host_text (host.V6 groups) = codes "[" ++ (ipv6_text groups ++ codes "]")
-
--- a colon and a port, or nothing for the port of CoAP
-abbrev pub port_text : ℕ → List ℕ
-port_text port = if port == coap_port then [] else codes ":" ++ decimal port
-
--- the base of what a peer registers without giving one
-unfoldable pub base_of : Peer → List ℕ
-base_of peer = codes "coap://" ++ (host_text peer.host ++ port_text peer.port)
+use Rattle.rd_base.specs.Bases.{base_of}
 
 -- the base of a registration: the one that is given, else that of the peer
 abbrev pub registered_base : Option (List ℕ) → Peer → List ℕ

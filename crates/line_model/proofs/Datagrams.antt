@@ -7,7 +7,7 @@ use Rattle.std.proofs.lemmas.Slice.Eq.{bytes_eq-Decides}
 use Rattle.hex.specs.Hex.{IsBytes, decode_of, encode_lower, lower_digits}
 use Rattle.hex.proofs.HexLemmas.{length-encode_with, decode_of-encode_lower, decode_of-ok}
 use Rattle.line_model.specs.Datagrams.{max_datagram, no_octets, datagram_text, datagram_of, if_sized, IsDatagramText}
-use Rattle.line_model.proofs.Tests.{passed, failed, chosen, either_of}
+use Rattle.rd_base.proofs.Tests.{passed, failed, chosen, either_of}
 
 -- lists of different lengths are not equal
 not_same : (xs ys : List ℕ) → length xs ≢ length ys → bytes_eq xs ys ≡ false

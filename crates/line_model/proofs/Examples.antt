@@ -4,7 +4,7 @@ use Rattle.rd_base.specs.declared.peers.Host.TheVariants as host
 use Rattle.rd_base.specs.declared.peers.Peer.{Peer}
 use Rattle.line_model.specs.declared.lines.Line.TheVariants as line
 use Rattle.line_model.specs.declared.lines.Reason.TheVariants as reason
-use Rattle.line_model.specs.Peers.{peer_of, peer_text}
+use Rattle.rd_base.specs.Peers.{peer_of, peer_text}
 use Rattle.line_model.specs.Lines.{line_of, line_text, out_text}
 use Rattle.line_model.specs.Texts.{lines_of}
 use Rattle.line_model.proofs.OnLiterals.{trace_on_literals}

@@ -11,7 +11,7 @@ use Rattle.hex.proofs.HexLemmas.{length-encode_with}
 use Rattle.rd_base.specs.declared.peers.Host.{Host}
 use Rattle.rd_base.specs.declared.peers.Host.TheVariants as host
 use Rattle.rd_base.specs.declared.peers.Peer.{Peer}
-use Rattle.line_model.specs.Peers.{IsHost, IsPeer, socket_of, peer_text}
+use Rattle.rd_base.specs.Peers.{IsHost, IsPeer, socket_of, peer_text}
 use Rattle.line_model.proofs.Spaces.{octets_fit}
 use Rattle.line_model.specs.Datagrams.{max_datagram, datagram_text}
 

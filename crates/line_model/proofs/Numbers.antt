@@ -3,7 +3,7 @@ use Rattle.std.proofs.Common.{◌≡◌, ℕ, ◌≤◌, ◌<◌, ◌^◌, ◌&&
 use Rattle.std.specs.Str.Parse.{digits_value}
 use Rattle.std.proofs.lemmas.Fmt.{decimal_is_IsNumeral}
 use Rattle.line_model.specs.Numbers.{IsNumber, number_of}
-use Rattle.line_model.proofs.Tests.{chosen, passed, both_parts, both_from}
+use Rattle.rd_base.proofs.Tests.{chosen, passed, both_parts, both_from}
 
 -- what is read is the number whose text it is
 pub number_of-found : (limit : ℕ) (text : List ℕ) (n : ℕ) → number_of limit text ≡ Some n → IsNumber limit text n

@@ -10,12 +10,12 @@ use Rattle.line_model.specs.declared.lines.Line.{Line}
 use Rattle.line_model.specs.declared.lines.Line.TheVariants as line
 use Rattle.line_model.specs.declared.lines.Reason.TheVariants as reason
 use Rattle.line_model.specs.Numbers.{max_worker, max_moment, max_word}
-use Rattle.line_model.specs.Peers.{IsPeer, peer_text}
+use Rattle.rd_base.specs.Peers.{IsPeer, peer_text}
 use Rattle.line_model.specs.Datagrams.{max_datagram, datagram_text}
 use Rattle.line_model.specs.Lines.{space, max_line, fields, joined, come_of, go_of, tick_of, said_by, line_of, printed_fields, line_text, IsLine, come, go, tick}
-use Rattle.line_model.proofs.Tests.{passed, failed}
+use Rattle.rd_base.proofs.Tests.{passed, failed}
 use Rattle.line_model.proofs.Numbers.{number_of-decimal}
-use Rattle.line_model.proofs.Peers.{peer_of-peer_text}
+use Rattle.rd_base.proofs.PeerTexts.{peer_of-peer_text}
 use Rattle.line_model.proofs.Datagrams.{datagram_of-datagram_text}
 use Rattle.line_model.proofs.Spaces.{HasNoSpace, decimal_spaceless, peer_spaceless, datagram_spaceless}
 use Rattle.line_model.proofs.Lengths.{length-peer_text, length-datagram_text}

@@ -7,12 +7,12 @@ use Rattle.line_model.specs.declared.lines.Line.{Line}
 use Rattle.line_model.specs.declared.lines.Line.TheVariants as line
 use Rattle.line_model.specs.declared.lines.Reason.TheVariants as reason
 use Rattle.line_model.specs.Numbers.{IsNumber, max_worker, max_moment, max_word, number_of}
-use Rattle.line_model.specs.Peers.{peer_of}
+use Rattle.rd_base.specs.Peers.{peer_of}
 use Rattle.line_model.specs.Datagrams.{datagram_of}
 use Rattle.line_model.specs.Lines.{max_line, fields, joined, come_of, go_of, tick_of, said_by, line_of, AreFieldsOf, comes, goes, ticks, ticks_alone, IsLineText}
-use Rattle.line_model.proofs.Tests.{either_of}
+use Rattle.rd_base.proofs.Tests.{either_of}
 use Rattle.line_model.proofs.Numbers.{number_of-found, number_of-IsNumber}
-use Rattle.line_model.proofs.PeerBounds.{peer_of-IsPeerText}
+use Rattle.rd_base.proofs.PeerBounds.{peer_of-IsPeerText}
 use Rattle.line_model.proofs.Datagrams.{datagram_of-found, datagram_of-IsDatagramText}
 use Rattle.line_model.proofs.Spaces.{HasNoSpace, decimal_spaceless, peer_spaceless, IsDatagramText_spaceless}
 use Rattle.line_model.proofs.Fields.{fields-joined, joined-fields}

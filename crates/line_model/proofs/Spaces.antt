@@ -15,7 +15,7 @@ use Rattle.hex.proofs.HexLemmas.{IsDigits-lower_digits, decode_of-ok}
 use Rattle.rd_base.specs.declared.peers.Host.{Host}
 use Rattle.rd_base.specs.declared.peers.Host.TheVariants as host
 use Rattle.rd_base.specs.declared.peers.Peer.{Peer}
-use Rattle.line_model.specs.Peers.{IsHost, IsPeer, socket_of, peer_text}
+use Rattle.rd_base.specs.Peers.{IsHost, IsPeer, socket_of, peer_text}
 use Rattle.line_model.specs.Datagrams.{datagram_text, IsDatagramText}
 use Rattle.line_model.specs.Lines.{space}
 

@@ -1,5 +1,4 @@
 pub mod Numbers
-pub mod Peers
 pub mod Datagrams
 pub mod Lines
 pub mod Texts

@@ -9,7 +9,7 @@ use Rattle.line_model.specs.declared.lines.Line.TheVariants as line
 use Rattle.line_model.specs.declared.lines.Reason.{Reason}
 use Rattle.line_model.specs.declared.lines.Reason.TheVariants as reason
 use Rattle.line_model.specs.Numbers.{max_worker, max_moment, max_word, IsNumber, number_of}
-use Rattle.line_model.specs.Peers.{IsPeer, IsPeerText, peer_of, peer_text}
+use Rattle.rd_base.specs.Peers.{IsPeer, IsPeerText, peer_of, peer_text}
 use Rattle.line_model.specs.Datagrams.{IsDatagramText, max_datagram, datagram_of, datagram_text}
 
 -- the space between two fields

@@ -14,13 +14,6 @@ max_moment = 999_999_999_999_999
 abbrev pub max_word : ℕ
 max_word = 4_294_967_295
 
--- the least and the greatest port that a peer can have
-abbrev pub min_port : ℕ
-min_port = 1
-
-abbrev pub max_port : ℕ
-max_port = 65_535
-
 -- the text prints n in decimal, and n is within the limit
 pub record IsNumber (limit : ℕ) (text : List ℕ) (n : ℕ) : Type 0 where
   pub printed : text ≡ decimal n

@@ -6,7 +6,7 @@ use Rattle.std.proofs.Math.Nat.{add-mul, one-mul}
 use Rattle.std.proofs.lemmas.Option.{same_Some, none-some}
 use Rattle.message_model.specs.declared.blocks.Block.{Block}
 use Rattle.message_model.specs.Numbers.{AreBytes, uint_of, uint_bytes}
-use Rattle.message_model.specs.Blocks.{IsBlock, block_size, block_from, block_read, more_bit, block_value, block_of}
+use Rattle.message_model.specs.Blocks.{IsBlock, block_size, block_from, block_read, more_bit, block_value, block_of, IsPiece}
 use Rattle.message_model.proofs.ByteLemmas.{chosen, passed}
 
 -- ---- numbers
@@ -111,13 +111,6 @@ block_found value b fits few e =
     (there.block, ap uint_bytes there.bits)
 
 -- ---- blocks of a body
-
--- What a block of a body is: what stands at its place, and how it ends.
-pub record IsPiece (body : List ℕ) (num size : ℕ) (piece : List ℕ) (more : Bool) : Type 0 where
-  pub place : drop (num * size) body ≡ piece ++ drop ((num + 1) * size) body
-  pub full : more ≡ true → length piece ≡ size
-  pub last : more ≡ false → drop ((num + 1) * size) body ≡ []
-  pub most : length piece ≤ size
 
 piece_of : (body : List ℕ) (num size : ℕ) → IsPiece body num size (take size (drop (num * size) body)) (ltb ((num + 1) * size) (length body))
 piece_of body num size =

@@ -1,6 +1,7 @@
 -- Bytes at the front of bytes, and steps that each take some.
-use Rattle.std.proofs.Common.{◌≡◌, ℕ, suc, ◌<◌, ◌≤◌, Bool, true, false, cond, ltb, List, [], ◌∷◌, ◌++◌, length, get_or, take, drop, Option, Some, None, refl, sym, ap, subst, ◌∙◌, append_assoc, arith, inl, inr}
+use Rattle.std.proofs.Common.{◌≡◌, ℕ, suc, ◌<◌, ◌≤◌, Bool, true, false, cond, ltb, List, [], ◌∷◌, ◌++◌, length, get_or, take, drop, Option, Some, None, refl, sym, ap, subst, ◌∙◌, append_assoc, Fits, w8, arith, inl, inr}
 use Rattle.std.specs.Prelude.{◌⊎◌}
+use Rattle.std.proofs.Math.Facts.{Fits-lt-pow}
 use Rattle.std.proofs.lemmas.Bool.{ltb-false, le-ltb}
 use Rattle.std.proofs.lemmas.List.{take_at, drop_at, take-append-drop, length-append, length-take}
 use Rattle.std.proofs.lemmas.Option.{same_Some}
@@ -26,7 +27,19 @@ pub AreBytes-from_places : (bytes : List ℕ) → ((i : ℕ) → get_or bytes i 
 AreBytes-from_places [] h = tt
 AreBytes-from_places (b ∷ bytes) h = (h 0, AreBytes-from_places bytes (λ i. h (suc i)))
 
+-- from what is known of the bytes that a program holds
+pub AreBytes-from_Fits : (bytes : List ℕ) → ((i : ℕ) → Fits w8 (get_or bytes i 0)) → AreBytes bytes
+AreBytes-from_Fits bytes h = AreBytes-from_places bytes (λ i. Fits-lt-pow (h i))
+
 -- ---- steps
+
+pub byte_at-some : (bytes : List ℕ) (x : ℕ × List ℕ) → Some x ≡ byte_at bytes → bytes ≡ x.0 ∷ x.1
+byte_at-some [] x e = absurd cc
+byte_at-some (b ∷ bytes) x e = ap (λ (y : ℕ × List ℕ). y.0 ∷ y.1) (sym (same_Some x (b, bytes) e))
+
+pub byte_at-none : (bytes : List ℕ) → None ≡ byte_at bytes → bytes ≡ []
+byte_at-none [] e = refl
+byte_at-none (b ∷ bytes) e = absurd cc
 
 -- the value of a step that gave one
 pub bind_some : {A B : Type 0} (o : Option A) (f : A → Option B) (y : B) → (o >>= f) ≡ Some y → (x : A) × (o ≡ Some x) × (f x ≡ Some y)

@@ -1,5 +1,5 @@
 -- Blocks of a body (RFC 7959 section 2.2).
-use Rattle.std.specs.Prelude.{◌<◌, ◌^◌, ℕ, ◌+◌, ◌*◌, ◌/◌, ◌%◌, Bool, true, false, not, ◌&&◌, List, length, take, drop, Option, Some, None, ◌==◌, nat_lt, nat_le, if◌then◌else◌}
+use Rattle.std.specs.Prelude.{◌≡◌, ◌<◌, ◌≤◌, ◌^◌, ℕ, ◌+◌, ◌*◌, ◌/◌, ◌%◌, Bool, true, false, not, ◌&&◌, List, [], ◌++◌, length, take, drop, Option, Some, None, ◌==◌, nat_lt, nat_le, if◌then◌else◌}
 use Rattle.message_model.specs.declared.blocks.Block.{Block}
 use Rattle.message_model.specs.Numbers.{uint_of, uint_bytes}
 
@@ -41,6 +41,13 @@ unfoldable pub block_of : List ℕ → ℕ → ℕ → Option (List ℕ × Bool)
 block_of body num szx =
     if nat_lt 0 num && nat_le (length body) (num * block_size szx) then None
     else Some (take (block_size szx) (drop (num * block_size szx) body), nat_lt ((num + 1) * block_size szx) (length body))
+
+-- What the block of a body with this number is, by its place and its end (RFC 7959 section 2.2).
+pub record IsPiece (body : List ℕ) (num size : ℕ) (piece : List ℕ) (more : Bool) : Type 0 where
+  pub place : drop (num * size) body ≡ piece ++ drop ((num + 1) * size) body
+  pub full : more ≡ true → length piece ≡ size
+  pub last : more ≡ false → drop ((num + 1) * size) body ≡ []
+  pub most : length piece ≤ size
 
 -- A block that more follow has exactly the block size, and the last is no longer (RFC 7959 section 2.2).
 abbrev pub is_misfit : Block → ℕ → Bool

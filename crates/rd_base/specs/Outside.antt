@@ -1,5 +1,5 @@
 -- What a call on the outside may answer, and what is then known of the source or the sink.
-use Rattle.std.specs.Prelude.{◌≡◌, ℕ, Bool, ◌-◌, ◌^◌, ◌<◌, ◌≤◌, List, length, take, Option, None, Some, nat_lt, if◌then◌else◌}
+use Rattle.std.specs.Prelude.{◌≡◌, ℕ, ◌-◌, ◌^◌, ◌<◌, ◌≤◌, List, length, take, Option, None, Some, nat_lt, if◌then◌else◌}
 use Rattle.std.specs.Io.KnownBytes.{Appends, Consumes, Keeps, IsAtEnd}
 use Rattle.rd_base.specs.declared.outside.Got.{Got}
 use Rattle.rd_base.specs.declared.outside.Got.TheVariants as got

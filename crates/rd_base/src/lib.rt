@@ -1,13 +1,16 @@
 //! What every crate of the directory speaks of: moments, peers, owned texts and lists, records, queries, and the outside.
 #![tactic(auto)]
 
+mod addresses;
 mod attributes;
 mod keys;
+mod matching;
 mod memory_ends;
 mod moments;
 mod octets;
 mod outside;
 mod parameters;
+mod peer_spelling;
 mod peers;
 mod queries;
 mod records;
@@ -25,6 +28,7 @@ pub use moments::Moment;
 pub use octets::Bytes;
 pub use outside::{Got, Put, Sink, Source};
 pub use parameters::{RegParams, UpdateParams};
+pub use peer_spelling::{PeerBad, base_of, peer_read, peer_read_ascii, peer_text};
 pub use peers::{Host, Peer};
 pub use queries::{Criteria, Criterion, Kind, Query};
 pub use records::{Item, Items, Name, Record};
@@ -34,3 +38,6 @@ pub use submitted::{SubmittedLink, SubmittedLinks};
 pub use sure_ends::{SureSink, SureSource};
 pub use tags::Tag;
 pub use texts::Text;
+
+#[cfg(test)]
+mod ends_tests;

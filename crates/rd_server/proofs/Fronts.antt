@@ -1,15 +1,16 @@
 -- Fronts of texts, and how the text of a journal grows.
 use Rattle.std.proofs.Common.{◌≡◌, ℕ, ◌+◌, Bool, true, false, List, [], ◌∷◌, ◌++◌, take, drop, Option, Some, None, Result, Ok, Err, refl, sym, ap, ◌∙◌, subst, append_assoc, append-nil, take-append-drop}
-use Rattle.std.specs.Prelude.{is_some, if◌then◌else◌}
+use Rattle.std.specs.Prelude.{is_some, nat_lt, if◌then◌else◌}
 use Rattle.std.specs.List.{flat_map}
 use Rattle.rd_base.specs.declared.moments.Moment.{Moment}
 use Rattle.rd_server.specs.declared.desk.Job.{Job}
-use Rattle.rd_server.specs.declared.lines.Line.{Line}
-use Rattle.rd_server.specs.declared.lines.Line.TheVariants as line
-use Rattle.rd_server.specs.declared.endings.Reason.{Reason}
-use Rattle.rd_server.specs.declared.endings.Reason.TheVariants as reason
-use Rattle.rd_server.specs.TraceLines.{line_of, out_line}
-use Rattle.rd_server.specs.Journal.{Row, Journal, journal, goes_on, after_line, gone, come_row, go_row, number_for, held, text}
+use Rattle.line_model.specs.declared.lines.Line.{Line}
+use Rattle.line_model.specs.declared.lines.Line.TheVariants as line
+use Rattle.line_model.specs.declared.lines.Reason.{Reason}
+use Rattle.line_model.specs.declared.lines.Reason.TheVariants as reason
+use Rattle.line_model.specs.Lines.{line_of}
+use Rattle.rd_server.specs.Journal.{out_line}
+use Rattle.rd_server.specs.Journal.{Row, Journal, journal, goes_on, after_step, after_line, worker_in, workers, gone, come_row, go_row, tick_row, number_for, held, text}
 use Rattle.rd_server.specs.Endings.{IsFrontOf, whole_text, ending}
 use Rattle.rd_server.specs.Going.{Place, journal_from}
 
@@ -32,9 +33,9 @@ front_nothing before xs p = subst (λ (l : List ℕ). IsFrontOf l xs) (sym (appe
 more_front : (rows : List Row) (row : Row) → IsFrontOf (text rows) (text (row ∷ rows))
 more_front rows row = (flat_map out_line row.sent, refl)
 
-gone_front : (rows : List Row) (moment : Moment) (o : Option Job) → IsFrontOf (text rows) (text (gone rows moment o))
-gone_front rows moment None = front_self (text rows)
-gone_front rows moment (Some job) = more_front rows (go_row moment job (number_for job.name rows))
+gone_front : (rows : List Row) (worker : ℕ) (moment : Moment) (o : Option Job) → IsFrontOf (text rows) (text (gone rows worker moment o))
+gone_front rows worker moment None = front_self (text rows)
+gone_front rows worker moment (Some job) = more_front rows (go_row worker moment job (number_for job.name rows))
 
 -- the rows after a line have the text of those before it
 abbrev KeepsText : List Row → Result (List Row) Reason → Type 0
@@ -45,10 +46,18 @@ come_keeps : (busy : Bool) (rows : List Row) (row : Row) → KeepsText rows (if 
 come_keeps true rows row = tt
 come_keeps false rows row = more_front rows row
 
-after_keeps : (rows : List Row) (o : Option Line) → KeepsText rows (after_line rows o)
-after_keeps rows None = tt
-after_keeps rows (Some (line.Come moment peer datagram)) = come_keeps (is_some (held rows)) rows (come_row moment peer datagram)
-after_keeps rows (Some (line.Go moment)) = gone_front rows moment (held rows)
+step_keeps : (rows : List Row) (step : Line) → KeepsText rows (after_step rows step)
+step_keeps rows (line.Come worker moment peer datagram) = come_keeps (is_some (held rows)) rows (come_row worker moment peer datagram)
+step_keeps rows (line.Go worker moment) = gone_front rows worker moment (held rows)
+step_keeps rows (line.Tick worker moment word) = more_front rows (tick_row worker moment word)
+
+if_keeps : (b : Bool) (rows : List Row) (r : Result (List Row) Reason) → KeepsText rows r → KeepsText rows (if b then r else Err reason.Worker)
+if_keeps true rows r h = h
+if_keeps false rows r h = tt
+
+after_keeps : (rows : List Row) (read : Result Line Reason) → KeepsText rows (after_line rows read)
+after_keeps rows (Err why) = tt
+after_keeps rows (Ok step) = if_keeps (nat_lt (worker_in step) workers) rows (after_step rows step) (step_keeps rows step)
 
 -- the text of the rows before stands at the front of a journal's text
 goes_front : (r : Result (List Row) Reason) (rows : List Row) (number : ℕ) (rest : List Row → Journal) → KeepsText rows r

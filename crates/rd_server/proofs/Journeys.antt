@@ -1,19 +1,20 @@
 -- How pieces of a trace lead on.
 use Rattle.std.proofs.Common.{◌≡◌, ℕ, ◌+◌, ◌<◌, ◌≤◌, true, List, [], ◌∷◌, ◌++◌, length, take, Option, Some, None, Result, Ok, Err, refl, sym, ap, ◌∙◌, subst, append_assoc, append-nil, length-append, arith}
 use Rattle.std.proofs.lemmas.Bool.{lt-ltb}
-use Rattle.std.specs.Prelude.{IsOkAnd, IsErrAnd, if◌then◌else◌, nat_lt}
+use Rattle.std.specs.Prelude.{IsOkAnd, IsErrAnd, if◌then◌else◌, ok_or}
 use Rattle.std.specs.Io.KnownBytes.{Appends}
 use Rattle.std.proofs.KnownBytes.{Appends-trans, Appends-nil}
 use Rattle.rd_server.specs.declared.desk.Desk.{Desk}
 use Rattle.rd_server.specs.declared.sessions.Session.{Session}
-use Rattle.rd_server.specs.declared.endings.Reason.{Reason}
-use Rattle.rd_server.specs.declared.endings.Reason.TheVariants as reason
-use Rattle.rd_server.specs.declared.endings.LineBad.{LineBad}
+use Rattle.line_model.specs.declared.lines.Reason.{Reason}
+use Rattle.line_model.specs.declared.lines.Reason.TheVariants as reason
+use Rattle.line_model.specs.declared.lines.LineBad.{LineBad}
 use Rattle.rd_server.specs.declared.endings.Stop.{Stop}
 use Rattle.rd_server.specs.declared.endings.Stop.TheVariants as stop
-use Rattle.rd_server.specs.declared.lines.Line.{Line}
-use Rattle.rd_server.specs.Fields.{cut, behind}
-use Rattle.rd_server.specs.TraceLines.{lines_of, line_of, longest_line, worded, in_word, go_word}
+use Rattle.line_model.specs.declared.lines.Line.{Line}
+use Rattle.rd_server.specs.Fields.{cut}
+use Rattle.line_model.specs.Lines.{line_of, max_line, said_by, fields}
+use Rattle.line_model.specs.Texts.{lines_of}
 use Rattle.rd_server.specs.Journal.{Row, Journal, journal, goes_on, after_line, text}
 use Rattle.rd_server.specs.Standing.{StandsFor}
 use Rattle.rd_server.specs.Endings.{IsFrontOf, whole_text}
@@ -22,13 +23,11 @@ use Rattle.rd_server.proofs.LineFeeds.{cut-append, lines_first, lines_begin}
 use Rattle.rd_server.proofs.Fronts.{front_take, front_behind, front_nothing, front_trans, journal_front, whole_front}
 
 -- what stops behind a place, seen from the place before it
-halts_before : (j : Journal) (before after written : List ℕ) (old mid new : Option (List ℕ)) (halt : Stop) → after ≡ before ++ written → Appends old mid written
+pub halts_before : (j : Journal) (before after written : List ℕ) (old mid new : Option (List ℕ)) (halt : Stop) → after ≡ before ++ written → Appends old mid written
     → Halts j after mid new halt → Halts j before old new halt
 halts_before j before after written old mid new (stop.Bad bad) e a h =
     (h.0, written ++ h.1, h.2 ∙ ap (λ (l : List ℕ). l ++ h.1) e ∙ append_assoc before written h.1, Appends-trans old mid new written h.1 a h.3)
 halts_before j before after written old mid new stop.Unwritten e a h =
-    (written ++ h.0, subst (λ (l : List ℕ). IsFrontOf l (whole_text j)) (ap (λ (l : List ℕ). l ++ h.0) e ∙ append_assoc before written h.0) h.1, Appends-trans old mid new written h.0 a h.2)
-halts_before j before after written old mid new stop.Unread e a h =
     (written ++ h.0, subst (λ (l : List ℕ). IsFrontOf l (whole_text j)) (ap (λ (l : List ℕ). l ++ h.0) e ∙ append_assoc before written h.0) h.1, Appends-trans old mid new written h.0 a h.2)
 halts_before j before after written old mid new stop.Starved e a h =
     (written ++ h.0, subst (λ (l : List ℕ). IsFrontOf l (whole_text j)) (ap (λ (l : List ℕ). l ++ h.0) e ∙ append_assoc before written h.0) h.1, Appends-trans old mid new written h.0 a h.2)
@@ -110,7 +109,6 @@ line_fed place line session old new (Some stop.Unwritten) o e empty h = λ rest.
     let p = ok_and _ _ h in
     let eq = line_ends place line rest o e ∙ ap (λ (r : Result (List Row) Reason). goes_on r place.rows place.number (λ more. journal more (place.number + 1) (lines_of rest))) p.1 in
     subst (λ (j : Journal). Halts j (text place.rows) old new stop.Unwritten) (sym eq) (unwritten_halts place.rows p.0 (journal p.0 (place.number + 1) (lines_of rest)) old new p.2 (journal_front p.0 (place.number + 1) (lines_of rest)))
-line_fed place line session old new (Some stop.Unread) o e empty h = absurd h
 line_fed place line session old new (Some stop.Starved) o e empty h = λ rest.
     starved_halts place.rows (journal_from place ((line ++ 10 ∷ []) ++ rest)) old new h (journal_front place.rows place.number (lines_of (place.pending ++ ((line ++ 10 ∷ []) ++ rest))))
 
@@ -133,26 +131,26 @@ kept place rest old session held at e desk line pending = record {
   appends = Appends-nil held;
 }
 
--- no line is longer than the longest
-long_is_none : (bytes : List ℕ) → longest_line < length bytes → line_of bytes ≡ None
+-- a line that is longer than any is too long
+long_is_long : (bytes : List ℕ) → max_line < length bytes → line_of bytes ≡ Err reason.Long
 unfolding line_of
-long_is_none bytes h = ap (λ t. if t then None else worded (behind in_word bytes) (behind go_word bytes)) (lt-ltb longest_line (length bytes) h)
+long_is_long bytes h = ap (λ t. if t then Err reason.Long else ok_or (said_by (fields bytes)) reason.Form) (lt-ltb max_line (length bytes) h)
 
 -- a line that has begun and is too long is bad, whatever comes
-pub too_long : (place : Place) (rest : List ℕ) (held : Option (List ℕ)) (session : Session) → cut 10 place.pending ≡ None → cut 10 rest ≡ None → longest_line < length place.pending + length rest
-    → Feeds place rest session held held (Some (stop.Bad (record { line = place.number; why = reason.Form })))
+pub too_long : (place : Place) (rest : List ℕ) (held : Option (List ℕ)) (session : Session) → cut 10 place.pending ≡ None → cut 10 rest ≡ None → max_line < length place.pending + length rest
+    → Feeds place rest session held held (Some (stop.Bad (record { line = place.number; why = reason.Long })))
 too_long place rest held session o e h = begun (place.pending ++ rest) refl where
-  begun : (front : List ℕ) → place.pending ++ rest ≡ front → (more : List ℕ) → Halts (journal_from place (rest ++ more)) (text place.rows) held held (stop.Bad (record { line = place.number; why = reason.Form }))
+  begun : (front : List ℕ) → place.pending ++ rest ≡ front → (more : List ℕ) → Halts (journal_from place (rest ++ more)) (text place.rows) held held (stop.Bad (record { line = place.number; why = reason.Long }))
   begun [] same more = absurd (omega (arith, length-append place.pending rest, ap length same))
   begun (b ∷ bs) same more =
       let whole : cut 10 (b ∷ bs) ≡ None = subst (λ (l : List ℕ). cut 10 l ≡ None) same (cut-append 10 place.pending rest o e) in
       let l = lines_begin b bs more whole in
-      let bad : line_of ((b ∷ bs) ++ l.more) ≡ None = long_is_none _ (omega (arith, length-append place.pending rest, ap length same, length-append (b ∷ bs) l.more)) in
-      let eq : journal_from place (rest ++ more) ≡ record { rows = place.rows; bad = Some (record { line = place.number; why = reason.Form }) } =
+      let bad : line_of ((b ∷ bs) ++ l.more) ≡ Err reason.Long = long_is_long _ (omega (arith, length-append place.pending rest, ap length same, length-append (b ∷ bs) l.more)) in
+      let eq : journal_from place (rest ++ more) ≡ record { rows = place.rows; bad = Some (record { line = place.number; why = reason.Long }) } =
       ap (λ (x : List ℕ). journal place.rows place.number (lines_of x)) (sym (append_assoc place.pending rest more) ∙ ap (λ (x : List ℕ). x ++ more) same)
       ∙ ap (journal place.rows place.number) l.are
-      ∙ ap (λ (o : Option Line). goes_on (after_line place.rows o) place.rows place.number (λ rows. journal rows (place.number + 1) l.others)) bad in
-      subst (λ (j : Journal). Halts j (text place.rows) held held (stop.Bad (record { line = place.number; why = reason.Form }))) (sym eq) (refl, [], sym (append-nil (text place.rows)), Appends-nil held)
+      ∙ ap (λ (o : Result Line Reason). goes_on (after_line place.rows o) place.rows place.number (λ rows. journal rows (place.number + 1) l.others)) bad in
+      subst (λ (j : Journal). Halts j (text place.rows) held held (stop.Bad (record { line = place.number; why = reason.Long }))) (sym eq) (refl, [], sym (append-nil (text place.rows)), Appends-nil held)
 
 -- want of memory while a line is kept
 pub unkept : (place : Place) (rest : List ℕ) (held : Option (List ℕ)) (session : Session) → Feeds place rest session held held (Some stop.Starved)
@@ -168,10 +166,10 @@ line_fed_at place line whole before session old new result at e empty same h =
     (subst (λ (l : List ℕ). DoesLine place.rows before.line l session old new result) text_is h))
 
 -- a line that a session began is too long
-pub too_long_at : (place : Place) (rest : List ℕ) (held : Option (List ℕ)) (before session : Session) → IsAt place before → cut 10 rest ≡ None → longest_line < length before.pending + length rest
-    → Feeds place rest session held held (Some (stop.Bad (record { line = before.line; why = reason.Form })))
+pub too_long_at : (place : Place) (rest : List ℕ) (held : Option (List ℕ)) (before session : Session) → IsAt place before → cut 10 rest ≡ None → max_line < length before.pending + length rest
+    → Feeds place rest session held held (Some (stop.Bad (record { line = before.line; why = reason.Long })))
 too_long_at place rest held before session at e long =
-    subst (λ (n : ℕ). Feeds place rest session held held (Some (stop.Bad (record { line = n; why = reason.Form })))) (sym at.line)
+    subst (λ (n : ℕ). Feeds place rest session held held (Some (stop.Bad (record { line = n; why = reason.Long })))) (sym at.line)
     (too_long place rest held session at.«open» e (omega (arith, ap length at.pending)))
 
 -- nothing was fed yet

@@ -2,15 +2,16 @@
 use Rattle.std.proofs.Common.{◌≡◌, ℕ, ◌+◌, List, [], ◌∷◌, ◌++◌, take, Option, Some, None, Result, Ok, Err, refl, sym, ap, ◌∙◌, subst, append_assoc, append-nil}
 use Rattle.std.specs.Prelude.{IsOkAnd, IsErrAnd}
 use Rattle.std.specs.Io.KnownBytes.{Appends}
-use Rattle.std.proofs.KnownBytes.{Appends-trans}
+use Rattle.std.proofs.KnownBytes.{Appends-trans, Appends-nil}
 use Rattle.rd_server.specs.declared.desk.Desk.{Desk}
 use Rattle.rd_server.specs.declared.sessions.Session.{Session}
-use Rattle.rd_server.specs.declared.endings.Reason.{Reason}
-use Rattle.rd_server.specs.declared.endings.LineBad.{LineBad}
+use Rattle.line_model.specs.declared.lines.Reason.{Reason}
+use Rattle.line_model.specs.declared.lines.LineBad.{LineBad}
 use Rattle.rd_server.specs.declared.endings.Stop.{Stop}
 use Rattle.rd_server.specs.declared.endings.Stop.TheVariants as stop
 use Rattle.rd_server.specs.Fields.{cut}
-use Rattle.rd_server.specs.TraceLines.{lines_of, line_of}
+use Rattle.line_model.specs.Lines.{line_of}
+use Rattle.line_model.specs.Texts.{lines_of}
 use Rattle.rd_server.specs.Journal.{Row, Journal, journal, goes_on, after_line, text, end_line}
 use Rattle.rd_server.specs.Standing.{StandsFor}
 use Rattle.rd_server.specs.Endings.{IsFrontOf, whole_text}
@@ -46,7 +47,6 @@ last_at place session old new (Some stop.Unwritten) o some h =
     let p = ok_and (after_line place.rows (line_of place.pending)) (λ (more : List Row). WritesMore place.rows more old new (Some stop.Unwritten)) h in
     subst (λ (j : Journal). Halts j (text place.rows) old new stop.Unwritten) (sym (ends_after place o some ∙ ap (ended place) p.1))
     (unwritten_halts place.rows p.0 (record { rows = p.0; bad = None }) old new p.2 ([], sym (append-nil (text p.0))))
-last_at place session old new (Some stop.Unread) o some h = absurd h
 last_at place session old new (Some stop.Starved) o some h =
     starved_halts place.rows (journal_from place []) old new h (journal_front place.rows place.number (lines_of (place.pending ++ [])))
 
@@ -67,7 +67,6 @@ finished_at : (rows more : List Row) (old mid new : Option (List ℕ)) (sent : L
 finished_at rows more old mid new sent None e a h =
     (refl, sent ++ end_line more, ap (λ (l : List ℕ). l ++ end_line more) e ∙ append_assoc (text rows) sent (end_line more), Appends-trans old mid new sent (end_line more) a h)
 finished_at rows more old mid new sent (Some (stop.Bad bad)) e a h = absurd h
-finished_at rows more old mid new sent (Some stop.Unread) e a h = absurd h
 finished_at rows more old mid new sent (Some stop.Unwritten) e a h =
     let part = take h.0 (end_line more) in (
       sent ++ part,
@@ -87,3 +86,12 @@ pub finished : (place : Place) (session : Session) (old mid new : Option (List �
     → ((rows : List Row) → StandsFor rows session.desk → Writes mid new (end_line rows) result) → Finishes (journal_from place []) (text place.rows) old new result
 finished place session old mid new result h w =
     subst (λ (j : Journal). Finishes j (text place.rows) old new result) (sym h.2) (finished_at place.rows h.0 old mid new h.3.0 result h.3.1 h.3.2 (w h.0 h.1))
+
+nothing_left : (place : Place) → place.pending ≡ [] → journal_from place [] ≡ record { rows = place.rows; bad = None }
+unfolding lines_of
+nothing_left place e = ap (λ (l : List ℕ). journal place.rows place.number (lines_of (l ++ []))) e
+
+-- no line has begun
+pub none_begun : (place : Place) (before : Session) (held : Option (List ℕ)) → IsAt place before → before.pending ≡ [] → EndsLines place before held held None
+none_begun place before held at empty =
+    (place.rows, at.desk, nothing_left place (sym at.pending ∙ empty), ([], sym (append-nil (text place.rows)), Appends-nil held))

@@ -1,5 +1,4 @@
 pub mod Cuts
-pub mod Digits
 pub mod Parts
 pub mod Registering
 pub mod Performing
@@ -9,3 +8,7 @@ pub mod LineFeeds
 pub mod Fronts
 pub mod Journeys
 pub mod LastLines
+pub mod Saying
+pub mod Whole
+pub mod Accounts
+pub mod Examples

@@ -4,10 +4,10 @@ use Rattle.std.specs.Prelude.{IsOkAnd}
 use Rattle.rd_base.specs.declared.peers.Peer.{Peer}
 use Rattle.rd_server.specs.declared.desk.Desk.{Desk}
 use Rattle.rd_server.specs.declared.sessions.Session.{Session}
-use Rattle.rd_server.specs.declared.endings.Reason.{Reason}
+use Rattle.line_model.specs.declared.lines.Reason.{Reason}
 use Rattle.rd_server.specs.declared.endings.Stop.{Stop}
 use Rattle.rd_server.specs.declared.endings.Stop.TheVariants as stop
-use Rattle.rd_server.specs.TraceLines.{line_of}
+use Rattle.line_model.specs.Lines.{line_of}
 use Rattle.rd_server.specs.Journal.{Row, after_line, text}
 use Rattle.rd_server.specs.Standing.{StandsFor}
 use Rattle.rd_server.specs.Going.{Performs, DoesLine, Writes, WritesMore, sent_text}
@@ -28,7 +28,6 @@ line_done rows number line session old new answer None next done written =
     let here : IsOkAnd {E = Reason} (Ok p.0) P = (p.2, next, (sent_text answer, p.3, written)) in
     subst (λ (r : Result (List Row) Reason). IsOkAnd r P) (sym p.1) here
 line_done rows number line session old new answer (Some (stop.Bad bad)) next done written = absurd written
-line_done rows number line session old new answer (Some stop.Unread) next done written = absurd written
 line_done rows number line session old new answer (Some stop.Unwritten) next done written =
     let p = performed rows _ session.desk answer done in
     let P : List Row → Type 0 = λ more. WritesMore rows more old new (Some stop.Unwritten) in

@@ -3,7 +3,8 @@ use Rattle.std.proofs.Common.{◌≡◌, ℕ, Bool, true, false, cond, List, [],
 use Rattle.std.proofs.lemmas.Bool.{eqb-true}
 use Rattle.std.specs.Prelude.{◌==◌, option_map}
 use Rattle.rd_server.specs.Fields.{cut, onto_first}
-use Rattle.rd_server.specs.TraceLines.{lines_of, onto_first_line}
+use Rattle.std.specs.List.{onto_first as onto_line}
+use Rattle.line_model.specs.Texts.{lines_of}
 
 map_none : (b : ℕ) (o : Option (List ℕ × List ℕ)) → option_map (onto_first b) o ≡ None → o ≡ None
 map_none b None e = refl
@@ -56,26 +57,28 @@ cut_pieces c (b ∷ bs) line rest e = some_pieces (b == c) c b bs line rest refl
 
 -- the first line of a text, and the lines behind its line feed
 pub lines_first : (line rest : List ℕ) → cut 10 line ≡ None → lines_of (line ++ 10 ∷ rest) ≡ line ∷ lines_of rest
+unfolding lines_of
 lines_first [] rest e = refl
 lines_first (b ∷ bs) rest e =
     let h = none_behind (b == 10) b bs (cut 10 bs) e in
-    ap (λ t. cond t ([] ∷ lines_of (bs ++ 10 ∷ rest)) (onto_first_line b (lines_of (bs ++ 10 ∷ rest)))) h.0 ∙ ap (onto_first_line b) (lines_first bs rest h.1)
+    ap (λ t. cond t ([] ∷ lines_of (bs ++ 10 ∷ rest)) (onto_line b (lines_of (bs ++ 10 ∷ rest)))) h.0 ∙ ap (onto_line b) (lines_first bs rest h.1)
 
 -- the lines of a text without a line feed
 abbrev pub one_line : List ℕ → List (List ℕ)
 one_line [] = []
 one_line (b ∷ bs) = (b ∷ bs) ∷ []
 
-onto_one : (b : ℕ) (bs : List ℕ) → onto_first_line b (one_line bs) ≡ (b ∷ bs) ∷ []
+onto_one : (b : ℕ) (bs : List ℕ) → onto_line b (one_line bs) ≡ (b ∷ bs) ∷ []
 onto_one b [] = refl
 onto_one b (c ∷ cs) = refl
 
 -- a text without a line feed is one line, if it is not empty
 pub lines_last : (text : List ℕ) → cut 10 text ≡ None → lines_of text ≡ one_line text
+unfolding lines_of
 lines_last [] e = refl
 lines_last (b ∷ bs) e =
     let h = none_behind (b == 10) b bs (cut 10 bs) e in
-    ap (λ t. cond t ([] ∷ lines_of bs) (onto_first_line b (lines_of bs))) h.0 ∙ ap (onto_first_line b) (lines_last bs h.1) ∙ onto_one b bs
+    ap (λ t. cond t ([] ∷ lines_of bs) (onto_line b (lines_of bs))) h.0 ∙ ap (onto_line b) (lines_last bs h.1) ∙ onto_one b bs
 
 -- lines of which the first begins with a text
 pub record Begins (text : List ℕ) (lines : List (List ℕ)) : Type 0 where
@@ -83,23 +86,25 @@ pub record Begins (text : List ℕ) (lines : List (List ℕ)) : Type 0 where
   pub others : List (List ℕ)
   pub are : lines ≡ (text ++ more) ∷ others
 
-onto_begins : (b : ℕ) (text : List ℕ) (lines : List (List ℕ)) → Begins text lines → Begins (b ∷ text) (onto_first_line b lines)
-onto_begins b text lines h = record { more = h.more; others = h.others; are = ap (onto_first_line b) h.are }
+onto_begins : (b : ℕ) (text : List ℕ) (lines : List (List ℕ)) → Begins text lines → Begins (b ∷ text) (onto_line b lines)
+onto_begins b text lines h = record { more = h.more; others = h.others; are = ap (onto_line b) h.are }
 
-begins_any : (b : ℕ) (lines : List (List ℕ)) → Begins (b ∷ []) (onto_first_line b lines)
+begins_any : (b : ℕ) (lines : List (List ℕ)) → Begins (b ∷ []) (onto_line b lines)
 begins_any b [] = record { more = []; others = []; are = refl }
 begins_any b (l ∷ ls) = record { more = l; others = ls; are = refl }
 
-begins_behind : (b : ℕ) (text rest : List ℕ) → cut 10 text ≡ None → Begins (b ∷ text) (onto_first_line b (lines_of (text ++ rest)))
+begins_behind : (b : ℕ) (text rest : List ℕ) → cut 10 text ≡ None → Begins (b ∷ text) (onto_line b (lines_of (text ++ rest)))
+unfolding lines_of
 begins_behind b [] rest e = begins_any b (lines_of rest)
 begins_behind b (c ∷ cs) rest e =
     let h = none_behind (c == 10) c cs (cut 10 cs) e in
-    let step : lines_of ((c ∷ cs) ++ rest) ≡ onto_first_line c (lines_of (cs ++ rest)) = ap (λ t. cond t ([] ∷ lines_of (cs ++ rest)) (onto_first_line c (lines_of (cs ++ rest)))) h.0 in
+    let step : lines_of ((c ∷ cs) ++ rest) ≡ onto_line c (lines_of (cs ++ rest)) = ap (λ t. cond t ([] ∷ lines_of (cs ++ rest)) (onto_line c (lines_of (cs ++ rest)))) h.0 in
     onto_begins b (c ∷ cs) _ (subst (Begins (c ∷ cs)) (sym step) (begins_behind c cs rest h.1))
 
 -- whatever comes, the first line begins with a text without a line feed that is not empty
 pub lines_begin : (b : ℕ) (text rest : List ℕ) → cut 10 (b ∷ text) ≡ None → Begins (b ∷ text) (lines_of ((b ∷ text) ++ rest))
+unfolding lines_of
 lines_begin b text rest e =
     let h = none_behind (b == 10) b text (cut 10 text) e in
-    let step : lines_of ((b ∷ text) ++ rest) ≡ onto_first_line b (lines_of (text ++ rest)) = ap (λ t. cond t ([] ∷ lines_of (text ++ rest)) (onto_first_line b (lines_of (text ++ rest)))) h.0 in
+    let step : lines_of ((b ∷ text) ++ rest) ≡ onto_line b (lines_of (text ++ rest)) = ap (λ t. cond t ([] ∷ lines_of (text ++ rest)) (onto_line b (lines_of (text ++ rest)))) h.0 in
     subst (Begins (b ∷ text)) (sym step) (begins_behind b text rest h.1)

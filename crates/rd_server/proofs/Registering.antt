@@ -57,11 +57,11 @@ gives_next rows name number old new keeps absent next puts drew =
     }
 
 -- after the end of a job the desk stands for one row more
-pub went : (rows : List Row) (moment : Moment) (old new : Desk) (job : Job) (number : ℕ) (answer : List ℕ) → StandsFor rows old → old.job ≡ Some job
+pub went : (rows : List Row) (worker : ℕ) (moment : Moment) (old new : Desk) (job : Job) (number : ℕ) (answer : List ℕ) → StandsFor rows old → old.job ≡ Some job
     → GivesNumber rows job.name number new.registry → new.entries ≡ old.entries + 1 → new.job ≡ None → answer ≡ job.answer ++ location number
-    → Went rows moment (held rows) new (Some (job.peer, answer))
-went rows moment old new job number answer st isjob gives counted free answered =
-    let here : Went rows moment (Some job) new (Some (job.peer, answer)) = (
+    → Went rows worker moment (held rows) new (Some (job.peer, answer))
+went rows worker moment old new job number answer st isjob gives counted free answered =
+    let here : Went rows worker moment (Some job) new (Some (job.peer, answer)) = (
       record {
         registered = record {
           numbers = λ q. gives.numbers q ∙ ap (λ n. if bytes_eq job.name q then Some n else given q rows) gives.number_is;
@@ -72,13 +72,13 @@ went rows moment old new job number answer st isjob gives counted free answered 
       },
       ap (λ (a : List ℕ). (job.peer, a) ∷ []) (sym (answered ∙ ap (λ n. job.answer ++ location n) gives.number_is)),
     ) in
-    subst (λ (h : Option Job). Went rows moment h new (Some (job.peer, answer))) (sym isjob ∙ st.job_held) here
+    subst (λ (h : Option Job). Went rows worker moment h new (Some (job.peer, answer))) (sym isjob ∙ st.job_held) here
 
 -- without a job nothing happens
-pub went_nowhere : (rows : List Row) (moment : Moment) (desk : Desk) → StandsFor rows desk → desk.job ≡ None → Went rows moment (held rows) desk None
-went_nowhere rows moment desk st free =
-    let here : Went rows moment None desk None = (st, refl) in
-    subst (λ (h : Option Job). Went rows moment h desk None) (sym free ∙ st.job_held) here
+pub went_nowhere : (rows : List Row) (worker : ℕ) (moment : Moment) (desk : Desk) → StandsFor rows desk → desk.job ≡ None → Went rows worker moment (held rows) desk None
+went_nowhere rows worker moment desk st free =
+    let here : Went rows worker moment None desk None = (st, refl) in
+    subst (λ (h : Option Job). Went rows worker moment h desk None) (sym free ∙ st.job_held) here
 
 -- the value where a fact decides whether there is one
 pub some_value : (o : Option ℕ) (P : Type 0) (v x : ℕ) → SomeIff o P v → o ≡ Some x → x ≡ v

@@ -2,9 +2,11 @@
 use Rattle.std.specs.Prelude.{◌≡◌, ℕ, ◌≤◌, List, [], ◌∷◌, ◌++◌, codes, decimal, Bool, true, false, Option, Some, None, if◌then◌else◌, bytes_eq}
 use Rattle.std.specs.Io.KnownBytes.{Appends}
 use Rattle.rd_base.specs.Outside.{Rose}
-use Rattle.rd_server.specs.declared.endings.Reason.{Reason}
-use Rattle.rd_server.specs.declared.endings.Reason.TheVariants as reason
-use Rattle.rd_server.specs.declared.endings.LineBad.{LineBad}
+use Rattle.line_model.specs.declared.lines.Reason.{Reason}
+use Rattle.line_model.specs.declared.lines.Reason.TheVariants as reason
+use Rattle.line_model.specs.declared.lines.LineBad.{LineBad}
+use Rattle.rd_server.specs.declared.endings.Stop.{Stop}
+use Rattle.rd_server.specs.declared.endings.Stop.TheVariants as stop
 use Rattle.rd_server.specs.declared.endings.Status.{Status}
 use Rattle.rd_server.specs.declared.endings.Status.TheVariants as status
 use Rattle.rd_server.specs.Journal.{Journal, text, end_line}
@@ -49,24 +51,54 @@ CountsWrites before now _ = now ≡ before
 
 -- the name of a reason
 abbrev pub reason_text : Reason → List ℕ
+reason_text reason.Long = codes "long"
 reason_text reason.Form = codes "form"
+reason_text reason.Worker = codes "worker"
 reason_text reason.Busy = codes "busy"
 
+-- what is said of a bad line
+abbrev pub line_text : LineBad → List ℕ
+line_text bad = codes "line " ++ (decimal bad.line ++ (codes ": " ++ (reason_text bad.why ++ codes "\n")))
+
 -- what is said of a status on the error sink
-unfoldable pub status_text : Status → List ℕ
+abbrev pub status_text : Status → List ℕ
 status_text status.Done = []
 status_text status.ReadFault = codes "read failed\n"
 status_text status.WriteFault = codes "write failed\n"
 status_text status.Usage = codes "usage: rd_replay [--workers N] [--make N]\n"
-status_text (status.Line bad) = codes "line " ++ (decimal bad.line ++ (codes ": " ++ (reason_text bad.why ++ codes "\n")))
+status_text (status.Line bad) = line_text bad
 status_text status.Memory = codes "memory\n"
+
+-- a text was said, or a front of it
+abbrev pub Says : Option (List ℕ) → Option (List ℕ) → List ℕ → Type 0
+Says before now said = (front : List ℕ) × IsFrontOf front said × Appends before now front
 
 -- a front of what is said of the status stands on the error sink
 abbrev pub IsReported : Option (List ℕ) → Option (List ℕ) → Status → Type 0
-IsReported before now status = (front : List ℕ) × IsFrontOf front (status_text status) × Appends before now front
+IsReported before now status = Says before now (status_text status)
 
 -- the words are none, or the one word for one worker
 abbrev pub are_words : List (List ℕ) → Bool
 are_words [] = true
 are_words (word ∷ []) = bytes_eq word (codes "--workers=1")
 are_words (word ∷ other ∷ words) = false
+
+-- the status of a stop
+abbrev pub status_of : Stop → Status
+status_of (stop.Bad bad) = status.Line bad
+status_of stop.Unwritten = status.WriteFault
+status_of stop.Starved = status.Memory
+
+-- the words were not refused
+abbrev pub IsNoUsage : Status → Type 0
+IsNoUsage status.Usage = ⊥
+IsNoUsage _ = Unit {0}
+
+-- the exit status of the program
+abbrev pub code_of : Status → ℕ
+code_of status.Done = 0
+code_of status.ReadFault = 1
+code_of status.WriteFault = 2
+code_of status.Usage = 3
+code_of (status.Line bad) = 4
+code_of status.Memory = 5

@@ -1,8 +1,7 @@
 -- What the directory reads of a datagram so far (RFC 7252 section 3), and what it answers.
 use Rattle.std.specs.Prelude.{ℕ, ◌+◌, ◌-◌, ◌==◌, ◌&&◌, ◌||◌, Bool, true, false, not, nat_lt, nat_le, List, [], ◌∷◌, ◌++◌, length, take, drop, codes, decimal, Option, Some, None, option_map, option_and_then, if◌then◌else◌}
 use Rattle.std.specs.List.{list_all}
-use Rattle.rd_server.specs.Fields.{cut, behind, is_digit}
-use Rattle.rd_server.specs.TraceLines.{◌>>=◌}
+use Rattle.rd_server.specs.Fields.{◌>>=◌, cut, behind}
 
 -- a confirmable request: its code, Message ID and token, and what follows
 pub record Asking : Type 0 where
@@ -27,6 +26,10 @@ onto_first_part b (part ∷ parts) = (b ∷ part) ∷ parts
 abbrev pub parts_of : ℕ → List ℕ → List (List ℕ)
 parts_of separator [] = [] ∷ []
 parts_of separator (b ∷ bs) = if b == separator then [] ∷ parts_of separator bs else onto_first_part b (parts_of separator bs)
+
+-- whether an octet is a decimal digit
+abbrev pub is_digit : ℕ → Bool
+is_digit b = nat_le 48 b && nat_le b 57
 
 -- whether an octet is a letter, a digit, `-`, `_` or `~`
 abbrev pub is_plain : ℕ → Bool

@@ -1,19 +1,22 @@
 -- How a replay goes from one place in a trace to another.
 use Rattle.std.specs.Prelude.{◌≡◌, ℕ, ◌≤◌, List, [], ◌∷◌, ◌++◌, Bool, true, false, Option, Some, None, Result, Ok, Err, IsOkAnd, IsErrAnd, ◌+◌, take}
-use Rattle.std.specs.Io.KnownBytes.{Appends}
+use Rattle.std.specs.Io.KnownBytes.{Appends, Consumes, IsAtEnd}
 use Rattle.rd_base.specs.Outside.{Rose}
 use Rattle.rd_base.specs.declared.peers.Peer.{Peer}
-use Rattle.rd_server.specs.declared.endings.Reason.{Reason}
-use Rattle.rd_server.specs.declared.endings.LineBad.{LineBad}
+use Rattle.line_model.specs.declared.lines.Reason.{Reason}
+use Rattle.line_model.specs.declared.lines.LineBad.{LineBad}
 use Rattle.rd_server.specs.declared.endings.Stop.{Stop}
 use Rattle.rd_server.specs.declared.endings.Stop.TheVariants as stop
+use Rattle.rd_server.specs.declared.endings.Read.{Read}
+use Rattle.rd_server.specs.declared.endings.Read.TheVariants as read
 use Rattle.rd_server.specs.declared.desk.Desk.{Desk}
 use Rattle.rd_server.specs.declared.sessions.Session.{Session}
 use Rattle.rd_server.specs.declared.sessions.Trouble.{Trouble}
 use Rattle.rd_server.specs.declared.sessions.Trouble.TheVariants as trouble
 use Rattle.rd_server.specs.Fields.{cut}
-use Rattle.rd_server.specs.TraceLines.{lines_of, line_of, out_line}
-use Rattle.rd_server.specs.Journal.{Row, Journal, journal, after_line, text}
+use Rattle.line_model.specs.Lines.{line_of}
+use Rattle.line_model.specs.Texts.{lines_of}
+use Rattle.rd_server.specs.Journal.{Row, Journal, journal, after_line, out_line, text}
 use Rattle.rd_server.specs.Standing.{StandsFor}
 use Rattle.rd_server.specs.Endings.{IsFrontOf, whole_text, ending}
 
@@ -47,7 +50,6 @@ pub record Leads (place : Place) (bytes : List ℕ) (next : Place) (written : Li
 abbrev pub Halts : Journal → List ℕ → Option (List ℕ) → Option (List ℕ) → Stop → Type 0
 Halts journal before old new (stop.Bad bad) = (journal.bad ≡ Some bad) × (written : List ℕ) × (text journal.rows ≡ before ++ written) × Appends old new written
 Halts journal before old new stop.Unwritten = (written : List ℕ) × IsFrontOf (before ++ written) (whole_text journal) × Appends old new written
-Halts journal before old new stop.Unread = (written : List ℕ) × IsFrontOf (before ++ written) (whole_text journal) × Appends old new written
 Halts journal before old new stop.Starved = (written : List ℕ) × IsFrontOf (before ++ written) (whole_text journal) × Appends old new written
 
 -- the session went to the place to which the octets lead, and what answers them was written
@@ -73,10 +75,16 @@ abbrev pub CountsUnwritten : ℕ → ℕ → Option Stop → Type 0
 CountsUnwritten before now (Some stop.Unwritten) = (before ≤ now) × Rose before now
 CountsUnwritten before now _ = now ≡ before
 
--- the count of the source rose exactly where the reading stopped
-abbrev pub CountsUnread : ℕ → ℕ → Option Stop → Type 0
-CountsUnread before now (Some stop.Unread) = (before ≤ now) × Rose before now
-CountsUnread before now _ = now ≡ before
+-- the count of the source rose exactly where the reading failed
+abbrev pub CountsFailed : ℕ → ℕ → Read → Type 0
+CountsFailed before now read.Failed = (before ≤ now) × Rose before now
+CountsFailed before now _ = now ≡ before
+
+-- the count of the output rose exactly where the reading stopped because not all was written
+abbrev pub CountsStopped : ℕ → ℕ → Read → Type 0
+CountsStopped before now (read.Stopped stop) = CountsUnwritten before now (Some stop)
+CountsStopped before now read.End = now ≡ before
+CountsStopped before now read.Failed = now ≡ before
 
 -- the count rose exactly where not all was written
 abbrev pub CountsAll : ℕ → ℕ → Bool → Type 0
@@ -100,7 +108,6 @@ Performs rows _ desk (Err trouble.Starved) = Unit {0}
 abbrev pub Writes : Option (List ℕ) → Option (List ℕ) → List ℕ → Option Stop → Type 0
 Writes old new whole None = Appends old new whole
 Writes old new whole (Some (stop.Bad bad)) = ⊥
-Writes old new whole (Some stop.Unread) = ⊥
 Writes old new whole (Some stop.Unwritten) = (n : ℕ) × Appends old new (take n whole)
 Writes old new whole (Some stop.Starved) = Appends old new []
 
@@ -115,7 +122,6 @@ DoesLine rows number line session old new None =
 DoesLine rows number line session old new (Some (stop.Bad bad)) =
     IsErrAnd (after_line rows (line_of line)) (λ why. bad ≡ record { line = number; why = why }) × Appends old new []
 DoesLine rows number line session old new (Some stop.Unwritten) = IsOkAnd (after_line rows (line_of line)) (λ more. WritesMore rows more old new (Some stop.Unwritten))
-DoesLine rows number line session old new (Some stop.Unread) = ⊥
 DoesLine rows number line session old new (Some stop.Starved) = Appends old new []
 
 -- the last line was done: the trace is at its end
@@ -123,3 +129,13 @@ abbrev pub EndsLines : Place → Session → Option (List ℕ) → Option (List 
 EndsLines place session old new None =
     (more : List Row) × StandsFor more session.desk × (journal_from place [] ≡ record { rows = more; bad = None }) × WritesMore place.rows more old new None
 EndsLines place session old new (Some halt) = Halts (journal_from place []) (text place.rows) old new halt
+
+-- what a session was fed while the trace was read: to its end, or until the source failed or the replay stopped
+abbrev pub FeedsRead : Place → List ℕ → Session → Option (List ℕ) → Option (List ℕ) → Option (List ℕ) → Read → Type 0
+FeedsRead place taken session old new left read.End = Goes place taken session old new × IsAtEnd left
+FeedsRead place taken session old new left read.Failed = Goes place taken session old new
+FeedsRead place taken session old new left (read.Stopped halt) = Feeds place taken session old new (Some halt)
+
+-- the octets that were taken from a source were fed
+abbrev pub ReadsAll : Place → Session → Option (List ℕ) → Option (List ℕ) → Option (List ℕ) → Option (List ℕ) → Read → Type 0
+ReadsAll place session old new left now result = (taken : List ℕ) × Consumes left now taken × FeedsRead place taken session old new now result

@@ -1,17 +1,18 @@
 -- What happens: the lines that are steps, the rows that they make, and the entries of registrations.
-use Rattle.std.specs.Prelude.{◌≡◌, ℕ, ◌+◌, ◌==◌, ◌&&◌, Bool, true, false, max, List, [], ◌∷◌, ◌++◌, codes, decimal, slice_index, bytes_eq, Option, Some, None, is_some, unwrap_or, Result, Ok, Err, if◌then◌else◌}
+use Rattle.std.specs.Prelude.{◌≡◌, ℕ, ◌+◌, ◌==◌, ◌&&◌, Bool, true, false, nat_lt, max, List, [], ◌∷◌, ◌++◌, codes, decimal, slice_index, bytes_eq, Option, Some, None, is_some, unwrap_or, Result, Ok, Err, if◌then◌else◌}
 use Rattle.std.specs.List.{flat_map, list_any}
 use Rattle.rd_base.specs.declared.moments.Moment.{Moment}
 use Rattle.rd_base.specs.declared.peers.Peer.{Peer}
-use Rattle.rd_server.specs.declared.lines.Line.{Line}
-use Rattle.rd_server.specs.declared.lines.Line.TheVariants as line
+use Rattle.line_model.specs.declared.lines.Line.{Line}
+use Rattle.line_model.specs.declared.lines.Line.TheVariants as line
 use Rattle.rd_server.specs.declared.desk.Job.{Job}
 use Rattle.rd_server.specs.declared.desk.Heard.{Heard}
 use Rattle.rd_server.specs.declared.desk.Heard.TheVariants as heard
-use Rattle.rd_server.specs.declared.endings.Reason.{Reason}
-use Rattle.rd_server.specs.declared.endings.Reason.TheVariants as reason
-use Rattle.rd_server.specs.declared.endings.LineBad.{LineBad}
-use Rattle.rd_server.specs.TraceLines.{lines_of, line_of, out_line}
+use Rattle.line_model.specs.declared.lines.Reason.{Reason}
+use Rattle.line_model.specs.declared.lines.Reason.TheVariants as reason
+use Rattle.line_model.specs.declared.lines.LineBad.{LineBad}
+use Rattle.line_model.specs.Lines.{line_of, out_text}
+use Rattle.line_model.specs.Texts.{lines_of, line_feed}
 use Rattle.rd_server.specs.Forms.{Asking, asking_of, registering_of, acknowledgement, created_code, not_implemented_code, location}
 
 -- What the directory makes of a request: a job, where it registers; else it is not implemented (RFC 9176 section 5).
@@ -52,15 +53,16 @@ answers_in peer heard.Nothing = []
 answers_in peer (heard.Job job) = []
 answers_in peer (heard.Answer bytes) = (peer, bytes) ∷ []
 
--- the job that a step leaves
-abbrev pub job_of : Line → Option Job
-job_of (line.Come moment peer datagram) = job_in (heard_of peer datagram)
-job_of (line.Go moment) = None
+-- the job that is held after a step, by the one that was held before it
+abbrev pub job_after : Line → Option Job → Option Job
+job_after (line.Come worker moment peer datagram) earlier = job_in (heard_of peer datagram)
+job_after (line.Go worker moment) earlier = None
+job_after (line.Tick worker moment word) earlier = earlier
 
--- Rows stand with the newest first. The job that the worker holds is the one that the last step left.
+-- Rows stand with the newest first. The job that the worker holds is the one that the last step left that is no tick.
 abbrev pub held : List Row → Option Job
 held [] = None
-held (row ∷ rows) = job_of row.step
+held (row ∷ rows) = job_after row.step (held rows)
 
 -- the number of a name, by an entry and what earlier entries say
 abbrev pub number_by : List ℕ → Option Entry → Option ℕ → Option ℕ
@@ -92,31 +94,50 @@ abbrev pub number_for : List ℕ → List Row → ℕ
 number_for name rows = unwrap_or (given name rows) (drawn rows + 1)
 
 -- the row of a datagram that comes
-abbrev pub come_row : Moment → Peer → List ℕ → Row
-come_row moment peer datagram = record { step = line.Come moment peer datagram; sent = answers_in peer (heard_of peer datagram); entry = None }
+abbrev pub come_row : ℕ → Moment → Peer → List ℕ → Row
+come_row worker moment peer datagram = record { step = line.Come worker moment peer datagram; sent = answers_in peer (heard_of peer datagram); entry = None }
 
 -- the row of a job that ends: 2.01 Created with the location, and an entry
-abbrev pub go_row : Moment → Job → ℕ → Row
-go_row moment job number = record {
-  step = line.Go moment;
+abbrev pub go_row : ℕ → Moment → Job → ℕ → Row
+go_row worker moment job number = record {
+  step = line.Go worker moment;
   sent = (job.peer, job.answer ++ location number) ∷ [];
   entry = Some (record { number = number; name = job.name; peer = job.peer; document = job.document });
 }
 
 -- the rows after the worker ends its job; without one there is no step
-abbrev pub gone : List Row → Moment → Option Job → List Row
-gone rows moment None = rows
-gone rows moment (Some job) = go_row moment job (number_for job.name rows) ∷ rows
+abbrev pub gone : List Row → ℕ → Moment → Option Job → List Row
+gone rows worker moment None = rows
+gone rows worker moment (Some job) = go_row worker moment job (number_for job.name rows) ∷ rows
 
--- the rows after a line, or why it is bad: no datagram comes to a worker that holds a job
+-- the row of a tick, which hands in its moment and sends nothing
+abbrev pub tick_row : ℕ → Moment → ℕ → Row
+tick_row worker moment word = record { step = line.Tick worker moment word; sent = []; entry = None }
+
+-- there is one worker
+abbrev pub workers : ℕ
+workers = 1
+
+-- the worker that a line names
+abbrev pub worker_in : Line → ℕ
+worker_in (line.Come worker moment peer datagram) = worker
+worker_in (line.Go worker moment) = worker
+worker_in (line.Tick worker moment word) = worker
+
+-- the rows after a line of a worker that there is, or why it is bad: no datagram comes to a worker that holds a job
+abbrev pub after_step : List Row → Line → Result (List Row) Reason
+after_step rows (line.Come worker moment peer datagram) = if is_some (held rows) then Err reason.Busy else Ok (come_row worker moment peer datagram ∷ rows)
+after_step rows (line.Go worker moment) = Ok (gone rows worker moment (held rows))
+after_step rows (line.Tick worker moment word) = Ok (tick_row worker moment word ∷ rows)
+
+-- the rows after a line, or why it is bad: first of all its worker is one that there is
 abbrev pub after : List Row → Line → Result (List Row) Reason
-after rows (line.Come moment peer datagram) = if is_some (held rows) then Err reason.Busy else Ok (come_row moment peer datagram ∷ rows)
-after rows (line.Go moment) = Ok (gone rows moment (held rows))
+after rows step = if nat_lt (worker_in step) workers then after_step rows step else Err reason.Worker
 
--- the rows after a line that a text spells, or why the text is bad
-abbrev pub after_line : List Row → Option Line → Result (List Row) Reason
-after_line rows None = Err reason.Form
-after_line rows (Some line) = after rows line
+-- the rows after what a text says, or why the text is bad
+abbrev pub after_line : List Row → Result Line Reason → Result (List Row) Reason
+after_line rows (Err why) = Err why
+after_line rows (Ok step) = after rows step
 
 -- what happened: the rows, the newest first, and the first bad line if there is one
 pub record Journal : Type 0 where
@@ -137,6 +158,10 @@ journal rows number (text ∷ texts) = goes_on (after_line rows (line_of text)) 
 abbrev pub journal_of : List ℕ → Journal
 journal_of bytes = journal [] 1 (lines_of bytes)
 
+-- the line of the output for a datagram that was sent
+unfoldable pub out_line : Peer × List ℕ → List ℕ
+out_line sent = out_text 0 sent.0 sent.1 ++ (line_feed ∷ [])
+
 -- the lines of the datagrams that were sent, in the order of sending
 abbrev pub text : List Row → List ℕ
 text [] = []
@@ -148,8 +173,9 @@ end_line rows = codes "end " ++ (decimal (entries rows) ++ (codes " " ++ (decima
 
 -- whether a step ends a job
 abbrev pub is_go : Line → Bool
-is_go (line.Come moment peer datagram) = false
-is_go (line.Go moment) = true
+is_go (line.Come worker moment peer datagram) = false
+is_go (line.Go worker moment) = true
+is_go (line.Tick worker moment word) = false
 
 -- whether a datagram has a code, its second octet (RFC 7252 section 3)
 abbrev pub has_code : ℕ → Peer × List ℕ → Bool

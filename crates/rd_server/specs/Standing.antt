@@ -31,7 +31,7 @@ Answers None sent = sent ≡ []
 Answers (Some answer) sent = sent ≡ answer ∷ []
 
 -- after the end of a job the desk stands for one row more, which has the answer; without a job nothing happened
-abbrev pub Went : List Row → Moment → Option Job → Desk → Option (Peer × List ℕ) → Type 0
-Went rows moment None desk answer = StandsFor rows desk × (answer ≡ None)
-Went rows moment (Some job) desk answer =
-    let row = go_row moment job (number_for job.name rows) in StandsFor (row ∷ rows) desk × Answers answer row.sent
+abbrev pub Went : List Row → ℕ → Moment → Option Job → Desk → Option (Peer × List ℕ) → Type 0
+Went rows worker moment None desk answer = StandsFor rows desk × (answer ≡ None)
+Went rows worker moment (Some job) desk answer =
+    let row = go_row worker moment job (number_for job.name rows) in StandsFor (row ∷ rows) desk × Answers answer row.sent

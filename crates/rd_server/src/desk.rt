@@ -1,5 +1,5 @@
 // The registrations, and the job that the worker holds.
-ghost use Rattle.std.specs.Prelude.{◌≡◌, List, [], ◌∷◌, IfOk, is_some, None};
+ghost use Rattle.std.specs.Prelude.{◌≡◌, ℕ, List, [], ◌∷◌, IfOk, is_some, None};
 ghost use Rattle.rd_base.specs.declared.moments.Moment.{Moment};
 ghost use Rattle.rd_server.specs.Journal as journal;
 ghost use Rattle.rd_server.specs.Journal.{Row};
@@ -94,9 +94,9 @@ impl Desk {
         peer: Peer,
         datagram: &[u8],
     ) -> Result<Option<(Peer, Bytes)>, Starved>
-        ensures { IfOk result (λ answer. (rows : List Row) (moment : Moment) → StandsFor rows self.old → journal.held rows ≡ None
-            → StandsFor (journal.come_row moment peer datagram.now ∷ rows) self.new
-            × Answers answer (journal.come_row moment peer datagram.now).sent) }
+        ensures { IfOk result (λ answer. (rows : List Row) (worker : ℕ) (moment : Moment) → StandsFor rows self.old → journal.held rows ≡ None
+            → StandsFor (journal.come_row worker moment peer datagram.now ∷ rows) self.new
+            × Answers answer (journal.come_row worker moment peer datagram.now).sent) }
     {
         let heard = heard_of(alloc, peer, datagram)?;
         match heard {
@@ -112,8 +112,8 @@ impl Desk {
     /// The worker ends its job: the name gets its number, and 2.01 is answered with the location.
     /// Without a job nothing happens. Where memory is wanted, the desk is not to be used any more.
     pub fn go(&mut self, alloc: Global) -> Result<Option<(Peer, Bytes)>, Starved>
-        ensures { IfOk result (λ answer. (rows : List Row) (moment : Moment) → StandsFor rows self.old
-            → Went rows moment (journal.held rows) self.new answer) }
+        ensures { IfOk result (λ answer. (rows : List Row) (worker : ℕ) (moment : Moment) → StandsFor rows self.old
+            → Went rows worker moment (journal.held rows) self.new answer) }
     {
         let Some(job) = mem::replace(&mut self.job, None) else {
             return Ok(None);

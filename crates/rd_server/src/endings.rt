@@ -1,22 +1,7 @@
 // How a replay ends.
+ghost use Rattle.std.specs.Prelude.{◌≡◌};
 
-/// Why a line of a trace is bad.
-#[derive(Clone, Copy, Debug, PartialEq, Eq)]
-pub enum Reason {
-    /// The text spells no line.
-    Form,
-    /// A datagram comes while the worker holds a job.
-    Busy,
-}
-
-/// The first bad line of a trace.
-#[derive(Clone, Copy, Debug, PartialEq, Eq)]
-pub struct LineBad {
-    /// Its number, from 1.
-    pub line: u64,
-    /// Why it is bad.
-    pub why: Reason,
-}
+use trace_text::LineBad;
 
 /// Why a replay stops before the trace is done.
 #[derive(Clone, Copy, Debug, PartialEq, Eq)]
@@ -25,10 +10,19 @@ pub enum Stop {
     Bad(LineBad),
     /// The output failed.
     Unwritten,
-    /// The source failed.
-    Unread,
     /// Memory was wanted.
     Starved,
+}
+
+/// How the reading of a trace ends.
+#[derive(Clone, Copy, Debug, PartialEq, Eq)]
+pub enum Read {
+    /// The trace was read to its end.
+    End,
+    /// The source failed.
+    Failed,
+    /// The replay stopped before.
+    Stopped(Stop),
 }
 
 /// How a replay ends, with its exit status.
@@ -46,4 +40,22 @@ pub enum Status {
     Line(LineBad),
     /// 5: memory was wanted.
     Memory,
+}
+
+impl Status {
+    ghost use Rattle.rd_server.specs.Endings.{code_of};
+
+    /// The exit status of the program.
+    pub fn code(&self) -> u8
+        ensures { result ≡ code_of self.now }
+    {
+        match self {
+            Status::Done => 0,
+            Status::ReadFault => 1,
+            Status::WriteFault => 2,
+            Status::Usage => 3,
+            Status::Line(_) => 4,
+            Status::Memory => 5,
+        }
+    }
 }

@@ -5,6 +5,13 @@ mod desk;
 mod endings;
 mod fields;
 mod forms;
-mod lines;
 mod registry;
+mod replaying;
 mod sessions;
+
+pub use endings::Status;
+pub use replaying::{replay, report};
+pub use trace_text::{LineBad, Reason};
+
+#[cfg(test)]
+mod tests;

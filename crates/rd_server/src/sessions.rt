@@ -2,18 +2,19 @@
 ghost use Rattle.std.specs.Prelude.{◌≡◌, ℕ, List, [], ◌∷◌, ◌++◌, IfOk, take, true, None, Option, length};
 ghost use Rattle.std.specs.Io.KnownBytes.{Appends};
 ghost use Rattle.rd_server.specs.Fields as fields;
-ghost use Rattle.rd_server.specs.TraceLines as trace;
+ghost use Rattle.line_model.specs.Lines as trace;
+ghost use Rattle.rd_server.specs.Journal as journals;
 ghost use Rattle.rd_server.specs.Journal.{Row, after_line, end_line, text};
 ghost use Rattle.rd_server.specs.Standing.{StandsFor};
 ghost use Rattle.rd_server.specs.Going.{Performs, CountsAll, CountsUnwritten, Writes, DoesLine, Feeds, EndsLines, Finishes, IsAt, Place, journal_from, start, sent_text};
 
 use crate::desk::Desk;
-use crate::endings::{LineBad, Reason, Stop};
+use crate::endings::Stop;
 use crate::fields::cut;
-use crate::lines::{LONGEST_LINE, Line, LineFault, line_of, out_line};
 use rd_base::{Bytes, Peer, Put, Sink, Starved};
 use std::alloc::Global;
 use std::mem;
+use trace_text::{Line, LineBad, LineFault, Reason, line_read, out_print};
 
 /// Why a line was not done.
 #[derive(Clone, Copy, Debug, PartialEq, Eq)]
@@ -43,6 +44,7 @@ impl From<LineFault> for Trouble {
 
     fn from(fault: LineFault) -> Trouble {
         match fault {
+            LineFault::Long => Trouble::Bad(Reason::Long),
             LineFault::Form => Trouble::Bad(Reason::Form),
             LineFault::Starved => Trouble::Starved,
         }
@@ -57,23 +59,55 @@ pub struct Session {
     pending: Bytes,
 }
 
+/// How many workers there are.
+const WORKERS: u8 = 1;
+
+/// The worker that a line names.
+fn worker_in(line: &Line) -> u8
+    ensures { result ≡ journals.worker_in line.now }
+{
+    match line {
+        Line::Come(worker, _, _, _) => *worker,
+        Line::Go(worker, _) => *worker,
+        Line::Tick(worker, _, _) => *worker,
+    }
+}
+
+/// No line is longer, its line feed apart.
+const LONGEST_LINE: usize = 8600;
+
+/// The line of the output for a datagram that was sent.
+#[tactic(auto, unfolding(crate::specs::Journal::out_line))]
+fn out_line(alloc: Global, peer: &Peer, datagram: &[u8]) -> Result<Bytes, Starved>
+    ensures { IfOk result (λ text. text ≡ journals.out_line (peer.now, datagram.now)) }
+{
+    let mut text = out_print(alloc, 0, peer, datagram)?;
+    text.append(b"\n")?;
+    Ok(text)
+}
+
 /// Does what a line says. Where a line is bad the desk is as before, and after want of memory it is not to be used.
 fn perform(alloc: Global, desk: &mut Desk, line: &[u8]) -> Result<Option<(Peer, Bytes)>, Trouble>
     ensures { (rows : List Row) → StandsFor rows desk.old → Performs rows (after_line rows (trace.line_of line.now)) desk.new result }
 {
-    match line_of(alloc, line)? {
-        Line::Come(_, peer, datagram) => {
+    let step = line_read(alloc, line)?;
+    if worker_in(&step) >= WORKERS {
+        return Err(Trouble::Bad(Reason::Worker));
+    }
+    match step {
+        Line::Come(_, _, peer, datagram) => {
             if desk.is_busy() {
                 return Err(Trouble::Bad(Reason::Busy));
             }
             Ok(desk.come(alloc, peer, datagram.as_slice())?)
         }
-        Line::Go(_) => Ok(desk.go(alloc)?),
+        Line::Go(_, _) => Ok(desk.go(alloc)?),
+        Line::Tick(_, _, _) => Ok(None),
     }
 }
 
 /// Writes all of some octets, in as many pieces as the sink takes them.
-fn write_all<K: Sink>(out: &mut K, bytes: &[u8]) -> bool
+pub fn write_all<K: Sink>(out: &mut K, bytes: &[u8]) -> bool
     ensures all { result ≡ true → Appends (K.holds out.old) (K.holds out.new) bytes.now }
     ensures front { (n : ℕ) × Appends (K.holds out.old) (K.holds out.new) (take n bytes.now) }
     ensures cause { CountsAll (K.faults out.old) (K.faults out.new) result }
@@ -165,7 +199,7 @@ impl Session {
         if self.pending.len() + rest.len() > LONGEST_LINE {
             return Some(Stop::Bad(LineBad {
                 line: self.line,
-                why: Reason::Form,
+                why: Reason::Long,
             }));
         }
         let Ok(()) = self.pending.append(rest) else {

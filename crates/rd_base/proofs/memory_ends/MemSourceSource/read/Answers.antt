@@ -1,4 +1,4 @@
-use Rattle.std.proofs.Common.{arith, length, sym}
+use Rattle.std.proofs.Common.{sym}
 use Rattle.rd_base.proofs.Pieces.{copied_front}
 use Rattle.rd_base.proofs.memory_ends.MemSourceSource.read.Goals as goal
 

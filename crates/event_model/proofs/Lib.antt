@@ -1,0 +1,6 @@
+pub mod OnLiterals
+pub mod SameLaws
+pub mod KeptLaws
+pub mod Noting
+pub mod LookingBack
+pub mod ObserverLaws

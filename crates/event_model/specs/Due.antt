@@ -1,0 +1,46 @@
+-- When an observer is due: its listing changed since it was last looked at (RFC 7641 section 1.3).
+use Rattle.std.specs.Prelude.{ℕ, Bool, true, false, not, ◌&&◌, ◌==◌, nat_lt, List, [], ◌∷◌, filter, Option, Some, None, bytes_eq}
+use Rattle.std.specs.List.{list_any}
+use Rattle.rd_base.specs.declared.queries.Query.{Query}
+use Rattle.history_model.specs.declared.entries.Entry.{Entry}
+use Rattle.history_model.specs.Listing.{all_lines}
+use Rattle.event_model.specs.declared.notes.Note.{Note}
+use Rattle.event_model.specs.declared.notes.Note.TheVariants as note
+use Rattle.event_model.specs.declared.notes.Observer.{Observer}
+use Rattle.event_model.specs.Same.{RequestName, is_same_request}
+use Rattle.event_model.specs.Events.{Event, last_event}
+use Rattle.event_model.specs.Observers.{name_of}
+
+-- a row that is no look, as observers see it: its place, and the history and the moment before it and after it
+pub record Turn : Type 0 where
+  pub place : ℕ
+  pub before : List Entry
+  pub moment_before : ℕ
+  pub after : List Entry
+  pub moment_after : ℕ
+
+-- the same lines, each of the same record
+abbrev pub are_same_lines : List (ℕ × List ℕ) → List (ℕ × List ℕ) → Bool
+are_same_lines [] [] = true
+are_same_lines [] (other ∷ others) = false
+are_same_lines (line ∷ lines) [] = false
+are_same_lines (line ∷ lines) (other ∷ others) = line.0 == other.0 && bytes_eq line.1 other.1 && are_same_lines lines others
+
+-- the row changed the lines of a query, before page and count
+unfoldable pub is_change_of : Query → Turn → Bool
+is_change_of query t = not (are_same_lines (all_lines query t.before t.moment_before) (all_lines query t.after t.moment_after))
+
+-- the listing of the observer of a peer and a token was looked at: it was formed, or found unchanged
+abbrev pub is_looking_for : RequestName → Note → Bool
+is_looking_for name (note.Formed peer token body mid) = is_same_request (peer, token) name
+is_looking_for name (note.Unchanged peer token) = is_same_request (peer, token) name
+is_looking_for name _ = false
+
+-- a row after a place changed the lines of the query
+abbrev pub is_changed_since : Query → List Turn → Option Event → Bool
+is_changed_since query turns None = false
+is_changed_since query turns (Some looked) = list_any (is_change_of query) (filter (λ t. nat_lt looked.place t.place) turns)
+
+-- the observer is due: since its listing was last looked at, a row changed the lines of its query
+unfoldable pub is_due : Observer → List Event → List Turn → Bool
+is_due o events turns = is_changed_since o.query turns (last_event (is_looking_for (name_of o)) events)

@@ -1,0 +1,46 @@
+-- What a journal notes, as events. A list of events has the newest first: the last event of a kind is the first that is found.
+use Rattle.std.specs.Prelude.{ℕ, ◌+◌, Bool, nat_lt, List, [], ◌∷◌, find, fold, Option, Some, None, if◌then◌else◌}
+use Rattle.std.specs.List.{list_any}
+use Rattle.event_model.specs.declared.notes.Note.{Note}
+
+-- a note with its place, which is the number of the rows before its own, and with the moment and the word of its row
+pub record Event : Type 0 where
+  pub place : ℕ
+  pub moment : ℕ
+  pub word : ℕ
+  pub note : Note
+
+-- events with the notes of one row behind them, which it notes in this order
+abbrev pub noted : ℕ → ℕ → ℕ → List Note → List Event → List Event
+noted place moment word notes before = fold (λ events n. record { place = place; moment = moment; word = word; note = n } ∷ events) before notes
+
+-- the last event with a note of a kind
+abbrev pub last_event : (Note → Bool) → List Event → Option Event
+last_event is_kind events = find (λ e. is_kind e.note) events
+
+-- one of the events has a note of a kind
+abbrev pub has_event : (Note → Bool) → List Event → Bool
+has_event is_kind events = list_any (λ e. is_kind e.note) events
+
+-- the events after the last one with a note of a kind, or all where there is none
+unfoldable pub events_since : (Note → Bool) → List Event → List Event
+events_since is_kind [] = []
+events_since is_kind (e ∷ before) = if is_kind e.note then [] else e ∷ events_since is_kind before
+
+-- the first of two that says something
+abbrev pub or_else : {A : Type 0} → Option A → Option A → Option A
+or_else (Some x) other = Some x
+or_else None other = other
+
+-- what the last note says that says something
+unfoldable pub last_said : {A : Type 0} → (Note → Option A) → List Event → Option A
+last_said says [] = None
+last_said says (e ∷ before) = or_else (says e.note) (last_said says before)
+
+-- how long an exchange, an upload and a kept answer live, in milliseconds (RFC 7252 section 4.8.2, EXCHANGE_LIFETIME)
+abbrev pub exchange_lifetime : ℕ
+exchange_lifetime = 247_000
+
+-- what happened at a moment is not older than that at another
+abbrev pub is_young : ℕ → ℕ → Bool
+is_young now moment = nat_lt now (moment + exchange_lifetime)

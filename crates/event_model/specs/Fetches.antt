@@ -1,0 +1,117 @@
+-- Fetches of simple registrations (RFC 9176 section 5.1): which run, what each collected, and until when it waits.
+use Rattle.std.specs.Prelude.{ℕ, ◌+◌, Bool, false, not, ◌&&◌, ◌==◌, List, [], ◌∷◌, ◌++◌, reverse, filter, flat_map, filter_map, count_by, Option, Some, None, if◌then◌else◌}
+use Rattle.std.specs.List.{list_any}
+use Rattle.std.specs.Int.{bytes_high_first}
+use Rattle.rd_base.specs.declared.peers.Peer.{Peer}
+use Rattle.rd_base.specs.declared.parameters.RegParams.{RegParams}
+use Rattle.event_model.specs.declared.notes.Note.{Note}
+use Rattle.event_model.specs.declared.notes.Note.TheVariants as note
+use Rattle.event_model.specs.Same.{is_same_peer}
+use Rattle.event_model.specs.Events.{Event, last_event, has_event, events_since}
+use Rattle.event_model.specs.Flights.{deadline}
+
+-- the most fetches that run
+abbrev pub max_fetches : ℕ
+max_fetches = 64
+
+-- how long a fetch waits for a response that comes apart, in milliseconds (RFC 7252 section 4.8.2, MAX_TRANSMIT_WAIT)
+abbrev pub response_wait : ℕ
+response_wait = 93_000
+
+-- a fetch starts: it asks for the block of number 0
+abbrev pub is_start : Note → Bool
+is_start (note.Asked peer token mid params number) = number == 0
+is_start _ = false
+
+-- the fetch of a peer starts
+abbrev pub is_start_of : Peer → Note → Bool
+is_start_of peer (note.Asked p token mid params number) = number == 0 && is_same_peer p peer
+is_start_of peer _ = false
+
+-- the note starts or ends the fetch of a peer
+abbrev pub is_turn_of : Note → Peer → Bool
+is_turn_of (note.Asked p token mid params number) peer = number == 0 && is_same_peer p peer
+is_turn_of (note.Ceased p) peer = is_same_peer p peer
+is_turn_of _ peer = false
+
+-- the peer whose fetch the note starts
+abbrev pub started_by : Note → List Peer
+started_by (note.Asked p token mid params number) = if number == 0 then p ∷ [] else []
+started_by _ = []
+
+-- the peers whose fetch started and did not end since, in the order of their starts
+unfoldable pub fetches : List Event → List Peer
+fetches [] = []
+fetches (e ∷ before) = filter (λ peer. not (is_turn_of e.note peer)) (fetches before) ++ started_by e.note
+
+-- a fetch of the peer runs
+abbrev pub is_fetching : Peer → List Event → Bool
+is_fetching peer events = list_any (is_same_peer peer) (fetches events)
+
+-- the token of the fetch that starts next: the number of fetches with it, in eight octets
+unfoldable pub next_token : List Event → List ℕ
+next_token events = bytes_high_first 8 (count_by (λ e. is_start e.note) events + 1)
+
+-- a request of the fetch of a peer
+abbrev pub is_request_to : Peer → Note → Bool
+is_request_to peer (note.Asked p token mid params number) = is_same_peer p peer
+is_request_to peer _ = false
+
+-- the last request was sent again; it was acknowledged
+abbrev pub is_resent_to : Peer → Note → Bool
+is_resent_to peer (note.Resent p) = is_same_peer p peer
+is_resent_to peer _ = false
+
+abbrev pub is_waiting_for : Peer → Note → Bool
+is_waiting_for peer (note.Waiting p) = is_same_peer p peer
+is_waiting_for peer _ = false
+
+-- a request for a block: token, Message ID, the parameters of the registration, and the block's number
+pub record Request : Type 0 where
+  pub token : List ℕ
+  pub mid : ℕ
+  pub params : RegParams
+  pub number : ℕ
+
+-- the request that a note makes
+abbrev pub request_noted : Note → Option Request
+request_noted (note.Asked p token mid params number) = Some (record { token = token; mid = mid; params = params; number = number })
+request_noted _ = None
+
+-- the last request of the fetch of a peer, as an event
+abbrev pub last_request : Peer → List Event → Option Event
+last_request peer events = last_event (is_request_to peer) events
+
+-- the events since the last request of the fetch of a peer
+abbrev pub since_request : Peer → List Event → List Event
+since_request peer events = events_since (is_request_to peer) events
+
+-- a block of a body that came to the fetch of a peer: its octets, and its entity tag
+abbrev pub block_noted : Peer → Note → Option (List ℕ × Option (List ℕ))
+block_noted peer (note.Gathered p octets tag) = if is_same_peer p peer then Some (octets, tag) else None
+block_noted peer _ = None
+
+-- the blocks that came to the fetch of a peer since it started, in order
+unfoldable pub gathered : Peer → List Event → List (List ℕ × Option (List ℕ))
+gathered peer events = filter_map (λ e. block_noted peer e.note) (reverse (events_since (is_start_of peer) events))
+
+-- what is collected of the body: these blocks, joined
+unfoldable pub collected : Peer → List Event → List ℕ
+collected peer events = flat_map (λ block. block.0) (gathered peer events)
+
+-- the entity tag of the first block, where one came; the block may have had none
+abbrev pub tag_of_first : List (List ℕ × Option (List ℕ)) → Option (Option (List ℕ))
+tag_of_first [] = None
+tag_of_first (block ∷ blocks) = Some block.1
+
+-- how often the last request was sent again
+abbrev pub resendings : Peer → List Event → List Event
+resendings peer events = filter (λ e. is_resent_to peer e.note) (since_request peer events)
+
+-- the last request was acknowledged, and its response comes apart
+abbrev pub is_waiting : Peer → List Event → Bool
+is_waiting peer events = has_event (is_waiting_for peer) (since_request peer events)
+
+-- until when the fetch of a peer waits after an event that made its last request
+unfoldable pub fetch_deadline : Peer → Event → List Event → ℕ
+fetch_deadline peer request events = if is_waiting peer events then request.moment + response_wait else deadline request (resendings peer events)

@@ -1,0 +1,9 @@
+pub mod Same
+pub mod Events
+pub mod Repeats
+pub mod Uploads
+pub mod KeptAnswers
+pub mod Observers
+pub mod Flights
+pub mod Due
+pub mod Fetches

@@ -1,0 +1,57 @@
+-- Writes that come again (RFC 7252 section 4.5): which admissions are kept, and what a repeat finds.
+use Rattle.std.specs.Prelude.{ℕ, Bool, false, not, ◌&&◌, ◌==◌, nat_le, List, [], ◌∷◌, ◌++◌, length, filter, Option, Some, None, option_and_then, if◌then◌else◌}
+use Rattle.std.specs.List.{list_any}
+use Rattle.rd_base.specs.declared.peers.Peer.{Peer}
+use Rattle.event_model.specs.declared.notes.Note.{Note}
+use Rattle.event_model.specs.declared.notes.Note.TheVariants as note
+use Rattle.event_model.specs.Same.{is_same_peer}
+use Rattle.event_model.specs.Events.{Event, last_event, last_said, is_young}
+
+-- the most exchanges that are kept
+abbrev pub max_exchanges : ℕ
+max_exchanges = 4_096
+
+-- the admission of a peer and a Message ID
+abbrev pub is_admission_of : Peer → ℕ → Note → Bool
+is_admission_of peer mid (note.Admitted p m) = is_same_peer p peer && m == mid
+is_admission_of peer mid _ = false
+
+-- the event, where its note is an admission
+abbrev pub admission_by : Note → Event → List Event
+admission_by (note.Admitted peer mid) e = e ∷ []
+admission_by _ e = []
+
+-- the admission of this place ended for want of memory
+abbrev pub is_failure_of : ℕ → Note → Bool
+is_failure_of place (note.Failed p) = p == place
+is_failure_of place _ = false
+
+-- the admissions that no later failure follows, the newest first
+unfoldable pub admissions : List Event → List Event
+admissions [] = []
+admissions (e ∷ before) = admission_by e.note e ++ filter (λ a. not (is_failure_of a.place e.note)) (admissions before)
+
+-- the admissions that are kept at a moment: no failure follows them, and they are young enough
+unfoldable pub kept : ℕ → List Event → List Event
+kept now events = filter (λ a. is_young now a.moment) (admissions events)
+
+-- the admission is one of those that are kept
+abbrev pub is_kept : ℕ → List Event → Event → Bool
+is_kept now events a = list_any (λ other. other.place == a.place) (kept now events)
+
+-- a write is a repeat where the last admission of its peer and Message ID is kept: that admission
+unfoldable pub repeated : ℕ → Peer → ℕ → List Event → Option Event
+repeated now peer mid events = option_and_then (λ a. if is_kept now events a then Some a else None) (last_event (is_admission_of peer mid) events)
+
+-- what the note says of the answer to the admission of a place
+abbrev pub answer_noted : ℕ → Note → Option (List ℕ)
+answer_noted place (note.Settled p reply) = if p == place then Some reply else None
+answer_noted place _ = None
+
+-- the octets that the admission of a place was answered by; none while it is in flight
+unfoldable pub settled : ℕ → List Event → Option (List ℕ)
+settled place events = last_said (answer_noted place) events
+
+-- as many exchanges are kept as there is room for
+abbrev pub is_full_of_exchanges : ℕ → List Event → Bool
+is_full_of_exchanges now events = nat_le max_exchanges (length (kept now events))

@@ -1,0 +1,64 @@
+-- Bodies that come in blocks (RFC 7959 section 2.5): what is collected of each, and which uploads live.
+use Rattle.std.specs.Prelude.{ℕ, Bool, false, not, ◌&&◌, ◌==◌, List, [], ◌∷◌, ◌++◌, length, filter, Option, Some, None, is_some, option_map, option_and_then, if◌then◌else◌}
+use Rattle.event_model.specs.declared.notes.Note.{Note}
+use Rattle.event_model.specs.declared.notes.Note.TheVariants as note
+use Rattle.event_model.specs.Same.{RequestName, is_same_request}
+use Rattle.event_model.specs.Events.{Event, last_event, is_young}
+
+-- the most uploads that live, and the most octets of a body
+abbrev pub max_uploads : ℕ
+max_uploads = 64
+
+abbrev pub max_body : ℕ
+max_body = 8_192
+
+-- what a note makes of what is collected under a name: its first block begins anew, a further one goes on, its end leaves nothing
+abbrev pub collected_after : RequestName → Note → Option (List ℕ) → Option (List ℕ)
+collected_after name (note.Piece peer key number octets) before =
+    if is_same_request (peer, key) name
+    then (if number == 0 then Some octets else option_map (λ front. front ++ octets) before)
+    else before
+collected_after name (note.Finished peer key) before = if is_same_request (peer, key) name then None else before
+collected_after name _ before = before
+
+-- the upload of a name: its blocks joined from the last first one on, where no end follows
+unfoldable pub upload : RequestName → List Event → Option (List ℕ)
+upload name [] = None
+upload name (e ∷ before) = collected_after name e.note (upload name before)
+
+-- a block of the upload of a name
+abbrev pub is_piece_of : RequestName → Note → Bool
+is_piece_of name (note.Piece peer key number octets) = is_same_request (peer, key) name
+is_piece_of name _ = false
+
+-- the upload lives while its last block is young enough
+abbrev pub is_live_upload : ℕ → RequestName → List Event → Bool
+is_live_upload now name events = is_lately (last_event (is_piece_of name) events)
+  where
+    is_lately : Option Event → Bool
+    is_lately None = false
+    is_lately (Some e) = is_young now e.moment
+
+-- the upload of a name, where it lives
+unfoldable pub live_upload : ℕ → RequestName → List Event → Option (List ℕ)
+live_upload now name events = option_and_then (λ body. if is_live_upload now name events then Some body else None) (upload name events)
+
+-- the note begins or ends the upload of a name
+abbrev pub is_turn_of : Note → RequestName → Bool
+is_turn_of (note.Piece peer key number octets) name = number == 0 && is_same_request (peer, key) name
+is_turn_of (note.Finished peer key) name = is_same_request (peer, key) name
+is_turn_of _ name = false
+
+-- the name of the upload that the note begins
+abbrev pub begun_by : Note → List RequestName
+begun_by (note.Piece peer key number octets) = if number == 0 then (peer, key) ∷ [] else []
+begun_by _ = []
+
+-- the names that have an upload
+unfoldable pub uploads : List Event → List RequestName
+uploads [] = []
+uploads (e ∷ before) = filter (λ name. not (is_turn_of e.note name)) (uploads before) ++ begun_by e.note
+
+-- how many uploads live
+unfoldable pub live_uploads : ℕ → List Event → ℕ
+live_uploads now events = length (filter (λ name. is_some (live_upload now name events)) (uploads events))

@@ -1,0 +1,21 @@
+pub mod Pairs
+pub mod Lists
+pub mod ReplayLaws
+pub mod LegalLaws
+pub mod NumberLaws
+pub mod Acceptance
+pub mod NameLaws
+pub mod SweepLaws
+pub mod LimitLaws
+pub mod TagOctets
+pub mod TagLaws
+pub mod VersionLaws
+pub mod LocationLaws
+pub mod ListingLaws
+pub mod GoneLaws
+pub mod OnLiterals
+pub mod Samples
+mod LeaseExamples
+mod ListingExamples
+mod LimitExamples
+mod TextExamples

@@ -1,0 +1,78 @@
+-- Why a change is refused at its moment, in the order in which it is looked for.
+use Rattle.std.specs.Prelude.{ℕ, ◌+◌, ◌-◌, ◌^◌, Bool, false, not, ◌&&◌, nat_lt, nat_le, List, length, sum_by, Option, Some, None, if◌then◌else◌}
+use Rattle.std.specs.List.{list_any}
+use Rattle.rd_base.specs.declared.records.Name.{Name}
+use Rattle.rd_base.specs.declared.records.Record.{Record}
+use Rattle.document_model.specs.ListingLines.{weight}
+use Rattle.history_model.specs.declared.entries.Change.{Change}
+use Rattle.history_model.specs.declared.entries.Change.TheVariants as change
+use Rattle.history_model.specs.declared.entries.Entry.{Entry}
+use Rattle.history_model.specs.declared.refusals.Refusal.{Refusal}
+use Rattle.history_model.specs.declared.refusals.Refusal.TheVariants as refusal
+use Rattle.history_model.specs.Leases.{live_among}
+use Rattle.history_model.specs.Names.{is_same_name}
+use Rattle.history_model.specs.Replay.{State, is_numbered, apply, replay}
+
+-- the most registrations that are live
+abbrev pub max_registrations : ℕ
+max_registrations = 4_096
+
+-- the most that the live registrations weigh together
+abbrev pub max_text : ℕ
+max_text = 1_048_576
+
+-- the most entries of a history
+abbrev pub max_entries : ℕ
+max_entries = 2 ^ 48 - 1
+
+-- one of the records has this number
+abbrev pub has_number : ℕ → List Record → Bool
+has_number number records = list_any (is_numbered number) records
+
+-- one of the records has this name
+abbrev pub has_name : Name → List Record → Bool
+has_name name records = list_any (λ r. is_same_name r.name name) records
+
+-- what the records weigh together
+abbrev pub text_of : List Record → ℕ
+text_of records = sum_by weight records
+
+-- an update or a removal names a number that none of the live records has (RFC 9176 section 5.3)
+abbrev pub is_gone : List Record → Change → Bool
+is_gone live (change.Register params links) = false
+is_gone live (change.Update number given) = not (has_number number live)
+is_gone live (change.Remove number) = not (has_number number live)
+
+-- a registration comes with a new name while as many records are live as may be
+abbrev pub is_full_of_records : List Record → Change → Bool
+is_full_of_records live (change.Register params links) = nat_le max_registrations (length live) && not (has_name params.name live)
+is_full_of_records live (change.Update number given) = false
+is_full_of_records live (change.Remove number) = false
+
+-- the state with those of its records alone that are live at a moment
+abbrev pub only_live : ℕ → State → State
+only_live moment state = record state { records = live_among moment state.records }
+
+-- what the live records would weigh behind an entry: those that are live at its moment, with the one that it is about in its new form
+abbrev pub text_behind : State → Entry → ℕ
+text_behind state entry = text_of (apply (only_live entry.moment.0 state) entry).records
+
+-- a registration or an update would have the live records weigh more than they may
+abbrev pub is_full_of_text : ℕ → Change → Bool
+is_full_of_text text (change.Register params links) = nat_lt max_text text
+is_full_of_text text (change.Update number given) = nat_lt max_text text
+is_full_of_text text (change.Remove number) = false
+
+-- the first refusal of an entry in a state, where so many entries were counted before
+unfoldable pub refusal_in : State → ℕ → Entry → Option Refusal
+refusal_in state entries entry =
+    let live = live_among entry.moment.0 state.records in
+    if is_gone live entry.change then Some refusal.Registration
+    else if is_full_of_records live entry.change then Some refusal.Registrations
+    else if is_full_of_text (text_behind state entry) entry.change then Some refusal.Text
+    else if nat_le max_entries entries then Some refusal.Entries
+    else None
+
+-- the first refusal of an entry behind a history, where so many entries were counted before the first of the history
+unfoldable pub change_refusal : ℕ → List Entry → Entry → Option Refusal
+change_refusal first history entry = refusal_in (replay history) (first + length history) entry

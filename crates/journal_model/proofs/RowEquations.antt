@@ -1,0 +1,79 @@
+-- The parts of a row, and what a journal shows with one row more.
+use Rattle.std.proofs.Common.{◌≡◌, ℕ, Bool, cond, max, List, [], ◌∷◌, length, fold, refl}
+use Rattle.message_model.specs.Reading.{reading}
+use Rattle.event_model.specs.Events.{noted}
+use Rattle.journal_model.specs.declared.steps.Step.{Step}
+use Rattle.journal_model.specs.declared.steps.StepKind.TheVariants as step
+use Rattle.journal_model.specs.declared.rows.Row.{Row}
+use Rattle.journal_model.specs.Journal.{is_desk_row, events, now, latest, turn_of, turns}
+use Rattle.journal_model.specs.Ticks.{tick_effects}
+use Rattle.journal_model.specs.Rows.{heard, looked, done, kept_body, effects, moment_of, row}
+use Rattle.journal_model.specs.Machine.{MayRun, IsJournal, begun, made, run}
+
+-- a row has its step, its mark, and what the step does at its moment
+pub row-step : (rows : List Row) (s : Step) (starved : Bool) → (row rows s starved).step ≡ s
+unfolding row
+row-step rows s starved = refl
+
+pub row-starved : (rows : List Row) (s : Step) (starved : Bool) → (row rows s starved).starved ≡ starved
+unfolding row
+row-starved rows s starved = refl
+
+pub row-moment : (rows : List Row) (s : Step) (starved : Bool) → (row rows s starved).moment.0 ≡ max s.handed.0 (latest rows)
+unfolding row moment_of
+row-moment rows s starved = refl
+
+pub row-sent : (rows : List Row) (s : Step) (starved : Bool) → (row rows s starved).sent ≡ (effects s.kind starved rows (moment_of rows s) s).sent
+unfolding row
+row-sent rows s starved = refl
+
+pub row-notes : (rows : List Row) (s : Step) (starved : Bool) → (row rows s starved).notes ≡ (effects s.kind starved rows (moment_of rows s) s).notes
+unfolding row
+row-notes rows s starved = refl
+
+pub row-drew : (rows : List Row) (s : Step) (starved : Bool) → (row rows s starved).drew ≡ (effects s.kind starved rows (moment_of rows s) s).drew
+unfolding row
+row-drew rows s starved = refl
+
+-- what each kind of step does
+pub effects-Admit : (starved : Bool) (rows : List Row) (moment : ℕ) (s : Step) → effects step.Admit starved rows moment s ≡ heard starved rows moment s (reading s.datagram)
+unfolding effects
+effects-Admit starved rows moment s = refl
+
+pub effects-Look : (starved : Bool) (rows : List Row) (moment : ℕ) (s : Step) → effects step.Look starved rows moment s ≡ looked starved rows moment s (reading s.datagram)
+unfolding effects
+effects-Look starved rows moment s = refl
+
+pub effects-Commit : (place : ℕ) (starved : Bool) (rows : List Row) (moment : ℕ) (s : Step) → effects (step.Commit place) starved rows moment s ≡ done starved rows moment place s (reading s.datagram)
+unfolding effects
+effects-Commit place starved rows moment s = refl
+
+pub effects-Keep : (body tag : List ℕ) (starved : Bool) (rows : List Row) (moment : ℕ) (s : Step) → effects (step.Keep body tag) starved rows moment s ≡ kept_body starved s (reading s.datagram) body tag
+unfolding effects
+effects-Keep body tag starved rows moment s = refl
+
+pub effects-Tick : (starved : Bool) (rows : List Row) (moment : ℕ) (s : Step) → effects step.Tick starved rows moment s ≡ tick_effects starved rows moment s
+unfolding effects
+effects-Tick starved rows moment s = refl
+
+-- a journal with one row more
+pub events-row : (rows : List Row) (r : Row) → events (r ∷ rows) ≡ noted (length rows) r.moment.0 r.step.word r.notes (events rows)
+unfolding events
+events-row rows r = refl
+
+pub now-row : (rows : List Row) (r : Row) → now (r ∷ rows) ≡ cond (is_desk_row r) r.moment.0 (now rows)
+unfolding now
+now-row rows r = refl
+
+pub turns-row : (rows : List Row) (r : Row) → turns (r ∷ rows) ≡ cond (is_desk_row r) (turn_of r rows ∷ turns rows) (turns rows)
+unfolding turns
+turns-row rows r = refl
+
+-- what comes of steps that may be made one after the other is a journal of the machine
+pub run-IsJournal : (steps : List (Step × Bool)) → MayRun steps [] → IsJournal (run steps)
+unfolding run
+run-IsJournal steps may = behind steps [] may begun
+  where
+    behind : (more : List (Step × Bool)) (rows : List Row) → MayRun more rows → IsJournal rows → IsJournal (fold (λ before marked. row before marked.0 marked.1 ∷ before) rows more)
+    behind [] rows may journal = journal
+    behind (marked ∷ more) rows may journal = behind more (row rows marked.0 marked.1 ∷ rows) may.1 (made marked.1 journal may.0)

@@ -1,0 +1,46 @@
+-- Answers with a body, whole or a block of it (RFC 7959 section 2.4, RFC 7641 section 3).
+use Rattle.std.specs.Prelude.{ℕ, Bool, true, nat_lt, List, [], ◌∷◌, ◌++◌, length, codes, Option, Some, None, if◌then◌else◌}
+use Rattle.message_model.specs.declared.blocks.Block.{Block}
+use Rattle.message_model.specs.Message.{Opt}
+use Rattle.message_model.specs.Numbers.{uint_bytes}
+use Rattle.message_model.specs.Codes as codes_of
+use Rattle.message_model.specs.OptionTable as table
+use Rattle.message_model.specs.Blocks.{block_size, block_value, block_of}
+use Rattle.message_model.specs.Refusals.{link_format}
+use Rattle.journal_model.specs.Sending.{Reply, diagnostic}
+use Rattle.journal_model.specs.Requests.{number_of, szx_of}
+
+-- the options of an entity tag, an Observe value and a block, where there are such
+abbrev pub tag_option : Option (List ℕ) → List Opt
+tag_option None = []
+tag_option (Some tag) = (table.etag, tag) ∷ []
+
+abbrev pub observe_option : Option ℕ → List Opt
+observe_option None = []
+observe_option (Some value) = (table.observe, uint_bytes value) ∷ []
+
+abbrev pub block2_option : Option Block → List Opt
+block2_option None = []
+block2_option (Some b) = (table.block2, block_value b) ∷ []
+
+-- the block is told where one was asked for, or where more follow
+abbrev pub told_block : Option Block → Bool → Option Block
+told_block None more = if more then Some (record { num = 0; more = true; szx = szx_of None }) else None
+told_block (Some b) more = Some (record { num = b.num; more = more; szx = b.szx })
+
+-- 2.05 with a part of a body, which more may follow; 4.00 where the block that was asked for lies behind the end
+abbrev pub part_reply : Option (List ℕ) → Option ℕ → Option Block → Option (List ℕ × Bool) → Reply
+part_reply tag observe asked None = diagnostic codes_of.bad_request (codes "block")
+part_reply tag observe asked (Some part) = record {
+  code = codes_of.content;
+  options = tag_option tag ++ (observe_option observe ++ ((table.content_format, uint_bytes link_format) ∷ block2_option (told_block asked part.1)));
+  payload = part.0;
+}
+
+-- the answer with the block of a body that is asked for, the first where none is, under a tag and an Observe value
+unfoldable pub body_reply : Option (List ℕ) → Option ℕ → Option Block → List ℕ → Reply
+body_reply tag observe asked body = part_reply tag observe asked (block_of body (number_of asked) (szx_of asked))
+
+-- the body is longer than the block size
+abbrev pub is_long : Option Block → List ℕ → Bool
+is_long asked body = nat_lt (block_size (szx_of asked)) (length body)

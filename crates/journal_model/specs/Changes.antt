@@ -1,0 +1,94 @@
+-- Changes of the directory: the entry that a request makes, or why it is refused (RFC 9176 sections 5, 5.3.1 and 5.3.2).
+use Rattle.std.specs.Prelude.{ℕ, Bool, true, false, List, [], ◌∷◌, ◌++◌, codes, decimal, Option, Some, None, is_some, unwrap_or}
+use Rattle.rd_base.specs.declared.parameters.RegParams.{RegParams}
+use Rattle.rd_base.specs.declared.records.Name.{Name}
+use Rattle.rd_base.specs.declared.submitted.SubmittedLink.{SubmittedLink}
+use Rattle.message_model.specs.Codes as codes_of
+use Rattle.message_model.specs.OptionTable as table
+use Rattle.message_model.specs.Message.{Opt}
+use Rattle.document_model.specs.Bodies.{linked_references}
+use Rattle.document_model.specs.Refusals.{first_unlimited}
+use Rattle.history_model.specs.declared.entries.Change.{Change}
+use Rattle.history_model.specs.declared.entries.Change.TheVariants as change
+use Rattle.history_model.specs.declared.entries.Entry.{Entry}
+use Rattle.history_model.specs.declared.refusals.Refusal.{Refusal}
+use Rattle.history_model.specs.declared.refusals.Refusal.TheVariants as refusal
+use Rattle.history_model.specs.Refusals.{change_refusal}
+use Rattle.history_model.specs.Replay.{replay, number_named}
+use Rattle.event_model.specs.declared.notes.Note.{Note}
+use Rattle.event_model.specs.declared.notes.Note.TheVariants as note
+use Rattle.journal_model.specs.declared.steps.Step.{Step}
+use Rattle.journal_model.specs.Sending.{Reply, diagnostic}
+
+-- what comes of a write: its answer, and what is noted beside that
+pub record Outcome : Type 0 where
+  pub reply : Reply
+  pub notes : List Note
+
+-- a refusal is the answer, and nothing is noted beside it
+abbrev pub refused : ℕ → List ℕ → Outcome
+refused code word = record { reply = diagnostic code word; notes = [] }
+
+-- the refusal of a change as an answer
+abbrev pub refused_as : Refusal → Outcome
+refused_as refusal.Registration = refused codes_of.not_found (codes "registration")
+refused_as refusal.Registrations = refused codes_of.service_unavailable (codes "registrations")
+refused_as refusal.Text = refused codes_of.service_unavailable (codes "text")
+refused_as refusal.Entries = refused codes_of.service_unavailable (codes "entries")
+
+-- a change with the moment, the worker and the peer of a step
+abbrev pub entry_by : ℕ → Step → Change → Entry
+entry_by moment s what = record { moment = record { 0 = moment }; worker = s.worker; peer = s.peer; change = what }
+
+-- the change is refused, or it is entered and answered
+abbrev pub entered_unless : Option Refusal → Entry → Outcome → Outcome
+entered_unless (Some why) entry done = refused_as why
+entered_unless None entry done = record { reply = done.reply; notes = note.Entered entry ∷ done.notes }
+
+-- a change behind a history, and what comes of it where nothing refuses it
+abbrev pub change_made : List Entry → Entry → Outcome → Outcome
+change_made history entry done = entered_unless (change_refusal 0 history entry) entry done
+
+-- the links of a body, or the word of its refusal: no document of references, or not in the Limited Link Format
+pub data BodyRead : Type 0 where
+  bad_body : List ℕ → BodyRead
+  good_body : List SubmittedLink → BodyRead
+
+abbrev pub limited_links : Bool → List SubmittedLink → BodyRead
+limited_links true links = bad_body (codes "limited")
+limited_links false links = good_body links
+
+abbrev pub links_or_bad : Option (List SubmittedLink) → BodyRead
+links_or_bad None = bad_body (codes "links")
+links_or_bad (Some links) = limited_links (is_some (first_unlimited links)) links
+
+-- what is read of the body of a registration (RFC 6690 section 2, RFC 9176 appendix C)
+unfoldable pub body_read : List ℕ → BodyRead
+body_read body = links_or_bad (linked_references body)
+
+-- the number that the registration of a name has behind a history
+abbrev pub number_behind : Name → ℕ → List Entry → ℕ
+number_behind name moment history = unwrap_or (number_named name moment (replay history).records) 0
+
+-- the location of a registration (RFC 9176 section 5)
+abbrev pub location_options : ℕ → List Opt
+location_options number = (table.location_path, codes "rd") ∷ (table.location_path, decimal number) ∷ []
+
+-- 2.01 with the location of the name's registration, and further options
+abbrev pub created_at : ℕ → List Opt → Reply
+created_at number further = record { code = codes_of.created; options = location_options number ++ further; payload = [] }
+
+-- a registration of links behind a history, answered with further options; where it is accepted, this is noted beside its entry
+abbrev pub registration_made : List Entry → ℕ → Entry → Name → List Opt → List Note → Outcome
+registration_made history moment entry name further notes =
+    change_made history entry (record { reply = created_at (number_behind name moment (history ++ entry ∷ [])) further; notes = notes })
+
+-- the registration of what was read of a body
+abbrev pub registered_links : List Entry → ℕ → Step → RegParams → List Opt → List Note → BodyRead → Outcome
+registered_links history moment s params further notes (bad_body word) = refused codes_of.bad_request word
+registered_links history moment s params further notes (good_body links) =
+    registration_made history moment (entry_by moment s (change.Register params links)) params.name further notes
+
+-- the registration of a whole body: refused for its links, refused as a change, or entered
+unfoldable pub registration : List Entry → ℕ → Step → RegParams → List ℕ → List Opt → List Note → Outcome
+registration history moment s params body further notes = registered_links history moment s params further notes (body_read body)

@@ -1,0 +1,89 @@
+-- Writes as they are done: the change and its answer, or the refusal; in both cases the answer is kept for repeats.
+use Rattle.std.specs.Prelude.{ℕ, ◌+◌, Bool, true, false, ◌==◌, nat_le, List, [], ◌∷◌, ◌++◌, length, codes, Option, Some, None}
+use Rattle.rd_base.specs.declared.parameters.RegParams.{RegParams}
+use Rattle.message_model.specs.declared.blocks.Block.{Block}
+use Rattle.message_model.specs.declared.messages.Kind4.TheVariants.{Con}
+use Rattle.message_model.specs.declared.requests.Path.{Path}
+use Rattle.message_model.specs.declared.requests.Path.TheVariants as path
+use Rattle.message_model.specs.Message.{Message, Opt}
+use Rattle.message_model.specs.Codes as codes_of
+use Rattle.message_model.specs.OptionTable as table
+use Rattle.message_model.specs.Blocks.{block_value}
+use Rattle.message_model.specs.Request.{path_in, queries_in}
+use Rattle.message_model.specs.Spelling.{spelling}
+use Rattle.document_model.specs.Parameters.{registration_values, update_values}
+use Rattle.history_model.specs.declared.entries.Change.TheVariants as change
+use Rattle.event_model.specs.declared.notes.Note.TheVariants as note
+use Rattle.event_model.specs.Events.{Event}
+use Rattle.event_model.specs.Fetches.{max_fetches, fetches, is_fetching, next_token}
+use Rattle.journal_model.specs.declared.steps.Step.{Step}
+use Rattle.journal_model.specs.declared.rows.Row.{Row}
+use Rattle.journal_model.specs.Journal.{events, entries}
+use Rattle.journal_model.specs.Sending.{Effects, nothing, joined, bare, mid_of, drawn_for, answer, answering}
+use Rattle.journal_model.specs.Changes.{Outcome, refused, entry_by, change_made}
+use Rattle.journal_model.specs.Uploading.{registering}
+
+-- the answer is sent and settled, and what came of the write is noted
+abbrev pub settling : ℕ → Step → Message → Outcome → Effects
+settling place s m done = answering s m done.reply (done.notes ++ note.Settled place (spelling (answer s m done.reply)) ∷ [])
+
+-- an update (RFC 9176 section 5.3.1)
+abbrev pub updating : List Row → ℕ → Step → Message → ℕ → Outcome
+updating rows moment s m number =
+    change_made (entries rows) (entry_by moment s (change.Update number (update_values (queries_in m)))) (record { reply = bare codes_of.changed; notes = [] })
+
+-- a removal (RFC 9176 section 5.3.2)
+abbrev pub removing : List Row → ℕ → Step → ℕ → Outcome
+removing rows moment s number = change_made (entries rows) (entry_by moment s (change.Remove number)) (record { reply = bare codes_of.deleted; notes = [] })
+
+-- the block that a fetch asks for, where it is not the first
+abbrev pub fetched_block : Option Block → List Opt
+fetched_block None = []
+fetched_block (Some b) = (table.block2, block_value b) ∷ []
+
+-- the request of a fetch: a confirmable GET of /.well-known/core, with no other option (RFC 9176 section 5.1)
+abbrev pub fetch_request : ℕ → List ℕ → Option Block → Message
+fetch_request mid token b = record {
+  kind = Con;
+  code = codes_of.get;
+  mid = mid;
+  token = token;
+  options = (table.uri_path, codes ".well-known") ∷ (table.uri_path, codes "core") ∷ fetched_block b;
+  payload = [];
+}
+
+-- a fetch asks its peer for a block, with a Message ID that is drawn behind so many others
+abbrev pub asking : Step → ℕ → List ℕ → RegParams → ℕ → Option Block → Effects
+asking s drawn token params number b = record {
+  sent = (s.peer, spelling (fetch_request (mid_of s.worker drawn) token b)) ∷ [];
+  notes = note.Asked s.peer token (mid_of s.worker drawn) params number ∷ [];
+  drew = 1;
+}
+
+-- a simple registration is refused while a fetch with its peer runs, or while as many run as may; else its 2.04 is sent,
+-- and a fetch starts behind it (RFC 9176 section 5.1)
+abbrev pub simple_unless : Bool → Bool → List Event → ℕ → Step → Message → Effects
+simple_unless true too_many events place s m = settling place s m (refused codes_of.service_unavailable (codes "fetching"))
+simple_unless false true events place s m = settling place s m (refused codes_of.service_unavailable (codes "fetches"))
+simple_unless false false events place s m =
+    joined (settling place s m (record { reply = bare codes_of.changed; notes = [] }))
+    (asking s (s.drawn + drawn_for m.kind) (next_token events) (registration_values (queries_in m)) 0 None)
+
+abbrev pub registering_simply : List Event → ℕ → Step → Message → Effects
+registering_simply events place s m = simple_unless (is_fetching s.peer events) (nat_le max_fetches (length (fetches events))) events place s m
+
+-- a write on a registration: an update or a removal, by its method
+abbrev pub on_location : Bool → List Row → ℕ → Step → Message → ℕ → Outcome
+on_location true rows moment s m number = updating rows moment s m number
+on_location false rows moment s m number = removing rows moment s number
+
+-- what a write does, by its path
+abbrev pub write_done : Path → List Row → ℕ → ℕ → Step → Message → Effects
+write_done path.Rd rows moment place s m = settling place s m (registering rows moment s m)
+write_done (path.Location number) rows moment place s m = settling place s m (on_location (m.code == codes_of.post) rows moment s m number)
+write_done path.SimpleRd rows moment place s m = registering_simply (events rows) place s m
+write_done _ rows moment place s m = nothing
+
+-- the write that was admitted at a place is done
+unfoldable pub commit_effects : List Row → ℕ → ℕ → Step → Message → Effects
+commit_effects rows moment place s m = write_done (path_in m) rows moment place s m

@@ -1,0 +1,68 @@
+-- The journal: a list of rows, one for each step, with the newest first. The place of a row is the number of the rows before it.
+use Rattle.std.specs.Prelude.{ℕ, Bool, true, false, not, ◌==◌, max, List, [], ◌∷◌, ◌++◌, length, filter_map, Option, Some, None, if◌then◌else◌}
+use Rattle.history_model.specs.declared.entries.Entry.{Entry}
+use Rattle.event_model.specs.declared.notes.Note.{Note}
+use Rattle.event_model.specs.declared.notes.Note.TheVariants as note
+use Rattle.event_model.specs.Events.{Event, noted}
+use Rattle.event_model.specs.Due.{Turn}
+use Rattle.journal_model.specs.declared.steps.StepKind.{StepKind}
+use Rattle.journal_model.specs.declared.steps.StepKind.TheVariants as step
+use Rattle.journal_model.specs.declared.rows.Row.{Row}
+
+-- the step only looks at the registrations
+abbrev pub is_look : StepKind → Bool
+is_look step.Look = true
+is_look _ = false
+
+-- the row is none of a look
+abbrev pub is_desk_row : Row → Bool
+is_desk_row r = not (is_look r.step.kind)
+
+-- the notes of a journal as events, the newest first
+unfoldable pub events : List Row → List Event
+events [] = []
+events (r ∷ before) = noted (length before) r.moment.0 r.step.word r.notes (events before)
+
+-- the entry that a note tells
+abbrev pub entry_noted : Note → Option Entry
+entry_noted (note.Entered entry) = Some entry
+entry_noted _ = None
+
+-- the entries that a row tells, in order
+abbrev pub entries_of : Row → List Entry
+entries_of r = filter_map entry_noted r.notes
+
+-- the accepted changes of a journal, the oldest first
+unfoldable pub entries : List Row → List Entry
+entries [] = []
+entries (r ∷ before) = entries before ++ entries_of r
+
+-- the moment of the last row that is none of a look, 0 where there is none
+unfoldable pub now : List Row → ℕ
+now [] = 0
+now (r ∷ before) = if is_desk_row r then r.moment.0 else now before
+
+-- the greatest moment of all rows, 0 where there is none
+unfoldable pub latest : List Row → ℕ
+latest [] = 0
+latest (r ∷ before) = max r.moment.0 (latest before)
+
+-- the row at a place
+unfoldable pub row_at : ℕ → List Row → Option Row
+row_at place [] = None
+row_at place (r ∷ before) = if place == length before then Some r else row_at place before
+
+-- what a row that is none of a look is to observers
+abbrev pub turn_of : Row → List Row → Turn
+turn_of r before = record {
+  place = length before;
+  before = entries before;
+  moment_before = now before;
+  after = entries before ++ entries_of r;
+  moment_after = r.moment.0;
+}
+
+-- the rows that are none of a look, as observers see them
+unfoldable pub turns : List Row → List Turn
+turns [] = []
+turns (r ∷ before) = if is_desk_row r then turn_of r before ∷ turns before else turns before

@@ -1,0 +1,102 @@
+-- The machine: which jobs workers hold, which steps they may make, and the journals that come of it.
+use Rattle.std.specs.Prelude.{◌≡◌, ℕ, ◌+◌, ◌%◌, ◌^◌, Bool, false, ◌==◌, List, [], ◌∷◌, length, fold, Option, Some, None, Result, Ok, Err, ⊤, if◌then◌else◌}
+use Rattle.rd_base.specs.declared.peers.Peer.{Peer}
+use Rattle.message_model.specs.declared.messages.Role.{Role}
+use Rattle.message_model.specs.declared.messages.Role.TheVariants as role
+use Rattle.message_model.specs.declared.messages.Unread.{Unread}
+use Rattle.message_model.specs.Message.{Message, role_of}
+use Rattle.message_model.specs.Reading.{reading}
+use Rattle.history_model.specs.Listing.{listing, tag}
+use Rattle.event_model.specs.declared.notes.Note.{Note}
+use Rattle.event_model.specs.declared.notes.Note.TheVariants as note
+use Rattle.journal_model.specs.declared.steps.Step.{Step}
+use Rattle.journal_model.specs.declared.steps.StepKind.{StepKind}
+use Rattle.journal_model.specs.declared.steps.StepKind.TheVariants as step
+use Rattle.journal_model.specs.declared.rows.Row.{Row}
+use Rattle.journal_model.specs.Journal.{entries}
+use Rattle.journal_model.specs.Requests.{is_look_request, query_of}
+use Rattle.journal_model.specs.Rows.{row}
+
+-- the datagram is a request that is answered by a look
+abbrev pub is_look_message : Role → Message → Bool
+is_look_message role.Request m = is_look_request m
+is_look_message _ m = false
+
+abbrev pub is_look_reading : Result Message Unread → Bool
+is_look_reading (Err fault) = false
+is_look_reading (Ok m) = is_look_message (role_of m.kind m.code) m
+
+unfoldable pub is_look_datagram : List ℕ → Bool
+is_look_datagram datagram = is_look_reading (reading datagram)
+
+-- a datagram is heard by a look or by an admission
+abbrev pub hearing : List ℕ → StepKind
+hearing datagram = if is_look_datagram datagram then step.Look else step.Admit
+
+-- the job that a worker holds: what it is to do, and with whose datagram
+pub record Job : Type 0 where
+  pub kind : StepKind
+  pub peer : Peer
+  pub datagram : List ℕ
+
+-- a job that goes on with the datagram of a row
+abbrev pub job_behind : StepKind → Row → Option Job
+job_behind what r = Some (record { kind = what; peer = r.step.peer; datagram = r.step.datagram })
+
+-- an admitted write is a job
+abbrev pub write_job : List Note → Row → List Row → Option Job
+write_job (note.Admitted peer mid ∷ notes) r before = job_behind (step.Commit (length before)) r
+write_job _ r before = None
+
+-- the body that a look formed, under its tag
+abbrev pub keep_kind : Result Message Unread → List Row → ℕ → StepKind
+keep_kind (Err fault) before moment = step.Keep [] []
+keep_kind (Ok m) before moment = step.Keep (listing (query_of m) (entries before) moment) (tag (entries before) moment)
+
+-- a look that sent nothing leaves the job to keep its body
+abbrev pub keep_job : List (Peer × List ℕ) → Row → List Row → Option Job
+keep_job [] r before = job_behind (keep_kind (reading r.step.datagram) before r.moment.0) r
+keep_job (d ∷ sent) r before = None
+
+-- the job that a row of a worker leaves it with, where it had another before
+abbrev pub job_after : StepKind → Row → List Row → Option Job → Option Job
+job_after step.Admit r before held = write_job r.notes r before
+job_after step.Look r before held = keep_job r.sent r before
+job_after (step.Commit place) r before held = None
+job_after (step.Keep body tag) r before held = None
+job_after step.Tick r before held = held
+
+-- the job that a worker holds: that of its last row but ticks
+unfoldable pub job_of : ℕ → List Row → Option Job
+job_of worker [] = None
+job_of worker (r ∷ before) = if r.step.worker == worker then job_after r.step.kind r before (job_of worker before) else job_of worker before
+
+-- how many Message IDs a worker drew
+unfoldable pub drawn_by : ℕ → List Row → ℕ
+drawn_by worker [] = 0
+drawn_by worker (r ∷ before) = if r.step.worker == worker then (drawn_by worker before + r.drew) % 2 ^ 64 else drawn_by worker before
+
+-- a step that a worker may make: a tick at any time, a datagram where it holds no job, or the job that it holds
+pub data MayBegin (rows : List Row) : Step → Type 0 where
+  hears : {s : Step} → job_of s.worker rows ≡ None → s.kind ≡ hearing s.datagram → MayBegin rows s
+  goes : {s : Step} → job_of s.worker rows ≡ Some (record { kind = s.kind; peer = s.peer; datagram = s.datagram }) → MayBegin rows s
+  ticks : {s : Step} → s.kind ≡ step.Tick → MayBegin rows s
+
+-- and it names how many Message IDs its worker drew before
+pub record MayMake (rows : List Row) (s : Step) : Type 0 where
+  pub begin : MayBegin rows s
+  pub drawn : s.drawn ≡ drawn_by s.worker rows
+
+-- a journal of the machine: each row is that of a step that might be made behind the rows before it
+pub data IsJournal : List Row → Type 0 where
+  begun : IsJournal []
+  made : {rows : List Row} {s : Step} → (starved : Bool) → IsJournal rows → MayMake rows s → IsJournal (row rows s starved ∷ rows)
+
+-- the journal of steps, each with the mark whether it met want of memory
+unfoldable pub run : List (Step × Bool) → List Row
+run steps = fold (λ rows marked. row rows marked.0 marked.1 ∷ rows) [] steps
+
+-- steps that may be made one after the other, behind a journal
+abbrev pub MayRun : List (Step × Bool) → List Row → Type 0
+MayRun [] rows = ⊤
+MayRun (marked ∷ steps) rows = MayMake rows marked.0 × MayRun steps (row rows marked.0 marked.1 ∷ rows)

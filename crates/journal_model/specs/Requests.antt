@@ -1,0 +1,122 @@
+-- What a request asks for, and the refusals that it alone decides, in the order in which they are looked for.
+use Rattle.std.specs.Prelude.{ℕ, Bool, true, false, not, ◌&&◌, ◌||◌, ◌==◌, nat_lt, codes, Option, Some, None, is_some, is_none, option_and_then, if◌then◌else◌}
+use Rattle.rd_base.specs.declared.queries.Kind.{Kind}
+use Rattle.rd_base.specs.declared.queries.Kind.TheVariants as kind
+use Rattle.rd_base.specs.declared.queries.Query.{Query}
+use Rattle.message_model.specs.declared.blocks.Block.{Block}
+use Rattle.message_model.specs.declared.requests.Path.{Path}
+use Rattle.message_model.specs.declared.requests.Path.TheVariants as path
+use Rattle.message_model.specs.declared.requests.Refusal.{Refusal}
+use Rattle.message_model.specs.Message.{Message}
+use Rattle.message_model.specs.Codes as codes_of
+use Rattle.message_model.specs.Blocks.{block_read}
+use Rattle.message_model.specs.Request.{path_in, queries_in, observe_in, block1_in, block2_in}
+use Rattle.message_model.specs.Refusals.{refusal_of, refusal_code, refusal_word}
+use Rattle.document_model.specs.declared.readings.Reading.{Reading}
+use Rattle.document_model.specs.declared.readings.Reading.TheVariants as reading
+use Rattle.document_model.specs.Characters.{is_empty}
+use Rattle.document_model.specs.Criteria.{fault_of, lookup_values}
+use Rattle.journal_model.specs.Sending.{Reply, diagnostic}
+
+-- as what the query options of a request are read; those of a removal are not read
+abbrev pub reading_of : Path → ℕ → Option Reading
+reading_of path.Core code = Some reading.Lookup
+reading_of path.SimpleRd code = Some reading.Simple
+reading_of path.Rd code = Some reading.Register
+reading_of (path.Location number) code = if code == codes_of.post then Some reading.Update else None
+reading_of path.Res code = Some reading.Lookup
+reading_of path.Ep code = Some reading.Lookup
+reading_of path.Other code = None
+
+-- the query options of a request are refused
+abbrev pub has_bad_query : Message → Bool
+has_bad_query m = is_some (option_and_then (λ as_what. fault_of as_what (queries_in m)) (reading_of (path_in m) m.code))
+
+-- an update and a simple registration have no payload (RFC 9176 sections 5.1 and 5.3.1)
+abbrev pub takes_no_payload : Path → ℕ → Bool
+takes_no_payload path.SimpleRd code = true
+takes_no_payload (path.Location number) code = code == codes_of.post
+takes_no_payload _ code = false
+
+abbrev pub has_bad_payload : Message → Bool
+has_bad_payload m = takes_no_payload (path_in m) m.code && not (is_empty m.payload)
+
+-- the refusal of the query, and else that of the payload
+abbrev pub later_refusal : Message → Option Reply
+later_refusal m =
+    if has_bad_query m then Some (diagnostic codes_of.bad_request (codes "query"))
+    else if has_bad_payload m then Some (diagnostic codes_of.bad_request (codes "payload"))
+    else None
+
+-- a refusal as an answer, or else the refusal of query or payload
+abbrev pub refusal_or_later : Option Refusal → Message → Option Reply
+refusal_or_later (Some refusal) m = Some (diagnostic (refusal_code refusal) (refusal_word refusal))
+refusal_or_later None m = later_refusal m
+
+-- the first refusal that a request alone decides: option, proxy, path, method, block, accept, format, query, payload
+unfoldable pub refusal_by_request : Message → Option Reply
+refusal_by_request m = refusal_or_later (refusal_of m) m
+
+-- a lookup of resources or of endpoints, and discovery
+abbrev pub is_lookup : Path → Bool
+is_lookup path.Res = true
+is_lookup path.Ep = true
+is_lookup _ = false
+
+abbrev pub is_discovery : Path → Bool
+is_discovery path.Core = true
+is_discovery _ = false
+
+-- the kind of what is looked up at a path
+abbrev pub kind_of : Path → Kind
+kind_of path.Res = kind.Resource
+kind_of path.Ep = kind.Endpoint
+kind_of _ = kind.Discovery
+
+-- what a lookup or a discovery asks for
+abbrev pub query_of : Message → Query
+query_of m = lookup_values (kind_of (path_in m)) (queries_in m)
+
+-- the block of the answer that is asked for (RFC 7959 section 2.1)
+abbrev pub asked_block : Message → Option Block
+asked_block m = option_and_then block_read (block2_in m)
+
+-- the block that the payload is (RFC 7959 section 2.1)
+abbrev pub sent_block : Message → Option Block
+sent_block m = option_and_then block_read (block1_in m)
+
+-- the exponent of the greatest block size, 1,024 octets, which is taken where none is asked for (RFC 7959 section 2.2)
+abbrev pub greatest_szx : ℕ
+greatest_szx = 6
+
+-- the number and the exponent of a block that is asked for
+abbrev pub number_of : Option Block → ℕ
+number_of None = 0
+number_of (Some b) = b.num
+
+abbrev pub szx_of : Option Block → ℕ
+szx_of None = greatest_szx
+szx_of (Some b) = b.szx
+
+-- a block behind the first is asked for
+abbrev pub is_later_block : Message → Bool
+is_later_block m = nat_lt 0 (number_of (asked_block m))
+
+-- the values of Observe that are heeded: register and deregister (RFC 7641 section 2)
+abbrev pub register : ℕ
+register = 0
+
+abbrev pub deregister : ℕ
+deregister = 1
+
+abbrev pub is_heeded : Option ℕ → Bool
+is_heeded None = false
+is_heeded (Some value) = value == register || value == deregister
+
+-- a lookup of a first block that neither begins nor ends an observation, or a discovery: it is answered from the registrations alone
+abbrev pub only_looks : Message → Bool
+only_looks m = is_discovery (path_in m) || (is_lookup (path_in m) && not (is_later_block m) && not (is_heeded (observe_in m)))
+
+-- such a request that meets no refusal
+unfoldable pub is_look_request : Message → Bool
+is_look_request m = is_none (refusal_by_request m) && only_looks m

@@ -1,0 +1,120 @@
+-- The row of a step: what each kind of step sends and notes behind a journal.
+use Rattle.std.specs.Prelude.{ℕ, Bool, true, false, max, List, [], ◌∷◌, Option, Some, None, Result, Ok, Err}
+use Rattle.message_model.specs.declared.messages.Kind4.{Kind4}
+use Rattle.message_model.specs.declared.messages.Kind4.TheVariants.{Con, Non}
+use Rattle.message_model.specs.declared.messages.Role.{Role}
+use Rattle.message_model.specs.declared.messages.Role.TheVariants as role
+use Rattle.message_model.specs.declared.messages.Unread.{Unread}
+use Rattle.message_model.specs.declared.messages.Unread.TheVariants as unread
+use Rattle.message_model.specs.declared.requests.Path.{Path}
+use Rattle.message_model.specs.declared.requests.Path.TheVariants as path
+use Rattle.message_model.specs.Message.{Message, role_of}
+use Rattle.message_model.specs.Codes as codes_of
+use Rattle.message_model.specs.OptionTable.{first_bad_option}
+use Rattle.message_model.specs.Reading.{reading}
+use Rattle.message_model.specs.Request.{path_in}
+use Rattle.event_model.specs.declared.notes.Note.TheVariants as note
+use Rattle.journal_model.specs.declared.steps.Step.{Step}
+use Rattle.journal_model.specs.declared.steps.StepKind.{StepKind}
+use Rattle.journal_model.specs.declared.steps.StepKind.TheVariants as step
+use Rattle.journal_model.specs.declared.rows.Row.{Row}
+use Rattle.journal_model.specs.Journal.{events, entries, latest}
+use Rattle.journal_model.specs.Sending.{Effects, Reply, nothing, bare, answering, resetting}
+use Rattle.journal_model.specs.Requests.{refusal_by_request}
+use Rattle.journal_model.specs.Looks.{look_effects, keep_effects}
+use Rattle.journal_model.specs.Lookups.{lookup_effects}
+use Rattle.journal_model.specs.Writes.{write_effects}
+use Rattle.journal_model.specs.Commits.{commit_effects}
+use Rattle.journal_model.specs.Empties.{acknowledged, reset}
+use Rattle.journal_model.specs.Responses.{response_effects}
+use Rattle.journal_model.specs.Ticks.{tick_effects}
+
+-- a request that meets none of the refusals that it alone decides, by its path
+unfoldable pub served : Path → List Row → ℕ → Step → Message → Effects
+served path.Core rows moment s m = look_effects (entries rows) moment s m
+served path.Res rows moment s m = lookup_effects rows moment s m
+served path.Ep rows moment s m = lookup_effects rows moment s m
+served path.SimpleRd rows moment s m = write_effects (events rows) moment s m
+served path.Rd rows moment s m = write_effects (events rows) moment s m
+served (path.Location number) rows moment s m = write_effects (events rows) moment s m
+served path.Other rows moment s m = nothing
+
+-- a refusal is answered; an unrecognized critical option in a message that is not confirmable is answered by nothing (RFC 7252 section 5.4.1)
+abbrev pub refusal_answered : Kind4 → Option ℕ → Step → Message → Reply → Effects
+refusal_answered Non (Some number) s m refusal = nothing
+refusal_answered _ _ s m refusal = answering s m refusal []
+
+-- a request: refused, or served
+abbrev pub request_by : Option Reply → List Row → ℕ → Step → Message → Effects
+request_by (Some refusal) rows moment s m = refusal_answered m.kind (first_bad_option m.options) s m refusal
+request_by None rows moment s m = served (path_in m) rows moment s m
+
+-- want of memory: a request is answered 5.00, and a response by nothing
+abbrev pub without_memory : Step → Message → Effects
+without_memory s m = answering s m (bare codes_of.internal_server_error) []
+
+-- a message, by what it is for (RFC 7252 section 4)
+abbrev pub by_role : Role → Bool → List Row → ℕ → Step → Message → Effects
+by_role role.Ping starved rows moment s m = resetting s m.mid
+by_role role.Acknowledgement starved rows moment s m = acknowledged s.peer m.mid (events rows)
+by_role role.Reset starved rows moment s m = reset s.peer m.mid (events rows)
+by_role role.Request true rows moment s m = without_memory s m
+by_role role.Request false rows moment s m = request_by (refusal_by_request m) rows moment s m
+by_role role.Response true rows moment s m = nothing
+by_role role.Response false rows moment s m = response_effects rows moment s m
+by_role role.Ignored starved rows moment s m = nothing
+
+-- a confirmable message with a format error is rejected, and what else is no message is ignored (RFC 7252 section 4.2)
+abbrev pub unread_answered : Step → Unread → Effects
+unread_answered s (unread.Format Con mid) = resetting s mid
+unread_answered s _ = nothing
+
+-- a datagram that is heard
+abbrev pub heard : Bool → List Row → ℕ → Step → Result Message Unread → Effects
+heard starved rows moment s (Err fault) = unread_answered s fault
+heard starved rows moment s (Ok m) = by_role (role_of m.kind m.code) starved rows moment s m
+
+-- a request that is looked up
+abbrev pub looked : Bool → List Row → ℕ → Step → Result Message Unread → Effects
+looked starved rows moment s (Err fault) = nothing
+looked true rows moment s (Ok m) = without_memory s m
+looked false rows moment s (Ok m) = look_effects (entries rows) moment s m
+
+-- a write that is done; for want of memory it ends in 5.00, and its admission with it
+abbrev pub done : Bool → List Row → ℕ → ℕ → Step → Result Message Unread → Effects
+done starved rows moment place s (Err fault) = nothing
+done true rows moment place s (Ok m) = answering s m (bare codes_of.internal_server_error) (note.Failed place ∷ [])
+done false rows moment place s (Ok m) = commit_effects rows moment place s m
+
+-- a body that is kept
+abbrev pub kept_body : Bool → Step → Result Message Unread → List ℕ → List ℕ → Effects
+kept_body starved s (Err fault) body tag = nothing
+kept_body true s (Ok m) body tag = without_memory s m
+kept_body false s (Ok m) body tag = keep_effects s m body tag
+
+-- what a step does, by its kind, behind a journal at a moment
+unfoldable pub effects : StepKind → Bool → List Row → ℕ → Step → Effects
+effects step.Admit starved rows moment s = heard starved rows moment s (reading s.datagram)
+effects step.Look starved rows moment s = looked starved rows moment s (reading s.datagram)
+effects (step.Commit place) starved rows moment s = done starved rows moment place s (reading s.datagram)
+effects (step.Keep body tag) starved rows moment s = kept_body starved s (reading s.datagram) body tag
+effects step.Tick starved rows moment s = tick_effects starved rows moment s
+
+-- the moment of a step: the greatest that was handed in so far
+unfoldable pub moment_of : List Row → Step → ℕ
+moment_of rows s = max s.handed.0 (latest rows)
+
+-- what was done as a row
+abbrev pub row_with : Step → ℕ → Bool → Effects → Row
+row_with s moment starved e = record {
+  step = s;
+  moment = record { 0 = moment };
+  starved = starved;
+  sent = e.sent;
+  notes = e.notes;
+  drew = e.drew;
+}
+
+-- the row of a step behind a journal, where it met want of memory or did not
+unfoldable pub row : List Row → Step → Bool → Row
+row rows s starved = row_with s (moment_of rows s) starved (effects s.kind starved rows (moment_of rows s) s)

@@ -1,0 +1,175 @@
+-- What a tick does, part after part: notices are sent again, due observers get new ones, and requests of fetches are sent again
+-- (RFC 7252 section 4.2, RFC 7641 sections 1.3 and 4.5).
+use Rattle.std.specs.Prelude.{ℕ, ◌+◌, ◌*◌, ◌/◌, Bool, true, false, not, ◌&&◌, ◌||◌, ◌==◌, nat_le, List, [], ◌∷◌, length, fold, find, Option, Some, None, bytes_eq, if◌then◌else◌}
+use Rattle.rd_base.specs.declared.peers.Peer.{Peer}
+use Rattle.message_model.specs.declared.blocks.Block.{Block}
+use Rattle.message_model.specs.declared.messages.Kind4.TheVariants.{Con}
+use Rattle.message_model.specs.Message.{Message}
+use Rattle.message_model.specs.Spelling.{spelling}
+use Rattle.history_model.specs.Listing.{listing, tag}
+use Rattle.event_model.specs.declared.notes.Note.{Note}
+use Rattle.event_model.specs.declared.notes.Note.TheVariants as note
+use Rattle.event_model.specs.declared.notes.Observer.{Observer}
+use Rattle.event_model.specs.Same.{is_same_peer}
+use Rattle.event_model.specs.Events.{Event, noted}
+use Rattle.event_model.specs.KeptAnswers.{Answer}
+use Rattle.event_model.specs.Observers.{name_of, observers, observe_value, body_given}
+use Rattle.event_model.specs.Flights.{Flight, max_again, deadline, flight, is_waited_for}
+use Rattle.event_model.specs.Due.{Turn, is_due}
+use Rattle.event_model.specs.Fetches.{Request, fetches, last_request, request_noted, is_waiting, resendings, fetch_deadline}
+use Rattle.journal_model.specs.declared.steps.Step.{Step}
+use Rattle.journal_model.specs.declared.rows.Row.{Row}
+use Rattle.journal_model.specs.Journal.{events, entries, now, row_at, turns}
+use Rattle.journal_model.specs.Sending.{Effects, Reply, nothing, joined, noting, mid_of}
+use Rattle.journal_model.specs.Bodies.{body_reply, is_long}
+
+-- the most notices that one tick forms
+abbrev pub max_notices : ℕ
+max_notices = 64
+
+-- the octets begin a confirmable message with this Message ID: version 1, type 0 (RFC 7252 section 3)
+abbrev pub is_confirmable_with : ℕ → List ℕ → Bool
+is_confirmable_with mid (first ∷ code ∷ high ∷ low ∷ others) = first / 16 == 4 && high * 256 + low == mid
+is_confirmable_with mid _ = false
+
+-- the confirmable message with this Message ID that a row sent to a peer
+abbrev pub sent_by : Option Row → Peer → ℕ → Option (Peer × List ℕ)
+sent_by None peer mid = None
+sent_by (Some r) peer mid = find (λ d. is_same_peer d.0 peer && is_confirmable_with mid d.1) r.sent
+
+-- the same octets are sent once more, and this is noted
+abbrev pub sent_again : Option (Peer × List ℕ) → Note → Effects
+sent_again None n = noting (n ∷ [])
+sent_again (Some d) n = record { sent = d ∷ []; notes = n ∷ []; drew = 0 }
+
+-- the message that the row at a place sent to a peer with this Message ID is sent once more
+abbrev pub repeating : List Row → ℕ → Peer → ℕ → Note → Effects
+repeating rows place peer mid n = sent_again (sent_by (row_at place rows) peer mid) n
+
+-- one after the other, for each of some things
+abbrev pub each_of : {A : Type 0} → (A → Effects) → List A → Effects
+each_of does [] = nothing
+each_of does (x ∷ xs) = joined (does x) (each_of does xs)
+
+-- a notice whose wait has ended is sent again; after the last time its observer is removed
+abbrev pub notice_again : Bool → Bool → List Row → Observer → Flight → Effects
+notice_again false given_up rows o f = nothing
+notice_again true true rows o f = noting (note.Unwatched o.peer o.token ∷ [])
+notice_again true false rows o f = repeating rows f.formed.place o.peer f.mid (note.Again o.peer f.mid)
+
+-- the notice in flight to an observer, at a moment
+abbrev pub flight_again : List Row → ℕ → Observer → Option Flight → Effects
+flight_again rows moment o None = nothing
+flight_again rows moment o (Some f) =
+    notice_again (nat_le (deadline f.formed f.again) moment) (nat_le max_again (length f.again)) rows o f
+
+-- the first thing that a tick does: notices in flight whose wait has ended are sent again
+unfoldable pub notices_again : List Row → ℕ → Effects
+notices_again rows moment = each_of (λ o. flight_again rows moment o (flight o (events rows))) (observers (events rows))
+
+-- what a tick goes by: the moment, the step, the events before it, and the rows with it that are none of a look
+pub record Ticking : Type 0 where
+  pub rows : List Row
+  pub moment : ℕ
+  pub step : Step
+  pub turns : List Turn
+
+-- the tick itself is such a row: time passes in it
+abbrev pub turn_of_tick : List Row → ℕ → Turn
+turn_of_tick rows moment = record {
+  place = length rows;
+  before = entries rows;
+  moment_before = now rows;
+  after = entries rows;
+  moment_after = moment;
+}
+
+abbrev pub ticking : List Row → ℕ → Step → Ticking
+ticking rows moment s = record { rows = rows; moment = moment; step = s; turns = turn_of_tick rows moment ∷ turns rows }
+
+-- the events with what the tick noted so far
+abbrev pub events_with : Ticking → Effects → List Event
+events_with t done = noted (length t.rows) t.moment t.step.word done.notes (events t.rows)
+
+-- the block that an observer is given: the first, of the size that it asked for
+abbrev pub first_block : Observer → Option Block
+first_block o = Some (record { num = 0; more = false; szx = o.szx })
+
+-- a notice tells its block only where the body is longer than that
+abbrev pub block_told : Observer → List ℕ → Option Block
+block_told o body = if is_long (first_block o) body then first_block o else None
+
+-- a confirmable 2.05 with the listing, its tag and the next Observe value (RFC 7641 section 4.2)
+abbrev pub notice_of : Observer → ℕ → Reply → Message
+notice_of o mid reply = record {
+  kind = Con;
+  code = reply.code;
+  mid = mid;
+  token = o.token;
+  options = reply.options;
+  payload = reply.payload;
+}
+
+-- a notice of a new listing, which is kept where it is longer than the block size
+abbrev pub noticed : Ticking → Effects → Observer → Answer → ℕ → Effects
+noticed t done o answer mid = record {
+  sent = (o.peer, spelling (notice_of o mid (body_reply (Some answer.tag) (Some (observe_value (events_with t done))) (block_told o answer.body) answer.body))) ∷ [];
+  notes = note.Formed o.peer o.token answer.body (Some mid)
+      ∷ (if is_long (first_block o) answer.body then note.Kept o.peer o.key answer.body answer.tag ∷ [] else []);
+  drew = 1;
+}
+
+-- the listing equals the body that was last formed
+abbrev pub is_given : Option (List ℕ) → List ℕ → Bool
+is_given None body = false
+is_given (Some given) body = bytes_eq given body
+
+-- the observer is given the listing where that is new, and else it is noted that the listing is unchanged
+abbrev pub noticed_unless : Bool → Ticking → Effects → Observer → Answer → Effects
+noticed_unless true t done o answer = noting (note.Unchanged o.peer o.token ∷ [])
+noticed_unless false t done o answer = noticed t done o answer (mid_of t.step.worker (t.step.drawn + done.drew))
+
+-- the listing of an observer at the moment of the tick
+abbrev pub listing_for : Ticking → Observer → Answer
+listing_for t o = record { body = listing o.query (entries t.rows) t.moment; tag = tag (entries t.rows) t.moment }
+
+abbrev pub noticed_if : Bool → Ticking → Effects → Observer → Effects
+noticed_if false t done o = nothing
+noticed_if true t done o =
+    noticed_unless (is_given (body_given (name_of o) (events_with t done)) (listing_for t o).body) t done o (listing_for t o)
+
+-- an observer is looked at where it is due, no notice is in flight to its peer, and the tick has not formed as many as it may
+abbrev pub is_looked_at : Ticking → Effects → Observer → Bool
+is_looked_at t done o =
+    not (nat_le max_notices done.drew) && is_due o (events_with t done) t.turns && not (is_waited_for o.peer (events_with t done))
+
+-- one observer behind others, with what the tick did for those
+abbrev pub notice_next : Ticking → Effects → Observer → Effects
+notice_next t done o = joined done (noticed_if (is_looked_at t done o) t done o)
+
+-- the second thing that a tick does, behind the first: due observers get a notice, one after the other
+unfoldable pub notices : Ticking → Effects → Effects
+notices t done = fold (notice_next t) done (observers (events_with t done))
+
+-- a request of a fetch whose wait has ended is sent again; after the last time, and where the response came apart and did not come, the fetch ends
+abbrev pub request_again : Bool → Bool → List Row → Peer → Event → Option Request → Effects
+request_again false given_up rows peer e request = nothing
+request_again true given_up rows peer e None = nothing
+request_again true true rows peer e (Some request) = noting (note.Ceased peer ∷ [])
+request_again true false rows peer e (Some request) = repeating rows e.place peer request.mid (note.Resent peer)
+
+-- the fetch with a peer, at a moment
+abbrev pub fetch_again : List Row → ℕ → Peer → Option Event → Effects
+fetch_again rows moment peer None = nothing
+fetch_again rows moment peer (Some e) =
+    request_again (nat_le (fetch_deadline peer e (events rows)) moment)
+    (is_waiting peer (events rows) || nat_le max_again (length (resendings peer (events rows)))) rows peer e (request_noted e.note)
+
+-- the third thing that a tick does: requests of fetches whose wait has ended are sent again
+unfoldable pub requests_again : List Row → ℕ → Effects
+requests_again rows moment = each_of (λ peer. fetch_again rows moment peer (last_request peer (events rows))) (fetches (events rows))
+
+-- what a tick does: one thing strictly behind the other. Want of memory leaves out the new notices
+unfoldable pub tick_effects : Bool → List Row → ℕ → Step → Effects
+tick_effects true rows moment s = joined (notices_again rows moment) (requests_again rows moment)
+tick_effects false rows moment s = joined (notices (ticking rows moment s) (notices_again rows moment)) (requests_again rows moment)

@@ -1,0 +1,8 @@
+//! What the directory does: the steps of its machine, the row that each step adds to the journal, and what a journal shows. No function.
+#![tactic(auto)]
+
+mod rows;
+mod steps;
+
+pub use rows::Row;
+pub use steps::{Step, StepKind};

@@ -1,0 +1,8 @@
+pub mod WalkLemmas
+pub mod CutLemmas
+pub mod Passing
+pub mod LinkLaws
+pub mod LinkSteps
+pub mod ParameterSteps
+pub mod CheckLemmas
+pub mod ValueLemmas

@@ -1,0 +1,6 @@
+pub mod Places
+pub mod Ranges
+pub mod Cuts
+pub mod Parts
+pub mod Left
+pub mod Views

@@ -1,0 +1,14 @@
+-- Links and parameters as contracts see them.
+use Rattle.std.specs.Prelude.{option_map}
+use Rattle.document_model.specs.Documents.{Parameter, Link}
+use Rattle.link_format.specs.declared.links.LinkRef.{LinkRef}
+use Rattle.link_format.specs.declared.parameters.Param.{Param}
+use Rattle.link_format.specs.Left.{parameters_in}
+
+-- the link that an item is
+abbrev pub link_seen : LinkRef → Link
+link_seen l = record { target = l.target.now; parameters = parameters_in l.params.now }
+
+-- the parameter that an item is
+abbrev pub parameter_seen : Param → Parameter
+parameter_seen p = record { name = p.name.now; value = option_map (λ text. text.now) p.value }

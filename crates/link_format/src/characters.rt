@@ -1,0 +1,39 @@
+// The classes of characters that the grammar of links names (RFC 6690 section 2).
+ghost use Rattle.std.specs.Prelude.{◌≡◌, ◌==◌};
+ghost use Rattle.std.specs.List.{list_any};
+ghost use Rattle.document_model.specs.Characters as class;
+
+/// Whether the octet is one of these.
+fn is_one_of(octets: &[u8], octet: u8) -> bool
+    ensures { result ≡ list_any (λ d. octet == d) octets.now }
+{
+    octets.iter().any(|d| octet == *d)
+}
+
+/// Whether the octet is none of the control characters 0x00 to 0x1F and 0x7F.
+pub fn is_not_control(octet: u8) -> bool
+    ensures { result ≡ class.is_not_control octet }
+{
+    !octet.is_ascii_control()
+}
+
+/// Whether the octet is a character of an attribute's name (RFC 8187 section 3.2.1, attr-char).
+pub fn is_name_character(octet: u8) -> bool
+    ensures { result ≡ class.is_attribute_name_character octet }
+{
+    octet.is_ascii_alphanumeric() || is_one_of(b"!#$&+-.^_`|~", octet)
+}
+
+/// Whether the octet is a character of a value without quotes (RFC 6690 section 2, ptokenchar).
+pub fn is_token_character(octet: u8) -> bool
+    ensures { result ≡ class.is_token_character octet }
+{
+    octet.is_ascii_alphanumeric() || is_one_of(b"!#$%&'()*+-./:<=>?@[]^_`{|}~", octet)
+}
+
+/// Whether the octet may stand between `<` and `>`.
+pub fn is_target_character(octet: u8) -> bool
+    ensures { result ≡ class.is_target_character octet }
+{
+    octet.is_ascii() && is_not_control(octet) && octet != b'>'
+}

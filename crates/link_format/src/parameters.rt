@@ -1,0 +1,62 @@
+// The parameters of a link, one after the other (RFC 6690 section 2).
+ghost use Rattle.std.specs.Prelude.{◌≡◌, is_some, option_map, true};
+ghost use Rattle.document_model.specs.Documents.{parameter_text};
+ghost use Rattle.link_format.specs.Left.{parameters_of, parameters_in};
+
+use crate::parting::parameter_parts;
+use std::marker::Model;
+
+/// A parameter of a link (RFC 6690 section 2, link-param).
+#[derive(Clone, Copy, Debug)]
+pub struct Param<'a> {
+    /// Its name.
+    pub name: &'a str,
+    /// Its value as it is spelled, with its quotes, where it has one.
+    pub value: Option<&'a str>,
+    /// The whole parameter from its semicolon on.
+    pub raw: &'a str,
+    ghost spelled: { raw.now ≡ parameter_text (record { name = name.now; value = option_map (λ text. text.now) value }) },
+}
+
+/// The parameters that are left of a link, in order, as [`params`](crate::params) begins them. A contract sees them as their list.
+#[derive(Clone, Debug, Drop)]
+pub struct Params<'a> {
+    rest: &'a str,
+}
+
+impl<'a> Model for Params<'a> {
+    ghost use Rattle.std.specs.Prelude.{◌≡◌, List, is_some, true};
+    ghost use Rattle.document_model.specs.Documents.{Parameter};
+    ghost use Rattle.link_format.specs.Left.{parameters_of, parameters_in};
+
+    ghost Value = { List Parameter };
+
+    ghost view = { λ params. parameters_in params.rest.now };
+
+    ghost invariant = { λ params. is_some (parameters_of params.rest.now) ≡ true };
+}
+
+/// The parameters of a text that spells some.
+pub fn params_of_text(text: &str) -> Params<'_>
+    requires { is_some (parameters_of text.now) ≡ true }
+    ensures { result ≡ parameters_in text.now }
+{
+    Params { rest: text }
+}
+
+impl<'a> Iterator for Params<'a> {
+    ghost use Rattle.std.specs.Iterator.{YieldsFirstBy, item_count};
+    ghost use Rattle.link_format.specs.Views.{parameter_seen};
+
+    type Item = Param<'a>;
+
+    ghost next_gives = { YieldsFirstBy parameter_seen (λ params. params) };
+
+    ghost remaining = { item_count (λ params. params) };
+
+    fn next(&mut self) -> Option<Param<'a>> {
+        let (raw, name, value, rest) = parameter_parts(self.rest)?;
+        self.rest = rest;
+        Some(Param { name, value, raw })
+    }
+}

@@ -1,0 +1,100 @@
+// What values say, and texts in quotes (RFC 6690 section 2).
+ghost use Rattle.std.specs.Prelude.{◌≡◌, ◌==◌, ◌||◌, ◌++◌, IfOk, false, true, flat_map};
+ghost use Rattle.std.specs.Char.{encode_utf8};
+ghost use Rattle.std.specs.String.{string_bytes};
+ghost use Rattle.std.specs.List.{list_all};
+ghost use Rattle.document_model.specs.Characters.{quote_mark, backslash, is_not_control};
+ghost use Rattle.document_model.specs.Documents.{is_quoted_string};
+ghost use Rattle.document_model.specs.Quoting as quoting;
+ghost use Rattle.link_format.specs.Views.{parameter_seen};
+
+use crate::parameters::Param;
+use rd_base::{Starved, Text};
+use std::alloc::Global;
+
+/// The value of a parameter, without quotes and escapes; empty where it has none. An error is want of memory.
+pub fn value_of(alloc: Global, param: &Param<'_>) -> Result<Text, Starved>
+    ensures { IfOk result (λ text. text ≡ quoting.value_of (parameter_seen param.now)) }
+{
+    match param.value {
+        None => Ok(Text::new(alloc)),
+        Some(value) => unquoted(alloc, value),
+    }
+}
+
+/// What a value says: a token itself, a quoted string its content.
+fn unquoted(alloc: Global, value: &str) -> Result<Text, Starved>
+    ensures { IfOk result (λ text. text ≡ quoting.unquoted value.now) }
+{
+    let mut characters = value.chars();
+    let Some(first) = characters.next() else {
+        return Ok(Text::new(alloc));
+    };
+    if first != '"' {
+        return Text::copy_of(alloc, value);
+    }
+    content(alloc, characters.as_str())
+}
+
+/// The characters up to a closing quote, each escape replaced by the character that it escapes.
+fn content(alloc: Global, inner: &str) -> Result<Text, Starved>
+    ensures { IfOk result (λ text. text ≡ quoting.content_up_to_quote false inner.now) }
+{
+    let mut text = String::new(alloc);
+    let mut escaped = false;
+    let mut characters = inner.chars();
+    'characters: while let Some(character) = characters.next() {
+        if escaped {
+            text.push(character)?;
+            escaped = false;
+            continue;
+        }
+        if character == '"' {
+            return Ok(Text::of(text));
+        }
+        if character == '\\' {
+            escaped = true;
+            continue;
+        }
+        text.push(character)?;
+    }
+    Ok(Text::of(text))
+}
+
+/// The text in quotes, a backslash before each quote and backslash in it. An error is want of memory.
+///
+/// What it writes is a quoted string of the grammar where the text has no control character, and [`value_of`] reads it back.
+pub fn quoted(alloc: Global, value: &str) -> Result<Text, Starved>
+    ensures spelled { IfOk result (λ text. text ≡ quoting.quoted value.now) }
+    ensures reads_back { IfOk result (λ text. quoting.unquoted text ≡ value.now) }
+    ensures grammar { list_all is_not_control value.now ≡ true → IfOk result (λ text. is_quoted_string text ≡ true) }
+{
+    let mut text = String::new(alloc);
+    text.push('"')?;
+    let mut characters = value.chars();
+    'characters: while let Some(character) = characters.next() {
+        push_escaped(&mut text, character)?;
+    }
+    text.push('"')?;
+    Ok(Text::of(text))
+}
+
+/// Whether a character wants a backslash in quotes.
+fn is_mark(character: char) -> bool
+    ensures { result ≡ (character == quote_mark || character == backslash) }
+{
+    character == '"' || character == '\\'
+}
+
+/// Appends a character, with a backslash before a quote and a backslash.
+fn push_escaped(text: &mut String, character: char) -> Result<(), Starved>
+    ensures { IfOk result (λ _. string_bytes text.new ≡ string_bytes text.old ++ flat_map quoting.escaped_character (encode_utf8 character)) }
+{
+    if is_mark(character) {
+        text.push('\\')?;
+        text.push(character)?;
+        return Ok(());
+    }
+    text.push(character)?;
+    Ok(())
+}

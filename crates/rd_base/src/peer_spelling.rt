@@ -1,0 +1,158 @@
+// How a peer is written: its one text is printed, and read (RFC 5952 sections 4 to 6).
+ghost use Rattle.std.specs.Prelude.{◌≡◌, ◌↔◌, Ok, option_map, IfOk, ok_or, bytes_eq, decimal};
+ghost use Rattle.std.specs.String.{string_bytes};
+ghost use Rattle.rd_base.specs.Peers as peers;
+ghost use Rattle.rd_base.specs.Bases as bases;
+ghost use Rattle.rd_base.specs.Fronts.{behind};
+ghost use Rattle.rd_base.specs.declared.peers.Peer.{Peer};
+
+use crate::addresses::{behind_ipv4, behind_ipv6};
+use crate::matching::{behind, behind_number};
+use crate::{Host, Peer, Starved, Text};
+use std::alloc::Global;
+use std::net::{Ipv4Addr, Ipv6Addr, SocketAddr, SocketAddrV4, SocketAddrV6};
+
+/// A text that prints no peer.
+#[derive(Clone, Copy, Debug, PartialEq, Eq)]
+pub struct PeerBad;
+
+/// The socket address of a peer, with no flow information and no zone.
+fn socket_of(peer: &Peer) -> SocketAddr
+    ensures { result ≡ peers.socket_of peer.now.host peer.now.port }
+{
+    match peer.host {
+        Host::V4(octets) => { SocketAddr::V4(SocketAddrV4::new(Ipv4Addr::from(octets), peer.port)) }
+        Host::V6(groups) => {
+            SocketAddr::V6(SocketAddrV6::new(Ipv6Addr::from(groups), peer.port, 0, 0))
+        }
+    }
+}
+
+/// A peer as text, as 192.0.2.1:5683 or [2001:db8::1]:61616. An IPv6 address is dotted where it maps an IPv4 address.
+#[tactic(auto, unfolding(crate::specs::Peers::peer_text))]
+pub fn peer_text(alloc: Global, peer: &Peer) -> Result<Text, Starved>
+    ensures { IfOk result (λ text. text ≡ peers.peer_text peer.now) }
+{
+    let text = socket_of(peer).to_string(alloc)?;
+    Ok(Text::of(text))
+}
+
+/// The peer that a text names in any spelling that the standard library takes.
+#[tactic(auto, unfolding(crate::specs::Peers::named_peer))]
+fn named_peer(text: &[u8]) -> Option<Peer>
+    ensures { result ≡ peers.named_peer text.now }
+{
+    if let Ok(address) = SocketAddrV4::parse_ascii(text) {
+        return Some(Peer {
+            host: Host::V4(address.ip().octets()),
+            port: address.port(),
+        });
+    }
+    if let Ok(address) = SocketAddrV6::parse_ascii(text) {
+        return Some(Peer {
+            host: Host::V6(address.ip().segments()),
+            port: address.port(),
+        });
+    }
+    None
+}
+
+/// What stands behind an address as a host, an IPv6 address in brackets.
+#[tactic(auto, using(crate::proofs::Fronts::behind_append))]
+fn behind_host(host: Host, text: &[u8]) -> Option<&[u8]>
+    ensures { option_map (λ t. t.now) result ≡ behind (bases.host_text host) text.now }
+{
+    match host {
+        Host::V4(octets) => behind_ipv4(octets, text),
+        Host::V6(groups) => {
+            let rest = behind(b"[", text)?;
+            let rest = behind_ipv6(groups, rest)?;
+            behind(b"]", rest)
+        }
+    }
+}
+
+/// What stands behind a peer.
+fn behind_peer<'a>(peer: &Peer, text: &'a [u8]) -> Option<&'a [u8]>
+    ensures { option_map (λ t. t.now) result ≡ behind (peers.peer_text peer.now) text.now }
+{
+    let rest = behind_host(peer.host, text)?;
+    let rest = behind(b":", rest)?;
+    behind_number(peer.port, rest)
+}
+
+/// Whether a text is that of a peer.
+fn is_printed(text: &[u8], peer: &Peer) -> bool
+    ensures { result ≡ bytes_eq text.now (peers.peer_text peer.now) }
+{
+    match behind_peer(peer, text) {
+        Some(rest) => rest.is_empty(),
+        None => false,
+    }
+}
+
+/// The peer that a text prints, for a port of 1 to 65,535. Takes no memory.
+/// `PeerBad` comes exactly where the text is not what [`peer_text`] prints for any peer with such a port.
+pub fn peer_read(text: &str) -> Result<Peer, PeerBad>
+    ensures value { result ≡ ok_or (peers.peer_of text.now) (record {}) }
+    ensures printed { (peer : Peer) → (result ≡ Ok peer) ↔ peers.IsPeerText text.now peer }
+{
+    peer_read_ascii(text.as_bytes())
+}
+
+/// As [`peer_read`], of octets.
+#[tactic(auto, unfolding(crate::specs::Peers::peer_of))]
+pub fn peer_read_ascii(text: &[u8]) -> Result<Peer, PeerBad>
+    ensures value { result ≡ ok_or (peers.peer_of text.now) (record {}) }
+{
+    let Some(peer) = named_peer(text) else {
+        return Err(PeerBad);
+    };
+    if peer.port == 0 {
+        return Err(PeerBad);
+    }
+    if !is_printed(text, &peer) {
+        return Err(PeerBad);
+    }
+    Ok(peer)
+}
+
+/// An address as a host, an IPv6 address in brackets (RFC 3986 section 3.2.2).
+fn host_text(alloc: Global, host: Host) -> Result<String, Starved>
+    ensures { IfOk result (λ text. string_bytes text ≡ bases.host_text host) }
+{
+    match host {
+        Host::V4(octets) => {
+            let address = Ipv4Addr::from(octets);
+            Ok(address.to_string(alloc)?)
+        }
+        Host::V6(groups) => {
+            let address = Ipv6Addr::from(groups);
+            Ok(format!(in alloc; "[{address}]")?)
+        }
+    }
+}
+
+/// The port of CoAP (RFC 7252 section 6.1).
+const COAP_PORT: u16 = 5683;
+
+/// A colon and a port, or nothing for the port of CoAP.
+fn port_text(alloc: Global, port: u16) -> Result<String, Starved>
+    ensures { IfOk result (λ text. string_bytes text ≡ bases.port_text port) }
+{
+    if port == COAP_PORT {
+        return Ok(String::new(alloc));
+    }
+    Ok(format!(in alloc; ":{port}")?)
+}
+
+/// The base of what a peer registers without giving one (RFC 9176 section 5): `coap://` and its address, and its port where that is not 5683.
+#[tactic(auto, unfolding(crate::specs::Bases::base_of))]
+pub fn base_of(alloc: Global, peer: &Peer) -> Result<Text, Starved>
+    ensures { IfOk result (λ text. text ≡ bases.base_of peer.now) }
+{
+    let host = host_text(alloc, peer.host)?;
+    let port = port_text(alloc, peer.port)?;
+    let text = format!(in alloc; "coap://{host}{port}")?;
+    Ok(Text::of(text))
+}

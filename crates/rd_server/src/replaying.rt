@@ -1,0 +1,178 @@
+// A trace replayed: from words and octets to output lines and a status.
+ghost use Rattle.std.specs.Prelude.{◌≡◌, ◌↔◌, ℕ, List, [], map, IfSome, IfOk, true, false};
+ghost use Rattle.std.specs.String.{string_bytes};
+ghost use Rattle.std.specs.Io.KnownBytes.{IsAtEnd};
+ghost use Rattle.std.specs.List.{AllByRecursion};
+ghost use Rattle.rd_server.specs.Journal as journals;
+ghost use Rattle.rd_server.specs.Endings as ends;
+ghost use Rattle.rd_server.specs.Endings.{IsWritten, EndsBy, CountsReads, CountsWrites, IsReported};
+ghost use Rattle.rd_server.specs.Going.{Place, IsAt, ReadsAll, CountsFailed, CountsStopped, start};
+
+use crate::endings::{Read, Status, Stop};
+use crate::sessions::{Session, write_all};
+use rd_base::{Bytes, Got, Sink, Source, Starved};
+use std::alloc::Global;
+use trace_text::{LineBad, Reason};
+
+/// Reads the trace piece by piece, and does its lines.
+fn read_all<S: Source, K: Sink>(
+    session: &mut Session,
+    alloc: Global,
+    source: &mut S,
+    out: &mut K,
+) -> Read
+    ensures read { (place : Place) → IsAt place session.old
+        → ReadsAll place session.new (K.holds out.old) (K.holds out.new) (S.left source.old) (S.left source.new) result }
+    ensures failed { CountsFailed (S.faults source.old) (S.faults source.new) result }
+    ensures stopped { CountsStopped (K.faults out.old) (K.faults out.new) result }
+{
+    let mut buffer = [0u8; 4096];
+    'pieces: loop {
+        match source.read(&mut buffer) {
+            Got::Failed => return Read::Failed,
+            Got::Bytes(n) => {
+                if n == 0 {
+                    return Read::End;
+                }
+                if let Some(stop) = session.feed(alloc, &buffer[..n], out) {
+                    return Read::Stopped(stop);
+                }
+            }
+        }
+    }
+}
+
+/// The status of a stop.
+fn status_of(stop: Stop) -> Status
+    ensures { result ≡ ends.status_of stop }
+{
+    match stop {
+        Stop::Bad(bad) => Status::Line(bad),
+        Stop::Unwritten => Status::WriteFault,
+        Stop::Starved => Status::Memory,
+    }
+}
+
+/// Does the trace of a source in a session that stands at its beginning.
+fn run_in<S: Source, K: Sink>(
+    session: &mut Session,
+    alloc: Global,
+    source: &mut S,
+    out: &mut K,
+) -> Status
+    requires { IsAt start session.old }
+    ensures written { IfSome (S.left source.old) (λ bytes. IsWritten (journals.journal_of bytes) (K.holds out.old) (K.holds out.new) result) }
+    ensures reads { CountsReads (S.faults source.old) (S.faults source.new) result }
+    ensures writes { CountsWrites (K.faults out.old) (K.faults out.new) result }
+    ensures all_read { result ≡ Status.Done → IsAtEnd (S.left source.new) }
+    ensures usage { ends.IsNoUsage result }
+{
+    match read_all(session, alloc, source, out) {
+        Read::Failed => Status::ReadFault,
+        Read::Stopped(stop) => status_of(stop),
+        Read::End => match session.finish(alloc, out) {
+            None => Status::Done,
+            Some(stop) => status_of(stop),
+        },
+    }
+}
+
+/// Does the trace of a source.
+fn run<S: Source, K: Sink>(alloc: Global, source: &mut S, out: &mut K) -> Status
+    ensures written { IfSome (S.left source.old) (λ bytes. IsWritten (journals.journal_of bytes) (K.holds out.old) (K.holds out.new) result) }
+    ensures reads { CountsReads (S.faults source.old) (S.faults source.new) result }
+    ensures writes { CountsWrites (K.faults out.old) (K.faults out.new) result }
+    ensures all_read { result ≡ Status.Done → IsAtEnd (S.left source.new) }
+    ensures usage { ends.IsNoUsage result }
+{
+    let mut session = Session::new(alloc);
+    run_in(&mut session, alloc, source, out)
+}
+
+/// Whether the words are none, or the one word for one worker.
+fn are_words(words: &[String]) -> bool
+    ensures { result ≡ ends.are_words (map string_bytes words.now) }
+{
+    match words {
+        [] => true,
+        [word] => word.as_str() == "--workers=1",
+        _ => false,
+    }
+}
+
+/// What is said of a bad line.
+fn line_text(alloc: Global, bad: LineBad) -> Result<Bytes, Starved>
+    ensures { IfOk result (λ text. text ≡ ends.line_text bad) }
+{
+    let line = bad.line;
+    let why = match bad.why {
+        Reason::Long => "long",
+        Reason::Form => "form",
+        Reason::Worker => "worker",
+        Reason::Busy => "busy",
+    };
+    let text = format!(in alloc; "line {line}: {why}\n")?;
+    Ok(Bytes::of(text.into_bytes()))
+}
+
+/// Says on the error sink how a replay ended: nothing for `Done`. What can't be said there is left out.
+pub fn report<E: Sink>(alloc: Global, err: &mut E, status: Status)
+    ensures { IsReported (E.holds err.old) (E.holds err.new) status }
+{
+    match status {
+        Status::Done => {}
+        Status::ReadFault => say(err, b"read failed\n"),
+        Status::WriteFault => say(err, b"write failed\n"),
+        Status::Usage => say(err, b"usage: rd_replay [--workers N] [--make N]\n"),
+        Status::Memory => say(err, b"memory\n"),
+        Status::Line(bad) => {
+            if let Ok(text) = line_text(alloc, bad) {
+                say(err, text.as_slice());
+            }
+        }
+    }
+}
+
+/// Writes a text, or a front of it where the sink fails.
+fn say<E: Sink>(err: &mut E, text: &[u8])
+    ensures { ends.Says (E.holds err.old) (E.holds err.new) text.now }
+{
+    let _ = write_all(err, text);
+}
+
+/// Replays a trace: reads it from `source` to its end and writes to `out` a line for each datagram that is sent,
+/// and the line that ends the output. What is wrong is said on `err`.
+///
+/// `words` are those of the command line, without the program's name: none, or `--workers=1`.
+pub fn replay<S: Source, K: Sink, E: Sink>(
+    alloc: Global,
+    words: &[String],
+    source: &mut S,
+    out: &mut K,
+    err: &mut E,
+) -> Status
+    // Other words than those of the program are the one cause of Usage.
+    ensures usage { result ≡ Status.Usage ↔ (ends.are_words (map string_bytes words.now) ≡ false) }
+    // What is written for what was read: for Done the lines of the journal and the line that ends it, and nothing else;
+    // for a bad line the lines before it; else a front of all that.
+    ensures written { IfSome (S.left source.old) (λ bytes. IsWritten (journals.journal_of bytes) (K.holds out.old) (K.holds out.new) result) }
+    // The first bad line is reported and no other, and with a bad line nothing is done.
+    ensures line { IfSome (S.left source.old) (λ bytes. ends.are_words (map string_bytes words.now) ≡ true → EndsBy (journals.journal_of bytes).bad result) }
+    // The source was read to its end.
+    ensures all_read { result ≡ Status.Done → IsAtEnd (S.left source.new) }
+    // ReadFault and WriteFault come only where a count rose, and any other status only where it did not.
+    ensures reads { CountsReads (S.faults source.old) (S.faults source.new) result }
+    ensures writes { CountsWrites (K.faults out.old) (K.faults out.new) result }
+    // What is said of the status, or a front of it where `err` fails.
+    ensures reported { IsReported (E.holds err.old) (E.holds err.new) result }
+    // In each journal a step has its one entry exactly where it ends a job and is answered 2.01.
+    ensures accounted { (lines : List (List ℕ)) → AllByRecursion journals.IsAccounted (journals.journal [] 1 lines).rows }
+{
+    let status = if are_words(words) {
+        run(alloc, source, out)
+    } else {
+        Status::Usage
+    };
+    report(alloc, err, status);
+    status
+}

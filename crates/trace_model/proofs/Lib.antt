@@ -1,0 +1,13 @@
+pub mod OnLiterals
+pub mod Writing
+pub mod JournalLaw
+pub mod HeadlineLaw
+mod RegistrationTraces
+mod LookupTraces
+mod BlockTraces
+mod ObserverTraces
+mod FetchTraces
+mod FullTableTraces
+mod DueExamples
+mod BadLineTraces
+mod MeantimeTraces

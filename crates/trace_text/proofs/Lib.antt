@@ -1,0 +1,3 @@
+pub mod NumberReading
+pub mod Cuts
+pub mod Saying

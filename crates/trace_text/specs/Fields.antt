@@ -1,0 +1,8 @@
+-- The fields of a text by what stands before and after its first space.
+use Rattle.std.specs.Prelude.{ℕ, List, [], ◌∷◌, Option, Some, None}
+use Rattle.line_model.specs.Lines.{fields}
+
+-- the fields of a text that has no space, or of one that is cut at its first
+abbrev pub fields_by : List ℕ → Option (List ℕ × List ℕ) → List (List ℕ)
+fields_by text None = text ∷ []
+fields_by text (Some parts) = parts.0 ∷ fields parts.1

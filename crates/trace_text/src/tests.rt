@@ -1,0 +1,160 @@
+use super::*;
+use rd_base::{Bytes, Host, Peer, base_of, peer_read, peer_text};
+use std::alloc::Global;
+use std::test::*;
+
+/// What becomes of a line: its text as it is printed, or why it is bad.
+fn outcome(alloc: Global, line: &[u8]) -> Result<Bytes, Fail> {
+    let shown = match line_read(alloc, line) {
+        Ok(read) => line_print(alloc, &read),
+        Err(LineFault::Long) => Bytes::copy_of(alloc, b"long"),
+        Err(LineFault::Form) => Bytes::copy_of(alloc, b"form"),
+        Err(LineFault::Starved) => Bytes::copy_of(alloc, b"starved"),
+    };
+    Ok(shown.ok().ok_or("there is memory")?)
+}
+
+#[test]
+fn lines(rt: HostRuntime) -> Result<(), Fail> {
+    for (line, want) in [
+        ("", "form"),
+        ("in 0 10", "form"),
+        ("go 0 10", "go 0 10"),
+        ("go 255 0", "go 255 0"),
+        ("go 256 0", "form"),
+        ("go 007 0", "form"),
+        ("go -1 0", "form"),
+        ("go +1 0", "form"),
+        ("go 0 999999999999999", "go 0 999999999999999"),
+        ("go 0 1000000000000000", "form"),
+        ("go 0 99999999999999999999", "form"),
+        ("go  0 10", "form"),
+        (" go 0 10", "form"),
+        ("go 0 10 ", "form"),
+        ("go 0 10\r", "form"),
+        ("go 0 10\n", "form"),
+        ("go 0 1\u{0}", "form"),
+        ("GO 0 10", "form"),
+        ("go 0 10 0", "form"),
+        ("tick 3 5", "tick 3 5"),
+        ("tick 3 5 0", "tick 3 5"),
+        ("tick 3 5 4294967295", "tick 3 5 4294967295"),
+        ("tick 3 5 4294967296", "form"),
+        ("tick 3 5 1 1", "form"),
+        ("in 0 10 192.0.2.1:5683 -", "in 0 10 192.0.2.1:5683 -"),
+        ("in 0 10 192.0.2.1:5683 aBFf", "in 0 10 192.0.2.1:5683 abff"),
+        ("in 0 10 192.0.2.1:5683 abc", "form"),
+        ("in 0 10 192.0.2.1:5683 0g", "form"),
+        ("in 0 10 192.0.2.1:5683 --", "form"),
+        ("in 0 10 192.0.2.1:5683 ", "form"),
+        ("in 0 10 192.0.2.1:5683 40 40", "form"),
+        ("in 0 10 192.0.2.1:1 40", "in 0 10 192.0.2.1:1 40"),
+        ("in 0 10 192.0.2.1:65535 40", "in 0 10 192.0.2.1:65535 40"),
+        ("in 0 10 192.0.2.1:0 40", "form"),
+        ("in 0 10 192.0.2.1:65536 40", "form"),
+        ("in 0 10 192.0.2.1:080 40", "form"),
+        ("in 0 10 192.0.2.256:5 40", "form"),
+        ("in 0 10 192.0.02.1:5 40", "form"),
+        ("in 0 10 192.0.2.1 40", "form"),
+        (
+            "in 0 10 [2001:db8::1]:61616 40",
+            "in 0 10 [2001:db8::1]:61616 40",
+        ),
+        ("in 0 10 [2001:DB8::1]:5 40", "form"),
+        ("in 0 10 [2001:0db8::1]:5 40", "form"),
+        ("in 0 10 2001:db8::1:5 40", "form"),
+        ("in 0 10 [fe80::1%1]:5 40", "form"),
+        ("in 0 10 [::]:5 40", "in 0 10 [::]:5 40"),
+        ("in 0 10 [::1.2.3.4]:1 40", "form"),
+        ("in 0 10 [::102:304]:1 40", "in 0 10 [::102:304]:1 40"),
+        (
+            "in 0 10 [::ffff:1.2.3.4]:1 40",
+            "in 0 10 [::ffff:1.2.3.4]:1 40",
+        ),
+        ("in 0 10 [::ffff:102:304]:1 40", "form"),
+        ("in 0 10 [1::2:0:0:3:4]:1 40", "in 0 10 [1::2:0:0:3:4]:1 40"),
+        ("in 0 10 [1:0:0:2::3:4]:1 40", "form"),
+        ("in 0 10 [1:0:0:2::3]:1 40", "in 0 10 [1:0:0:2::3]:1 40"),
+        (
+            "in 0 10 [1:0:2:3:4:5:6:7]:1 40",
+            "in 0 10 [1:0:2:3:4:5:6:7]:1 40",
+        ),
+        ("in 0 10 [1::2:3:4:5:6:7]:1 40", "form"),
+    ] {
+        let shown = outcome(rt.alloc(), line.as_bytes())?;
+        assert!(rt; shown.as_slice() == want.as_bytes(), "at {line}");
+    }
+    Ok(())
+}
+
+#[test]
+fn lines_that_are_no_text(rt: HostRuntime) -> Result<(), Fail> {
+    for line in [
+        b"go 0 \xff".as_slice(),
+        b"\xff".as_slice(),
+        b"in 0 10 192.0.2.1:5683 \xc3".as_slice(),
+    ] {
+        let shown = outcome(rt.alloc(), line)?;
+        assert!(rt; shown.as_slice() == b"form".as_slice());
+    }
+    Ok(())
+}
+
+#[test]
+fn long_lines(rt: HostRuntime) -> Result<(), Fail> {
+    let mut line = Bytes::copy_of(rt.alloc(), b"go 0 ")
+        .ok()
+        .ok_or("there is memory")?;
+    for _ in 0..8595 {
+        line.append(b"1").ok().ok_or("there is memory")?;
+    }
+    let shown = outcome(rt.alloc(), line.as_slice())?;
+    assert!(rt; shown.as_slice() == b"form".as_slice());
+    line.append(b"1").ok().ok_or("there is memory")?;
+    let shown = outcome(rt.alloc(), line.as_slice())?;
+    assert!(rt; shown.as_slice() == b"long".as_slice());
+    Ok(())
+}
+
+#[test]
+fn datagrams_at_their_limit(rt: HostRuntime) -> Result<(), Fail> {
+    let mut line = Bytes::copy_of(rt.alloc(), b"in 0 10 192.0.2.1:5683 ")
+        .ok()
+        .ok_or("there is memory")?;
+    for _ in 0..4096 {
+        line.append(b"a5").ok().ok_or("there is memory")?;
+    }
+    let shown = outcome(rt.alloc(), line.as_slice())?;
+    assert!(rt; shown.as_slice() == line.as_slice());
+    line.append(b"a5").ok().ok_or("there is memory")?;
+    let shown = outcome(rt.alloc(), line.as_slice())?;
+    assert!(rt; shown.as_slice() == b"form".as_slice());
+    Ok(())
+}
+
+#[test]
+fn sent_and_peers(rt: HostRuntime) -> Result<(), Fail> {
+    let peer = Peer {
+        host: Host::V6([0x2001, 0xdb8, 0, 0, 0, 0, 0, 1]),
+        port: 5683,
+    };
+    let text = out_print(rt.alloc(), 0, &peer, b"aA")
+        .ok()
+        .ok_or("there is memory")?;
+    assert!(rt; text.as_slice() == b"out 0 [2001:db8::1]:5683 6141".as_slice());
+    let text = out_print(rt.alloc(), 255, &peer, b"")
+        .ok()
+        .ok_or("there is memory")?;
+    assert!(rt; text.as_slice() == b"out 255 [2001:db8::1]:5683 -".as_slice());
+    let text = peer_text(rt.alloc(), &peer).ok().ok_or("there is memory")?;
+    assert_eq!(rt; peer_read(text.as_str()), Ok(peer));
+    let base = base_of(rt.alloc(), &peer).ok().ok_or("there is memory")?;
+    assert!(rt; base.as_bytes() == b"coap://[2001:db8::1]".as_slice());
+    let other = Peer {
+        host: Host::V4([192, 0, 2, 1]),
+        port: 61616,
+    };
+    let base = base_of(rt.alloc(), &other).ok().ok_or("there is memory")?;
+    assert!(rt; base.as_bytes() == b"coap://192.0.2.1:61616".as_slice());
+    Ok(())
+}
