@@ -1,13 +1,12 @@
 -- What stands before and behind an octet, from where a search finds it.
-use Rattle.std.proofs.Common.{◌≡◌, ℕ, zero, suc, ◌+◌, ◌-◌, ◌<◌, Bool, true, false, not, ◌&&◌, ◌||◌, List, [], ◌∷◌, ◌++◌, Option, Some, None, length, get_or, take, drop, option_map, is_some, if◌then◌else◌, refl, sym, ap, ◌∙◌, add-one, arith}
-use Rattle.std.specs.Prelude.{◌==◌}
+use Rattle.std.proofs.Common.{◌≡◌, ℕ, zero, suc, ◌+◌, ◌-◌, ◌<◌, false, not, ◌&&◌, List, [], ◌∷◌, ◌++◌, Option, Some, None, length, get_or, take, drop, option_map, is_some, refl, sym, ap, ◌∙◌, arith}
 use Rattle.std.proofs.lemmas.Bool.Decides.{nat_tests}
 use Rattle.std.specs.List.{slice_range}
 use Rattle.std.specs.Option.{MatchOption}
 use denote.Ref.{Bor}
 use mathlib.Core.Logic.{◌≢◌}
 use Rattle.document_model.specs.Characters.{colon, slash}
-use Rattle.document_model.specs.References.{before, behind, begins_with, from_first, through, has_octet, has_colon_in_first_segment, scheme_in, behind_scheme, behind_two_slashes}
+use Rattle.document_model.specs.References.{before, behind, begins_with, from_first, through, has_octet, has_colon_in_first_segment, behind_two_slashes}
 use Rattle.document_model.proofs.ReferenceCuts.{before-marked, behind-marked}
 
 -- an octet that stands at no place does not stand in the text

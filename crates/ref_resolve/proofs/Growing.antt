@@ -1,7 +1,6 @@
 -- A path that grows by the segments of another, at the end of a text.
-use Rattle.std.proofs.Common.{◌≡◌, ℕ, ◌+◌, Bool, true, false, not, ◌||◌, List, [], ◌∷◌, ◌++◌, length, take, drop, Result, Ok, Err, if◌then◌else◌, refl, sym, ap, ◌∙◌, arith}
+use Rattle.std.proofs.Common.{◌≡◌, ℕ, true, false, ◌||◌, List, [], ◌∷◌, ◌++◌, length, take, drop, Result, Ok, Err, refl, sym, ap, ◌∙◌, arith}
 use Rattle.std.specs.Prelude.{◌==◌, fold, OnOk}
-use Rattle.std.specs.Str.{IsUtf8}
 use Rattle.std.proofs.Math.Seq.{take-append_seam}
 use Rattle.std.proofs.lemmas.List.{take-append-drop}
 use Rattle.std.proofs.lemmas.Bool.Decides.{nat_tests}
@@ -9,7 +8,7 @@ use Rattle.document_model.specs.Characters.{slash, is_empty}
 use Rattle.document_model.specs.References.{before, begins_with, from_first}
 use Rattle.document_model.specs.Resolution.{segments_of, with_closing_slash, is_dot_segment, without_leading_dots, remove_dot_segments}
 use Rattle.ref_resolve.specs.Paths.{path_with, closed_segments}
-use Rattle.ref_resolve.proofs.Segments.{segments_behind, first_segment, closing_behind, no_slash_behind, from_slash}
+use Rattle.ref_resolve.proofs.Segments.{segments_behind, first_segment, closing_behind, no_slash_behind}
 use Rattle.ref_resolve.proofs.Kept.{dots_removed}
 
 -- ---- the segments that are left

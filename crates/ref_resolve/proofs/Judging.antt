@@ -1,10 +1,9 @@
 -- The components that a text is taken apart into are judged one by one.
-use Rattle.std.proofs.Common.{◌≡◌, ℕ, ◌+◌, ◌-◌, ◌<◌, Bool, true, false, not, ◌&&◌, ◌||◌, List, [], ◌∷◌, ◌++◌, Option, Some, None, is_some, unwrap_or, length, if◌then◌else◌, refl, sym, ap, ◌∙◌, length-append, arith}
-use Rattle.std.specs.Prelude.{◌==◌}
+use Rattle.std.proofs.Common.{◌≡◌, ℕ, Bool, true, false, not, ◌&&◌, ◌||◌, List, [], ◌∷◌, ◌++◌, Option, Some, None, is_some, length, refl, sym, ap, ◌∙◌, length-append, arith}
 use Rattle.std.proofs.lemmas.Bool.Decides.{nat_tests}
-use Rattle.document_model.specs.Characters.{slash, colon, is_empty, is_path_character, is_query_character}
+use Rattle.document_model.specs.Characters.{slash, is_empty, is_path_character, is_query_character}
 use Rattle.document_model.specs.References.{Components, begins_with, from_first, without_query, has_colon_in_first_segment, scheme_in, behind_scheme, behind_two_slashes, authority_in, path_in, components, recomposed, scheme_text, authority_text, query_text, fragment_text, where_given, is_scheme, is_authority, is_text_of, path_fits, is_allowed, IsReference}
-use Rattle.document_model.specs.ReferenceFaults.{text_prefix, prefix_of_parts, parts_of, reference_fault_at}
+use Rattle.document_model.specs.ReferenceFaults.{prefix_of_parts, parts_of, reference_fault_at}
 use Rattle.document_model.proofs.ReferenceLaws.{recomposed-components}
 use Rattle.document_model.proofs.ReferenceReading.{components-recomposed}
 use Rattle.ref_resolve.specs.Faults.{have_no_fault, size_of}
@@ -91,10 +90,3 @@ sizes c = omega (
 
 pub size_taken_apart : (text : List ℕ) (c : Components) → c ≡ components text → size_of c ≡ length text
 size_taken_apart text c e = sym (sizes c) ∙ ap length (ap recomposed e ∙ recomposed-components text)
-
--- a fault of the fragment stands as far behind the end of the query as the fragment goes
-pub last_fault : (c : Components) (size fragment at : ℕ) → where_given is_scheme c.scheme ≡ true → where_given is_authority c.authority ≡ true → is_text_of is_path_character c.path ≡ true
-    → where_given (is_text_of is_query_character) c.query ≡ true → where_given (is_text_of is_query_character) c.fragment ≡ false
-    → size_of c ≡ size → fragment ≡ length (fragment_text c.fragment) → at ≡ 1 + text_prefix is_query_character (unwrap_or c.fragment [])
-    → (have_no_fault c ≡ false) × (size - fragment + at ≡ prefix_of_parts (parts_of c))
-last_fault c size fragment at e1 e2 e3 e4 e5 s f k = (rw (e1, e2, e3, e4, e5) refl, rw (e1, e2, e3, e4, e5) (omega (arith, s, f, k)))

@@ -1,17 +1,17 @@
 -- A path that grows segment by segment is that of the segments that are kept.
-use Rattle.std.proofs.Common.{◌≡◌, ℕ, Bool, true, false, not, ◌&&◌, ◌||◌, List, [], ◌∷◌, ◌++◌, reverse, if◌then◌else◌, refl, sym, ap, ◌∙◌, append_assoc, append-nil, arith}
+use Rattle.std.proofs.Common.{◌≡◌, ℕ, Bool, true, false, not, ◌&&◌, ◌||◌, List, [], ◌∷◌, ◌++◌, reverse, refl, sym, ap, ◌∙◌, append-nil, arith}
 use Rattle.std.specs.Prelude.{◌==◌, fold}
 use Rattle.std.specs.List.{concat, list_all}
 use Rattle.std.proofs.lemmas.List.Folds.{concat-append}
 use Rattle.std.proofs.lemmas.List.{reverse-append}
 use Rattle.std.proofs.lemmas.Bool.{and_parts, not-true}
 use Rattle.std.proofs.lemmas.Bool.Decides.{nat_tests}
-use Rattle.document_model.specs.Characters.{slash, is_empty}
+use Rattle.document_model.specs.Characters.{slash}
 use Rattle.document_model.specs.References.{before, from_first, has_octet}
 use Rattle.document_model.specs.Resolution.{onto_first_segment, segments_of, is_single_dot, is_double_dot, is_dot_segment, with_closing_slash, without_leading_dots, without_last_kept, kept_with, path_without_dots, remove_dot_segments}
 use Rattle.document_model.proofs.ReferenceCuts.{has_octet-before}
 use Rattle.ref_resolve.specs.Paths.{before_last, path_with, closed_segments}
-use Rattle.ref_resolve.proofs.Segments.{first_segment, leading_none}
+use Rattle.ref_resolve.proofs.Segments.{leading_none}
 
 -- no slash stands in the text
 abbrev pub is_segment : List ℕ → Bool

@@ -1,12 +1,12 @@
 -- A path up to its last slash, from where a search finds it; and paths that are merged.
-use Rattle.std.proofs.Common.{◌≡◌, ℕ, zero, suc, ◌<◌, Bool, true, false, not, ◌&&◌, ◌||◌, List, [], ◌∷◌, ◌++◌, Option, Some, None, is_some, length, get_or, take, if◌then◌else◌, refl, sym, ap, ◌∙◌, append_assoc, arith}
+use Rattle.std.proofs.Common.{◌≡◌, ℕ, zero, suc, ◌<◌, Bool, true, false, List, [], ◌∷◌, ◌++◌, Option, is_some, length, get_or, take, refl, sym, ap, ◌∙◌, append_assoc, arith}
 use Rattle.std.specs.Prelude.{◌==◌}
 use Rattle.std.proofs.lemmas.Bool.{false≢true}
 use Rattle.std.proofs.lemmas.Bool.Decides.{nat_tests}
 use mathlib.Core.Logic.{◌≢◌}
-use Rattle.document_model.specs.Characters.{slash, is_empty}
+use Rattle.document_model.specs.Characters.{slash}
 use Rattle.document_model.specs.References.{Components, IsReference, components, recomposed, scheme_text, authority_text, query_text, fragment_text, before, from_first, has_octet}
-use Rattle.document_model.specs.Resolution.{onto_first_segment, segments_of, up_to_last_slash, resolution, resolved}
+use Rattle.document_model.specs.Resolution.{segments_of, up_to_last_slash, resolution, resolved}
 use Rattle.document_model.proofs.ReferenceReading.{components-recomposed}
 use Rattle.ref_resolve.proofs.Cutting.{octet_nowhere, from_nowhere}
 use Rattle.ref_resolve.proofs.Segments.{segments_behind, first_segment}

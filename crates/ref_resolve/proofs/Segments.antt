@@ -1,12 +1,10 @@
 -- The segments of a path, cut off one by one.
-use Rattle.std.proofs.Common.{◌≡◌, ℕ, Bool, true, false, not, ◌&&◌, ◌||◌, List, [], ◌∷◌, ◌++◌, if◌then◌else◌, refl, sym, ap, ◌∙◌, arith}
-use Rattle.std.specs.Prelude.{◌==◌, fold}
-use Rattle.std.specs.List.{list_all}
+use Rattle.std.proofs.Common.{◌≡◌, ℕ, Bool, true, false, ◌||◌, List, [], ◌∷◌, refl, sym, ap, ◌∙◌, arith}
+use Rattle.std.specs.Prelude.{◌==◌}
 use Rattle.std.proofs.lemmas.Bool.Decides.{nat_tests}
 use Rattle.document_model.specs.Characters.{slash, is_empty}
-use Rattle.document_model.specs.References.{before, from_first, begins_with, has_octet}
+use Rattle.document_model.specs.References.{before, from_first, begins_with}
 use Rattle.document_model.specs.Resolution.{onto_first_segment, segments_of, is_dot_segment, with_closing_slash, without_leading_dots}
-use Rattle.document_model.proofs.ReferenceCuts.{has_octet-before}
 use Rattle.ref_resolve.specs.Paths.{closed_segments}
 
 -- the segments of what begins with a slash, or of nothing

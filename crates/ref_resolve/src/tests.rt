@@ -2,9 +2,11 @@
 use crate::{RefBad, host, is_uri, parts, resolve};
 use rd_base::{Starved, Text};
 use std::alloc::Global;
+use std::process::Abort;
 use std::test::Fail;
 
 /// What came of a reference: its text resolved, or the place of its first fault.
+#[derive(Drop)]
 enum Came {
     Resolved(Text),
     Refused(usize),
@@ -22,110 +24,128 @@ fn resolved(alloc: Global, base: &str, reference: &str) -> Result<Came, Starved>
     }
 }
 
+/// The base of RFC 3986 section 5.4.
+const RFC: &str = "http://a/b/c/d;p?q";
+
+/// The base of a registration.
+const LINKS: &str = "coap://h/c/d";
+
+/// A base, a reference, and the text that is resolved or the place of the first fault.
+type Case = (&'static str, &'static str, Result<&'static str, usize>);
+
+static CASES: [Case; 79] = [
+    // RFC 3986 section 5.4.1
+    (RFC, "g:h", Ok("g:h")),
+    (RFC, "g", Ok("http://a/b/c/g")),
+    (RFC, "./g", Ok("http://a/b/c/g")),
+    (RFC, "g/", Ok("http://a/b/c/g/")),
+    (RFC, "/g", Ok("http://a/g")),
+    (RFC, "//g", Ok("http://g")),
+    (RFC, "?y", Ok("http://a/b/c/d;p?y")),
+    (RFC, "g?y", Ok("http://a/b/c/g?y")),
+    (RFC, "#s", Ok("http://a/b/c/d;p?q#s")),
+    (RFC, "g#s", Ok("http://a/b/c/g#s")),
+    (RFC, "g?y#s", Ok("http://a/b/c/g?y#s")),
+    (RFC, ";x", Ok("http://a/b/c/;x")),
+    (RFC, "g;x", Ok("http://a/b/c/g;x")),
+    (RFC, "g;x?y#s", Ok("http://a/b/c/g;x?y#s")),
+    (RFC, "", Ok("http://a/b/c/d;p?q")),
+    (RFC, ".", Ok("http://a/b/c/")),
+    (RFC, "./", Ok("http://a/b/c/")),
+    (RFC, "..", Ok("http://a/b/")),
+    (RFC, "../", Ok("http://a/b/")),
+    (RFC, "../g", Ok("http://a/b/g")),
+    (RFC, "../..", Ok("http://a/")),
+    (RFC, "../../", Ok("http://a/")),
+    (RFC, "../../g", Ok("http://a/g")),
+    // RFC 3986 section 5.4.2
+    (RFC, "../../../g", Ok("http://a/g")),
+    (RFC, "../../../../g", Ok("http://a/g")),
+    (RFC, "/./g", Ok("http://a/g")),
+    (RFC, "/../g", Ok("http://a/g")),
+    (RFC, "g.", Ok("http://a/b/c/g.")),
+    (RFC, ".g", Ok("http://a/b/c/.g")),
+    (RFC, "g..", Ok("http://a/b/c/g..")),
+    (RFC, "..g", Ok("http://a/b/c/..g")),
+    (RFC, "./../g", Ok("http://a/b/g")),
+    (RFC, "./g/.", Ok("http://a/b/c/g/")),
+    (RFC, "g/./h", Ok("http://a/b/c/g/h")),
+    (RFC, "g/../h", Ok("http://a/b/c/h")),
+    (RFC, "g;x=1/./y", Ok("http://a/b/c/g;x=1/y")),
+    (RFC, "g;x=1/../y", Ok("http://a/b/c/y")),
+    (RFC, "g?y/./x", Ok("http://a/b/c/g?y/./x")),
+    (RFC, "g?y/../x", Ok("http://a/b/c/g?y/../x")),
+    (RFC, "g#s/./x", Ok("http://a/b/c/g#s/./x")),
+    (RFC, "g#s/../x", Ok("http://a/b/c/g#s/../x")),
+    (RFC, "http:g", Ok("http:g")),
+    // targets and anchors of links
+    (LINKS, "/a/../b", Ok("coap://h/b")),
+    (LINKS, "x", Ok("coap://h/c/x")),
+    (LINKS, "", Ok("coap://h/c/d")),
+    (LINKS, "http://e.org/./z", Ok("http://e.org/z")),
+    (LINKS, "//k/y", Ok("coap://k/y")),
+    (LINKS, "//k/a/../y?z", Ok("coap://k/y?z")),
+    (LINKS, "./1a:b", Ok("coap://h/c/1a:b")),
+    (LINKS, "g:a/../../b/.", Ok("g:/b/")),
+    ("coap://h", "x", Ok("coap://h/x")),
+    ("coap://h/c/../d", "", Ok("coap://h/c/../d")),
+    ("coap://h/c/../d", "x", Ok("coap://h/x")),
+    ("coap://h?q#f", "", Ok("coap://h?q")),
+    ("coap://u@h:1/c#f", "#g", Ok("coap://u@h:1/c#g")),
+    // what is no reference, and where it stops being the beginning of one
+    (LINKS, "1a:b", Err(2)),
+    (LINKS, ":b", Err(0)),
+    (LINKS, "a%41:b", Err(4)),
+    (LINKS, "a b", Err(1)),
+    (LINKS, "%", Err(1)),
+    (LINKS, "a%4", Err(3)),
+    (LINKS, "a%4/b", Err(3)),
+    (LINKS, "a?%4g", Err(4)),
+    (LINKS, "//[::1", Err(6)),
+    (LINKS, "//[::1/x", Err(6)),
+    (LINKS, "//[]", Err(3)),
+    (LINKS, "//[v1.x]", Err(3)),
+    (LINKS, "//h[1]", Err(3)),
+    (LINKS, "//[::1]x", Err(7)),
+    (LINKS, "a[1]", Err(1)),
+    (LINKS, "?[", Err(1)),
+    (LINKS, "//a@b@c", Err(5)),
+    (LINKS, "//[::1]@h", Err(7)),
+    (LINKS, "//h:8a", Err(6)),
+    (LINKS, "//u@h:8a/", Err(7)),
+    (LINKS, "/\u{E9}", Err(1)),
+    (LINKS, "//\u{E9}", Err(2)),
+    (LINKS, "#a#b", Err(2)),
+    (LINKS, "a?b#%0", Err(6)),
+];
+
+/// One case of the table.
+fn compare(
+    rt: &impl Abort,
+    alloc: Global,
+    case: &(&str, &str, Result<&str, usize>),
+) -> Result<(), Starved> {
+    let (base, reference, want) = *case;
+    match (resolved(alloc, base, reference)?, want) {
+        (Came::Resolved(text), Ok(want)) => assert_eq!(rt; text.as_str(), want, "{reference}"),
+        (Came::Refused(at), Err(want)) => assert_eq!(rt; at, want, "{reference}"),
+        (Came::Resolved(_), Err(_)) => assert!(rt; false, "{reference} is read"),
+        (Came::Refused(at), Ok(_)) => assert!(rt; false, "{reference} is refused at {at}"),
+    }
+    Ok(())
+}
+
 #[test]
 fn references(rt: HostRuntime) -> Result<(), Fail> {
     let alloc = rt.alloc();
-    // The base of RFC 3986 section 5.4, and others.
-    let rfc = "http://a/b/c/d;p?q";
-    let links = "coap://h/c/d";
+    for case in CASES.iter() {
+        compare(&rt, alloc, case)?;
+    }
     let mut steps = String::new(alloc);
     for _ in 0..8192 {
         steps.push_str("../")?;
     }
-    let cases: [(&str, &str, Result<&str, usize>); 80] = [
-        // RFC 3986 section 5.4.1
-        (rfc, "g:h", Ok("g:h")),
-        (rfc, "g", Ok("http://a/b/c/g")),
-        (rfc, "./g", Ok("http://a/b/c/g")),
-        (rfc, "g/", Ok("http://a/b/c/g/")),
-        (rfc, "/g", Ok("http://a/g")),
-        (rfc, "//g", Ok("http://g")),
-        (rfc, "?y", Ok("http://a/b/c/d;p?y")),
-        (rfc, "g?y", Ok("http://a/b/c/g?y")),
-        (rfc, "#s", Ok("http://a/b/c/d;p?q#s")),
-        (rfc, "g#s", Ok("http://a/b/c/g#s")),
-        (rfc, "g?y#s", Ok("http://a/b/c/g?y#s")),
-        (rfc, ";x", Ok("http://a/b/c/;x")),
-        (rfc, "g;x", Ok("http://a/b/c/g;x")),
-        (rfc, "g;x?y#s", Ok("http://a/b/c/g;x?y#s")),
-        (rfc, "", Ok("http://a/b/c/d;p?q")),
-        (rfc, ".", Ok("http://a/b/c/")),
-        (rfc, "./", Ok("http://a/b/c/")),
-        (rfc, "..", Ok("http://a/b/")),
-        (rfc, "../", Ok("http://a/b/")),
-        (rfc, "../g", Ok("http://a/b/g")),
-        (rfc, "../..", Ok("http://a/")),
-        (rfc, "../../", Ok("http://a/")),
-        (rfc, "../../g", Ok("http://a/g")),
-        // RFC 3986 section 5.4.2
-        (rfc, "../../../g", Ok("http://a/g")),
-        (rfc, "../../../../g", Ok("http://a/g")),
-        (rfc, "/./g", Ok("http://a/g")),
-        (rfc, "/../g", Ok("http://a/g")),
-        (rfc, "g.", Ok("http://a/b/c/g.")),
-        (rfc, ".g", Ok("http://a/b/c/.g")),
-        (rfc, "g..", Ok("http://a/b/c/g..")),
-        (rfc, "..g", Ok("http://a/b/c/..g")),
-        (rfc, "./../g", Ok("http://a/b/g")),
-        (rfc, "./g/.", Ok("http://a/b/c/g/")),
-        (rfc, "g/./h", Ok("http://a/b/c/g/h")),
-        (rfc, "g/../h", Ok("http://a/b/c/h")),
-        (rfc, "g;x=1/./y", Ok("http://a/b/c/g;x=1/y")),
-        (rfc, "g;x=1/../y", Ok("http://a/b/c/y")),
-        (rfc, "g?y/./x", Ok("http://a/b/c/g?y/./x")),
-        (rfc, "g?y/../x", Ok("http://a/b/c/g?y/../x")),
-        (rfc, "g#s/./x", Ok("http://a/b/c/g#s/./x")),
-        (rfc, "g#s/../x", Ok("http://a/b/c/g#s/../x")),
-        (rfc, "http:g", Ok("http:g")),
-        // targets and anchors of links
-        (links, "/a/../b", Ok("coap://h/b")),
-        (links, "x", Ok("coap://h/c/x")),
-        (links, "", Ok("coap://h/c/d")),
-        (links, "http://e.org/./z", Ok("http://e.org/z")),
-        (links, "//k/y", Ok("coap://k/y")),
-        (links, "//k/a/../y?z", Ok("coap://k/y?z")),
-        (links, steps.as_str(), Ok("coap://h/")),
-        (links, "./1a:b", Ok("coap://h/c/1a:b")),
-        (links, "g:a/../../b/.", Ok("g:/b/")),
-        ("coap://h", "x", Ok("coap://h/x")),
-        ("coap://h/c/../d", "", Ok("coap://h/c/../d")),
-        ("coap://h/c/../d", "x", Ok("coap://h/x")),
-        ("coap://h?q#f", "", Ok("coap://h?q")),
-        ("coap://u@h:1/c#f", "#g", Ok("coap://u@h:1/c#g")),
-        // what is no reference, and where it stops being the beginning of one
-        (links, "1a:b", Err(2)),
-        (links, ":b", Err(0)),
-        (links, "a%41:b", Err(4)),
-        (links, "a b", Err(1)),
-        (links, "%", Err(1)),
-        (links, "a%4", Err(3)),
-        (links, "a%4/b", Err(3)),
-        (links, "a?%4g", Err(4)),
-        (links, "//[::1", Err(6)),
-        (links, "//[::1/x", Err(6)),
-        (links, "//[]", Err(3)),
-        (links, "//[v1.x]", Err(3)),
-        (links, "//h[1]", Err(3)),
-        (links, "//[::1]x", Err(7)),
-        (links, "a[1]", Err(1)),
-        (links, "?[", Err(1)),
-        (links, "//a@b@c", Err(5)),
-        (links, "//[::1]@h", Err(7)),
-        (links, "//h:8a", Err(6)),
-        (links, "//u@h:8a/", Err(7)),
-        (links, "/\u{E9}", Err(1)),
-        (links, "//\u{E9}", Err(2)),
-        (links, "#a#b", Err(2)),
-        (links, "a?b#%0", Err(6)),
-    ];
-    for (base, reference, want) in cases {
-        match (resolved(alloc, base, reference)?, want) {
-            (Came::Resolved(text), Ok(want)) => assert_eq!(rt; text.as_str(), want, "{reference}"),
-            (Came::Refused(at), Err(want)) => assert_eq!(rt; at, want, "{reference}"),
-            (Came::Resolved(_), Err(_)) => assert!(rt; false, "{reference} is read"),
-            (Came::Refused(at), Ok(_)) => assert!(rt; false, "{reference} is refused at {at}"),
-        }
-    }
+    compare(&rt, alloc, &(LINKS, steps.as_str(), Ok("coap://h/")))?;
     Ok(())
 }
 

@@ -1,5 +1,5 @@
 -- The last octet is a slash, or is left behind.
-use Rattle.std.proofs.Common.{◌∷◌, arith, length}
+use Rattle.std.proofs.Common.{◌∷◌}
 use Rattle.ref_resolve.proofs.LastSlash.{moved, last_found, last_farther, last_nowhere}
 use Rattle.ref_resolve.proofs.dots.last_slash.Goals as goal
 
