@@ -1,11 +1,10 @@
 // Traces replayed from memory, with ample memory: what no contract can tell is that they end otherwise than for want of it.
 use crate::{LineBad, Reason, Status, replay};
-use rd_base::{Bytes, MemSink, MemSource, SureSink, SureSource};
+use rd_base::{Bytes, MemSink, MemSource, Starved, SureSink, SureSource};
 use std::alloc::Global;
 use std::test::Fail;
 
 /// A trace, what is written for it, how it ends, and what is said of that.
-#[derive(Drop)]
 struct Case {
     trace: &'static [u8],
     output: &'static [u8],
@@ -16,10 +15,67 @@ struct Case {
 const REGISTRATION: &[u8] =
     b"in 0 5 192.0.2.10:5683 41020001a1b2726411283865703d6e6f646531ff3c2f74656d703e\ngo 0 6\n";
 
+static CASES: [Case; 7] = [
+    Case {
+        trace: b"",
+        output: b"end 0 0 0\n",
+        status: Status::Done,
+        said: b"",
+    },
+    Case {
+        trace: b"in 0 5 192.0.2.10:5683 40011234",
+        output: b"out 0 192.0.2.10:5683 60a11234\nend 0 0 0\n",
+        status: Status::Done,
+        said: b"",
+    },
+    Case {
+        trace: b"in 0 5 192.0.2.10:5683 41020001a1b2726411283865703d6e6f646531ff3c2f74656d703e\ntick 0 5 9\ngo 0 6\n",
+        output: b"out 0 192.0.2.10:5683 61410001a18272640131\nend 1 1 0\n",
+        status: Status::Done,
+        said: b"",
+    },
+    Case {
+        trace: b"go 0 6\nin 0 10",
+        output: b"",
+        status: Status::Line(LineBad {
+            line: 2,
+            why: Reason::Form,
+        }),
+        said: b"line 2: form\n",
+    },
+    Case {
+        trace: b"tick 0 5\n\r\n",
+        output: b"",
+        status: Status::Line(LineBad {
+            line: 2,
+            why: Reason::Form,
+        }),
+        said: b"line 2: form\n",
+    },
+    Case {
+        trace: b"tick 3 5\n",
+        output: b"",
+        status: Status::Line(LineBad {
+            line: 1,
+            why: Reason::Worker,
+        }),
+        said: b"line 1: worker\n",
+    },
+    Case {
+        trace: b"in 0 5 192.0.2.10:5683 41020001a1b2726411283865703d6e6f646531ff3c2f74656d703e\nin 0 6 192.0.2.10:5683 -\n",
+        output: b"",
+        status: Status::Line(LineBad {
+            line: 2,
+            why: Reason::Busy,
+        }),
+        said: b"line 2: busy\n",
+    },
+];
+
 /// Whether a trace gives what is wanted.
-fn gives(alloc: Global, case: &Case, fail: &[u8]) -> Result<bool, Fail> {
+fn gives(alloc: Global, case: &Case) -> Result<bool, Starved> {
     let mut source = MemSource::of(Bytes::copy_of(alloc, case.trace)?, Bytes::new(alloc));
-    let mut out = MemSink::of(alloc, Bytes::copy_of(alloc, fail)?);
+    let mut out = MemSink::of(alloc, Bytes::new(alloc));
     let mut err = MemSink::of(alloc, Bytes::new(alloc));
     let status = replay(alloc, &[], &mut source, &mut out, &mut err);
     Ok(status == case.status && out.as_slice() == case.output && err.as_slice() == case.said)
@@ -27,102 +83,48 @@ fn gives(alloc: Global, case: &Case, fail: &[u8]) -> Result<bool, Fail> {
 
 #[test]
 fn traces_give_their_output(rt: HostRuntime) -> Result<(), Fail> {
-    let cases = [
-        Case {
-            trace: b"",
-            output: b"end 0 0 0\n",
-            status: Status::Done,
-            said: b"",
-        },
-        Case {
-            trace: b"in 0 5 192.0.2.10:5683 40011234",
-            output: b"out 0 192.0.2.10:5683 60a11234\nend 0 0 0\n",
-            status: Status::Done,
-            said: b"",
-        },
-        Case {
-            trace: REGISTRATION,
-            output: b"out 0 192.0.2.10:5683 61410001a18272640131\nend 1 1 0\n",
-            status: Status::Done,
-            said: b"",
-        },
-        Case {
-            trace: b"go 0 6\nin 0 10",
-            output: b"",
-            status: Status::Line(LineBad {
-                line: 2,
-                why: Reason::Form,
-            }),
-            said: b"line 2: form\n",
-        },
-        Case {
-            trace: b"tick 0 5\ntick 3 5\n",
-            output: b"",
-            status: Status::Line(LineBad {
-                line: 2,
-                why: Reason::Worker,
-            }),
-            said: b"line 2: worker\n",
-        },
-        Case {
-            trace: b"tick 0 5 9\n\r\n",
-            output: b"",
-            status: Status::Line(LineBad {
-                line: 2,
-                why: Reason::Form,
-            }),
-            said: b"line 2: form\n",
-        },
-        Case {
-            trace: b"in 0 5 192.0.2.10:5683 41020001a1b2726411283865703d6e6f646531ff3c2f74656d703e\nin 0 6 192.0.2.10:5683 -\n",
-            output: b"",
-            status: Status::Line(LineBad {
-                line: 2,
-                why: Reason::Busy,
-            }),
-            said: b"line 2: busy\n",
-        },
-    ];
-    for case in &cases {
-        assert!(rt; gives(rt.alloc(), case, b"")?);
+    for case in &CASES {
+        assert!(rt; gives(rt.alloc(), case)?);
     }
-    let failing = Case {
-        trace: REGISTRATION,
-        output: b"",
-        status: Status::WriteFault,
-        said: b"write failed\n",
-    };
-    assert!(rt; gives(rt.alloc(), &failing, &[0])?);
     Ok(())
 }
 
-#[test]
-fn sources_and_words_decide_the_status(rt: HostRuntime) -> Result<(), Fail> {
-    let alloc = rt.alloc();
-    let mut out = SureSink::new();
-    let mut err = MemSink::of(alloc, Bytes::new(alloc));
-    let mut failing = MemSource::of(
+/// How a registration is replayed where the calls of these numbers fail at the source and at the output.
+fn status_of(alloc: Global, unread: &[u8], unwritten: &[u8]) -> Result<Status, Starved> {
+    let mut source = MemSource::of(
         Bytes::copy_of(alloc, REGISTRATION)?,
-        Bytes::copy_of(alloc, &[0])?,
+        Bytes::copy_of(alloc, unread)?,
     );
-    assert_eq!(rt;
-        replay(alloc, &[], &mut failing, &mut out, &mut err),
-        Status::ReadFault
-    );
-    let mut source = SureSource::of(Bytes::copy_of(alloc, REGISTRATION)?);
-    let words = [String::from_str(alloc, "--workers=2")?];
-    assert_eq!(rt;
-        replay(alloc, &words, &mut source, &mut out, &mut err),
-        Status::Usage
-    );
-    let words = [String::from_str(alloc, "--workers=1")?];
-    assert_eq!(rt;
-        replay(alloc, &words, &mut source, &mut out, &mut err),
-        Status::Done
-    );
-    assert_eq!(rt;
-        err.as_slice(),
-        b"read failed\nusage: rd_replay [--workers N] [--make N]\n".as_slice()
-    );
+    let mut out = MemSink::of(alloc, Bytes::copy_of(alloc, unwritten)?);
+    let mut err = SureSink::new();
+    Ok(replay(alloc, &[], &mut source, &mut out, &mut err))
+}
+
+#[test]
+fn ends_decide_the_status(rt: HostRuntime) -> Result<(), Fail> {
+    assert_eq!(rt; status_of(rt.alloc(), b"", b"")?, Status::Done);
+    assert_eq!(rt; status_of(rt.alloc(), &[0], b"")?, Status::ReadFault);
+    assert_eq!(rt; status_of(rt.alloc(), b"", &[0])?, Status::WriteFault);
+    Ok(())
+}
+
+/// How one word and octets that go on without a line feed are taken.
+fn status_with(alloc: Global, word: &str, length: usize) -> Result<Status, Starved> {
+    let words = [String::from_str(alloc, word)?];
+    let mut source = SureSource::of(Bytes::of(vec![in alloc; b'x'; length]?));
+    let mut out = SureSink::new();
+    let mut err = SureSink::new();
+    Ok(replay(alloc, &words, &mut source, &mut out, &mut err))
+}
+
+#[test]
+fn words_and_long_lines_are_told(rt: HostRuntime) -> Result<(), Fail> {
+    assert_eq!(rt; status_with(rt.alloc(), "--workers=1", 0)?, Status::Done);
+    assert_eq!(rt; status_with(rt.alloc(), "--workers=2", 0)?, Status::Usage);
+    let long = Status::Line(LineBad {
+        line: 1,
+        why: Reason::Long,
+    });
+    assert_eq!(rt; status_with(rt.alloc(), "--workers=1", 20_000)?, long);
     Ok(())
 }
