@@ -3,4 +3,5 @@ pub mod SameLaws
 pub mod KeptLaws
 pub mod Noting
 pub mod LookingBack
+mod LimitExamples
 pub mod ObserverLaws

@@ -10,7 +10,7 @@ use Rattle.journal_model.specs.Ticks.{tick_effects}
 use Rattle.journal_model.specs.Rows.{heard, looked, done, kept_body, effects, moment_of, row}
 use Rattle.journal_model.specs.Machine.{MayRun, IsJournal, begun, made, run}
 
--- a row has its step, its mark, and what the step does at its moment
+-- a row has its step, whether it met want of memory, and what the step does at its moment
 pub row-step : (rows : List Row) (s : Step) (starved : Bool) → (row rows s starved).step ≡ s
 unfolding row
 row-step rows s starved = refl
@@ -74,6 +74,6 @@ pub run-IsJournal : (steps : List (Step × Bool)) → MayRun steps [] → IsJour
 unfolding run
 run-IsJournal steps may = behind steps [] may begun
   where
-    behind : (more : List (Step × Bool)) (rows : List Row) → MayRun more rows → IsJournal rows → IsJournal (fold (λ before marked. row before marked.0 marked.1 ∷ before) rows more)
+    behind : (more : List (Step × Bool)) (rows : List Row) → MayRun more rows → IsJournal rows → IsJournal (fold (λ before next. row before next.0 next.1 ∷ before) rows more)
     behind [] rows may journal = journal
-    behind (marked ∷ more) rows may journal = behind more (row rows marked.0 marked.1 ∷ rows) may.1 (made marked.1 journal may.0)
+    behind (next ∷ more) rows may journal = behind more (row rows next.0 next.1 ∷ rows) may.1 (made next.1 journal may.0)

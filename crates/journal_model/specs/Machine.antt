@@ -92,11 +92,11 @@ pub data IsJournal : List Row → Type 0 where
   begun : IsJournal []
   made : {rows : List Row} {s : Step} → (starved : Bool) → IsJournal rows → MayMake rows s → IsJournal (row rows s starved ∷ rows)
 
--- the journal of steps, each with the mark whether it met want of memory
+-- the journal of steps, each with whether it met want of memory
 unfoldable pub run : List (Step × Bool) → List Row
-run steps = fold (λ rows marked. row rows marked.0 marked.1 ∷ rows) [] steps
+run steps = fold (λ rows next. row rows next.0 next.1 ∷ rows) [] steps
 
 -- steps that may be made one after the other, behind a journal
 abbrev pub MayRun : List (Step × Bool) → List Row → Type 0
 MayRun [] rows = ⊤
-MayRun (marked ∷ steps) rows = MayMake rows marked.0 × MayRun steps (row rows marked.0 marked.1 ∷ rows)
+MayRun (next ∷ steps) rows = MayMake rows next.0 × MayRun steps (row rows next.0 next.1 ∷ rows)
