@@ -1,0 +1,3 @@
+pub mod PatternLaws
+pub mod LocationLaws
+pub mod EndpointLaws

@@ -1,0 +1,8 @@
+//! Which links and endpoints of one registration a lookup lists, and how their lines are spelled (RFC 9176 section 6).
+#![tactic(auto)]
+
+mod locations;
+mod matching;
+mod patterns;
+
+pub use matching::{endpoint_listed, endpoint_matches, link_matches, matches};
