@@ -1,3 +1,6 @@
 pub mod PatternLaws
 pub mod LocationLaws
 pub mod EndpointLaws
+pub mod PieceLaws
+pub mod ShowingLaws
+pub mod StepLaws

@@ -1,8 +1,12 @@
 //! Which links and endpoints of one registration a lookup lists, and how their lines are spelled (RFC 9176 section 6).
 #![tactic(auto)]
 
+mod appending;
 mod locations;
 mod matching;
 mod patterns;
+mod pieces;
+mod showing;
 
 pub use matching::{endpoint_listed, endpoint_matches, link_matches, matches};
+pub use showing::lines;

@@ -2,7 +2,10 @@
 ghost use Rattle.std.specs.Prelude.{◌≡◌, ◌<◌, ◌&&◌, bytes_eq, length};
 ghost use Rattle.std.specs.List.{list_any, HoldsAt};
 ghost use Rattle.document_model.specs.Matching as model;
+ghost use Rattle.std.specs.Option.{option_copied};
+ghost use Rattle.document_model.specs.Discovery as discovery_model;
 ghost use Rattle.document_model.specs.ListingLines as listing_model;
+ghost use Rattle.listing.specs.Listed.{listed_of};
 
 use crate::locations::{ROOM, write_location};
 use crate::patterns::{matches_named, matches_value};
@@ -108,11 +111,33 @@ pub fn endpoint_matches(criterion: &Criterion, record_of: &Record) -> bool
 
 /// Whether each criterion matches the link by itself or its endpoint by itself.
 #[tactic(auto, unfolding(document_model::specs::ListingLines::link_listed))]
-pub(crate) fn link_listed(query: &Query, record_of: &Record, item: &Item) -> bool
+fn link_listed(query: &Query, record_of: &Record, item: &Item) -> bool
     ensures { result ≡ listing_model.link_listed query.now record_of.now item.now }
 {
     query.criteria.as_slice().iter().all(|criterion| link_matches(criterion, item)
         || endpoint_matches(criterion, record_of))
+}
+
+/// Whether each criterion matches the link by itself.
+#[tactic(auto, unfolding(document_model::specs::Discovery::own_link_listed))]
+fn own_link_listed(query: &Query, item: &Item) -> bool
+    ensures { result ≡ discovery_model.own_link_listed query.now item.now }
+{
+    query
+        .criteria
+        .as_slice()
+        .iter()
+        .all(|criterion| link_matches(criterion, item))
+}
+
+/// Whether the query lists a link of this registration, or of the directory itself, which has no endpoint.
+pub(crate) fn is_listed(query: &Query, owner: Option<&Record>, item: &Item) -> bool
+    ensures { result ≡ listed_of query.now (option_copied owner.entry) item.now }
+{
+    match owner {
+        Some(record_of) => link_listed(query, record_of, item),
+        None => own_link_listed(query, item),
+    }
 }
 
 /// Whether a resource lookup lists the link with this index: each criterion matches the link by itself or its endpoint
