@@ -4,3 +4,6 @@ pub mod EndpointLaws
 pub mod PieceLaws
 pub mod ShowingLaws
 pub mod StepLaws
+pub mod OwnLaws
+pub mod OctetLaws
+pub mod ComparingLaws

@@ -71,3 +71,7 @@ link_line_begins item = ((item.target ++ 62 ∷ []) ++ (item.raw ++ anchor_text 
 pub endpoint_line_begins : (r : Record) → (rest : List ℕ) × (endpoint_line r ≡ 60 ∷ rest)
 unfolding endpoint_line
 endpoint_line_begins r = ((location r.number ++ 62 ∷ []) ++ (flat_map quoted_attribute (own_pairs r) ++ flat_map extra_attribute r.attrs), refl)
+
+pub endpoint_parts : (r : Record) → own_line r ++ flat_map extra_attribute r.attrs ≡ endpoint_line r
+unfolding own_line endpoint_line
+endpoint_parts r = append_assoc (bracketed (location r.number)) (flat_map quoted_attribute (own_pairs r)) (flat_map extra_attribute r.attrs)

@@ -1,3 +1,5 @@
 pub mod Appending
 pub mod Saying
 pub mod Listed
+pub mod Own
+pub mod Comparing

@@ -2,11 +2,16 @@
 #![tactic(auto)]
 
 mod appending;
+mod comparing;
 mod locations;
 mod matching;
+mod octets;
+mod own;
 mod patterns;
 mod pieces;
 mod showing;
 
+pub use comparing::same_part;
 pub use matching::{endpoint_listed, endpoint_matches, link_matches, matches};
+pub use own::discovery;
 pub use showing::lines;
