@@ -14,10 +14,6 @@ same_lines-Decides (x ∷ xs) (y ∷ ys) = (
   λ e. let head : x ≡ y = cc in let tail : xs ≡ ys = cc in rw ((bytes_eq-Decides x y).1 head, (same_lines-Decides xs ys).1 tail) refl,
 )
 
--- and it does not matter which comes first
-pub same_lines-none : (lines : List (List ℕ)) → same_lines [] lines ≡ same_lines lines []
-same_lines-none [] = refl
-same_lines-none (x ∷ xs) = refl
-
+-- an answer that the comparison gives tells it too
 pub comparing : (answer : Bool) (old new : List (List ℕ)) → answer ≡ same_lines old new → (answer ≡ true) ↔ (old ≡ new)
 comparing answer old new e = (λ yes. (same_lines-Decides old new).0 (sym e ∙ yes), λ same. e ∙ (same_lines-Decides old new).1 same)

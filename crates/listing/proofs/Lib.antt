@@ -5,5 +5,4 @@ pub mod PieceLaws
 pub mod ShowingLaws
 pub mod StepLaws
 pub mod OwnLaws
-pub mod OctetLaws
 pub mod ComparingLaws

@@ -1,31 +1,17 @@
 -- What a pattern matches, by its last octet, and the parts of a value.
-use Rattle.std.proofs.Common.{◌≡◌, ℕ, Bool, true, false, ◌&&◌, ◌||◌, List, [], ◌∷◌, ◌++◌, filter, None, bytes_eq, nat_eq, refl, sym, ap, ◌∙◌, not, cond}
-use Rattle.std.specs.List.{list_any, slice_split, starts_with}
+use Rattle.std.proofs.Common.{◌≡◌, ℕ, Bool, true, false, ◌&&◌, ◌||◌, List, [], ◌∷◌, ◌++◌, filter, Some, None, option_map, nat_eq, refl, sym, ◌∙◌, not, cond}
+use Rattle.std.specs.List.{list_any, slice_split}
 use Rattle.document_model.specs.Characters.{asterisk, is_empty}
 use Rattle.document_model.specs.Options.{is_among}
-use Rattle.document_model.specs.Matching.{before_wildcard, is_value_of, matches_value, matches_named, list_names, parts_of, space}
-use Rattle.document_model.proofs.MatchingLaws.{before_wildcard-append}
+use Rattle.document_model.specs.Matching.{before_wildcard, matches_value, matches_named, list_names, parts_of, space}
 
--- a pattern that ends otherwise has nothing before a wildcard
-pub before_wildcard_none : (front : List ℕ) (last : ℕ) → nat_eq last asterisk ≡ false → before_wildcard (front ++ last ∷ []) ≡ None
-before_wildcard_none [] last other = rw other refl
-before_wildcard_none (c ∷ []) last other = rw other refl
-before_wildcard_none (c ∷ d ∷ cs) last other = rw (before_wildcard_none (d ∷ cs) last other) refl
-
-pub with_wildcard : (pattern front value : List ℕ) (last : ℕ) → pattern ≡ front ++ last ∷ [] → last ≡ asterisk → matches_value pattern value ≡ starts_with nat_eq value front
-unfolding matches_value
-with_wildcard pattern front value last split ends =
-    ap (λ (p : List ℕ). is_value_of (before_wildcard p) p value) (split ∙ ap (λ (c : ℕ). front ++ c ∷ []) ends)
-    ∙ ap (λ o. is_value_of o (front ++ asterisk ∷ []) value) (before_wildcard-append front)
-
-pub without_wildcard : (pattern front value : List ℕ) (last : ℕ) → pattern ≡ front ++ last ∷ [] → nat_eq last asterisk ≡ false → matches_value pattern value ≡ bytes_eq value pattern
-unfolding matches_value
-without_wildcard pattern front value last split other =
-    ap (λ o. is_value_of o pattern value) (ap before_wildcard split ∙ before_wildcard_none front last other)
-
-pub of_nothing : (pattern value : List ℕ) → pattern ≡ [] → matches_value pattern value ≡ bytes_eq value pattern
-unfolding matches_value
-of_nothing pattern value empty = ap (λ o. is_value_of o pattern value) (ap before_wildcard empty)
+-- what stands before a wildcard, by the last octet
+pub before_wildcard_last : (front : List ℕ) (last : ℕ) → before_wildcard (front ++ last ∷ []) ≡ cond (nat_eq last asterisk) (Some front) None
+before_wildcard_last [] last = refl
+before_wildcard_last (c ∷ []) last = elim (nat_eq last asterisk) as (λ b. option_map (λ (front : List ℕ). c ∷ front) (cond b (Some []) None) ≡ cond b (Some (c ∷ [])) None) [ true ↦ refl | false ↦ refl ]
+before_wildcard_last (c ∷ d ∷ cs) last =
+    rw (before_wildcard_last (d ∷ cs) last)
+    (elim (nat_eq last asterisk) as (λ b. option_map (λ (front : List ℕ). c ∷ front) (cond b (Some (d ∷ cs)) None) ≡ cond b (Some (c ∷ d ∷ cs)) None) [ true ↦ refl | false ↦ refl ])
 
 -- one of those that are kept passes the test
 pub list_any-filter : {A : Type 0} (keep test : A → Bool) (xs : List A) → list_any test (filter keep xs) ≡ list_any (λ x. keep x && test x) xs

@@ -15,3 +15,6 @@ pub use comparing::same_part;
 pub use matching::{endpoint_listed, endpoint_matches, link_matches, matches};
 pub use own::discovery;
 pub use showing::lines;
+
+#[cfg(test)]
+mod tests;

@@ -1,23 +1,31 @@
 // Patterns against values (RFC 6690 section 4.1).
 ghost use Rattle.std.specs.Prelude.{◌≡◌, ◌&&◌, ◌==◌, not};
+ghost use Rattle.std.specs.Option.{option_copied};
 ghost use Rattle.std.specs.List.{list_any, slice_split};
 ghost use Rattle.document_model.specs.Options.{is_among};
 ghost use Rattle.document_model.specs.Matching as model;
 ghost use Rattle.document_model.specs.Characters.{is_empty};
 
+/// What stands before an asterisk that ends the pattern, where one does.
+#[tactic(auto, using(crate::proofs::PatternLaws::before_wildcard_last))]
+fn before_wildcard(pattern: &[u8]) -> Option<&[u8]>
+    ensures { option_copied result ≡ model.before_wildcard pattern.now }
+{
+    let (last, front) = pattern.split_last()?;
+    if *last != b'*' {
+        return None;
+    }
+    Some(front)
+}
+
 /// Whether the pattern matches the value: one that ends with an asterisk a value that begins with the rest of it, and
 /// any other the equal value.
-#[tactic(auto)]
+#[tactic(auto, unfolding(document_model::specs::Matching::matches_value))]
 pub fn matches_value(pattern: &[u8], value: &[u8]) -> bool
     ensures { result ≡ model.matches_value pattern.now value.now }
 {
-    match pattern.split_last() {
-        Some((last, front)) => {
-            if *last == b'*' {
-                return value.starts_with(front);
-            }
-            value == pattern
-        }
+    match before_wildcard(pattern) {
+        Some(front) => value.starts_with(front),
         None => value == pattern,
     }
 }

@@ -19,6 +19,7 @@ pub enum Piece<'a> {
 }
 
 /// The line of a link.
+#[tactic(auto, using(crate::proofs::PieceLaws::link_with_anchor, crate::proofs::PieceLaws::link_without_anchor))]
 pub fn link_pieces<'a>(item: &'a Item) -> [Piece<'a>; PIECES]
     ensures { said_in_order result ≡ listing_model.link_line item.now }
 {
@@ -58,7 +59,8 @@ pub fn link_pieces<'a>(item: &'a Item) -> [Piece<'a>; PIECES]
 
 /// The line of an endpoint before its extra attributes.
 pub fn endpoint_pieces<'a>(record_of: &'a Record, location: &'a [u8]) -> [Piece<'a>; PIECES]
-    ensures { location.now ≡ model.location record_of.now.number → said_in_order result ≡ own_line record_of.now }
+    requires { location.now ≡ model.location record_of.now.number }
+    ensures { said_in_order result ≡ own_line record_of.now }
 {
     let none = Piece::Plain(b"");
     let place = Piece::Plain(location);
@@ -96,6 +98,7 @@ pub fn endpoint_pieces<'a>(record_of: &'a Record, location: &'a [u8]) -> [Piece<
 }
 
 /// An extra attribute of an endpoint: its name alone where its value is empty.
+#[tactic(auto, using(crate::proofs::PieceLaws::extra_with_value, crate::proofs::PieceLaws::is_some_text))]
 pub fn attribute_pieces<'a>(pair: &'a Pair) -> [Piece<'a>; PIECES]
     ensures { said_in_order result ≡ listing_model.extra_attribute pair.now }
 {
