@@ -114,8 +114,9 @@ pub fn endpoint_matches(criterion: &Criterion, record_of: &Record) -> bool
 fn link_listed(query: &Query, record_of: &Record, item: &Item) -> bool
     ensures { result ≡ listing_model.link_listed query.now record_of.now item.now }
 {
-    query.criteria.as_slice().iter().all(|criterion| link_matches(criterion, item)
-        || endpoint_matches(criterion, record_of))
+    query.criteria.as_slice().iter().all(|criterion| {
+        link_matches(criterion, item) || endpoint_matches(criterion, record_of)
+    })
 }
 
 /// Whether each criterion matches the link by itself.
