@@ -95,12 +95,14 @@ fn given_registration(alloc: Global, given: Given) -> Result<Record, Starved> {
     }
 }
 
-fn query_of(alloc: Global, kind: Kind, given: &[(&str, &str)]) -> Result<Query, Starved> {
+fn query_of(alloc: Global, kind: Kind, given: &str) -> Result<Query, Starved> {
     let mut criteria = Vec::new(alloc);
-    for (name, pattern) in given {
-        let name = Text::copy_of(alloc, name)?;
-        let pattern = Text::copy_of(alloc, pattern)?;
-        criteria.push(Criterion { name, pattern })?;
+    for option in given.split('&') {
+        if let Some((name, pattern)) = option.split_once('=') {
+            let name = Text::copy_of(alloc, name)?;
+            let pattern = Text::copy_of(alloc, pattern)?;
+            criteria.push(Criterion { name, pattern })?;
+        }
     }
     Ok(Query {
         kind,
@@ -110,16 +112,49 @@ fn query_of(alloc: Global, kind: Kind, given: &[(&str, &str)]) -> Result<Query, 
     })
 }
 
-fn listed(
-    alloc: Global,
-    given: Given,
-    kind: Kind,
-    criteria: &[(&str, &str)],
-) -> Result<Bytes, Starved> {
-    let query = query_of(alloc, kind, criteria)?;
-    if let Kind::Discovery = kind {
-        return discovery(alloc, &query);
+/// The registration, the lookup, its criteria, and the lines that are listed.
+const CASES: &str =
+    r#"sensors resource||<coap://192.0.2.10/temp>;rt="temperature";ct=0,<coap://192.0.2.10/light>;rt="light-lux";if="sensor"
+sensors resource|rt=light-lux|<coap://192.0.2.10/light>;rt="light-lux";if="sensor"
+sensors resource|ep=node1|<coap://192.0.2.10/temp>;rt="temperature";ct=0,<coap://192.0.2.10/light>;rt="light-lux";if="sensor"
+sensors resource|href=/rd/1|<coap://192.0.2.10/temp>;rt="temperature";ct=0,<coap://192.0.2.10/light>;rt="light-lux";if="sensor"
+sensors endpoint|href=/rd/1|</rd/1>;base="coap://192.0.2.10";ep="node1";rt="core.rd-ep"
+sensors resource|href=/rd/11|
+sensors resource|anchor=*|
+sensors endpoint|anchor=*|
+sensors resource|rt=longer than every value*|
+sensors endpoint|rt=temperature&if=sensor|</rd/1>;base="coap://192.0.2.10";ep="node1";rt="core.rd-ep"
+sensors resource|rt=temperature&if=sensor|
+parts resource|rt=a*&ep=node1|<coap://192.0.2.10/s>;rt="b abc"
+parts resource|rt=b&ep=node1|<coap://192.0.2.10/s>;rt="b abc"
+parts resource|rt=b abc|
+parts resource|rt=|
+parts resource|rt=*|<coap://192.0.2.10/s>;rt="b abc"
+parts resource|rt=a*c|
+parts resource|rt=core.rd-ep|<coap://192.0.2.10/s>;rt="b abc"
+quotes resource|title=*|<coap://h/c/x>;title="";anchor="coap://h/c/\"d\""
+quotes resource|title=|<coap://h/c/x>;title="";anchor="coap://h/c/\"d\""
+quotes resource|anchor=coap://h/*&d=a\b|<coap://h/c/x>;title="";anchor="coap://h/c/\"d\""
+quotes endpoint|floor=3 "*&lit=|</rd/1>;base="coap://h/c/d";ep="node1";d="a\\b";rt="core.rd-ep";floor="3 \"east\"";lit
+quotes endpoint|lit=x|
+own discovery|rt=core.rd*|</rd>;rt="core.rd";ct=40,</rd-lookup/ep>;rt="core.rd-lookup-ep";ct=40;obs,</rd-lookup/res>;rt="core.rd-lookup-res";ct=40;obs
+own discovery|rt=core.rd|</rd>;rt="core.rd";ct=40
+own discovery|obs=|</rd-lookup/ep>;rt="core.rd-lookup-ep";ct=40;obs,</rd-lookup/res>;rt="core.rd-lookup-res";ct=40;obs
+own discovery|ep=node1|"#;
+
+fn listed(alloc: Global, place: &str, criteria: &str) -> Result<Bytes, Starved> {
+    match place {
+        "sensors resource" => listed_of(alloc, Given::Sensors, Kind::Resource, criteria),
+        "sensors endpoint" => listed_of(alloc, Given::Sensors, Kind::Endpoint, criteria),
+        "parts resource" => listed_of(alloc, Given::Parts, Kind::Resource, criteria),
+        "quotes resource" => listed_of(alloc, Given::Quotes, Kind::Resource, criteria),
+        "quotes endpoint" => listed_of(alloc, Given::Quotes, Kind::Endpoint, criteria),
+        _ => discovery(alloc, &query_of(alloc, Kind::Discovery, criteria)?),
     }
+}
+
+fn listed_of(alloc: Global, given: Given, kind: Kind, criteria: &str) -> Result<Bytes, Starved> {
+    let query = query_of(alloc, kind, criteria)?;
     let record_of = given_registration(alloc, given)?;
     let mut text = Bytes::new(alloc);
     lines(alloc, &query, &record_of, 0, u64::MAX, &mut text)?;
@@ -128,95 +163,15 @@ fn listed(
 
 #[test]
 fn lines_are_listed(rt: HostRuntime) -> Result<(), Fail> {
-    let both =
-        "<coap://192.0.2.10/temp>;rt=\"temperature\";ct=0,<coap://192.0.2.10/light>;rt=\"light-lux\";if=\"sensor\"";
-    let lux = "<coap://192.0.2.10/light>;rt=\"light-lux\";if=\"sensor\"";
-    let node = "</rd/1>;base=\"coap://192.0.2.10\";ep=\"node1\";rt=\"core.rd-ep\"";
-    let parts = "<coap://192.0.2.10/s>;rt=\"b abc\"";
-    let quotes = "<coap://h/c/x>;title=\"\";anchor=\"coap://h/c/\\\"d\\\"\"";
-    let quoting =
-        "</rd/1>;base=\"coap://h/c/d\";ep=\"node1\";d=\"a\\\\b\";rt=\"core.rd-ep\";floor=\"3 \\\"east\\\"\";lit";
-    let own =
-        "</rd>;rt=\"core.rd\";ct=40,</rd-lookup/ep>;rt=\"core.rd-lookup-ep\";ct=40;obs,</rd-lookup/res>;rt=\"core.rd-lookup-res\";ct=40;obs";
-    let observable =
-        "</rd-lookup/ep>;rt=\"core.rd-lookup-ep\";ct=40;obs,</rd-lookup/res>;rt=\"core.rd-lookup-res\";ct=40;obs";
-    let cases: [(Given, Kind, &[(&str, &str)], &str); 27] = [
-        (Given::Sensors, Kind::Resource, &[], both),
-        (Given::Sensors, Kind::Resource, &[("rt", "light-lux")], lux),
-        (Given::Sensors, Kind::Resource, &[("ep", "node1")], both),
-        (Given::Sensors, Kind::Resource, &[("href", "/rd/1")], both),
-        (Given::Sensors, Kind::Endpoint, &[("href", "/rd/1")], node),
-        (Given::Sensors, Kind::Resource, &[("href", "/rd/11")], ""),
-        (Given::Sensors, Kind::Resource, &[("anchor", "*")], ""),
-        (Given::Sensors, Kind::Endpoint, &[("anchor", "*")], ""),
-        (
-            Given::Parts,
-            Kind::Resource,
-            &[("rt", "a*"), ("ep", "node1")],
-            parts,
-        ),
-        (
-            Given::Parts,
-            Kind::Resource,
-            &[("rt", "b"), ("ep", "node1")],
-            parts,
-        ),
-        (Given::Parts, Kind::Resource, &[("rt", "b abc")], ""),
-        (Given::Parts, Kind::Resource, &[("rt", "")], ""),
-        (Given::Parts, Kind::Resource, &[("rt", "*")], parts),
-        (Given::Parts, Kind::Resource, &[("rt", "a*c")], ""),
-        (Given::Parts, Kind::Resource, &[("rt", "core.rd-ep")], parts),
-        (
-            Given::Sensors,
-            Kind::Endpoint,
-            &[("rt", "temperature"), ("if", "sensor")],
-            node,
-        ),
-        (
-            Given::Sensors,
-            Kind::Resource,
-            &[("rt", "temperature"), ("if", "sensor")],
-            "",
-        ),
-        (
-            Given::Sensors,
-            Kind::Resource,
-            &[("rt", "a pattern that is longer than every value*")],
-            "",
-        ),
-        (Given::Quotes, Kind::Resource, &[("title", "*")], quotes),
-        (Given::Quotes, Kind::Resource, &[("title", "")], quotes),
-        (
-            Given::Quotes,
-            Kind::Resource,
-            &[("anchor", "coap://h/*"), ("d", "a\\b")],
-            quotes,
-        ),
-        (
-            Given::Quotes,
-            Kind::Endpoint,
-            &[("floor", "3 \"*"), ("lit", "")],
-            quoting,
-        ),
-        (Given::Quotes, Kind::Endpoint, &[("lit", "x")], ""),
-        (Given::Sensors, Kind::Discovery, &[("rt", "core.rd*")], own),
-        (
-            Given::Sensors,
-            Kind::Discovery,
-            &[("rt", "core.rd")],
-            "</rd>;rt=\"core.rd\";ct=40",
-        ),
-        (Given::Sensors, Kind::Discovery, &[("obs", "")], observable),
-        (Given::Sensors, Kind::Discovery, &[("ep", "node1")], ""),
-    ];
-    for (given, kind, criteria, want) in cases {
-        let text = listed(rt.alloc(), given, kind, criteria)?;
-        assert_eq!(rt;
-            text.as_slice(),
-            want.as_bytes(),
-            "{given:?} {kind:?} {criteria:?}"
-        );
+    let mut count = 0;
+    for case in CASES.lines() {
+        let (place, rest) = case.split_once('|').ok_or("no place")?;
+        let (criteria, want) = rest.split_once('|').ok_or("no criteria")?;
+        let text = listed(rt.alloc(), place, criteria)?;
+        assert_eq!(rt; text.as_slice(), want.as_bytes(), "{place} {criteria}");
+        count = u32::saturating_add(count, 1);
     }
+    assert_eq!(rt; count, 27);
     Ok(())
 }
 
@@ -227,7 +182,7 @@ fn many_links_are_cut(rt: HostRuntime) -> Result<(), Fail> {
         links.push(link(rt.alloc(), "coap://h/a", "", &[])?)?;
     }
     let many = registration(rt.alloc(), "coap://h", links)?;
-    let query = query_of(rt.alloc(), Kind::Resource, &[])?;
+    let query = query_of(rt.alloc(), Kind::Resource, "")?;
     let mut text = Bytes::copy_of(rt.alloc(), b"<x>")?;
     assert_eq!(rt;
         lines(rt.alloc(), &query, &many, 998, 10, &mut text)?,
@@ -253,8 +208,8 @@ fn the_same_lines_are_told(rt: HostRuntime) -> Result<(), Fail> {
     let sensors = given_registration(rt.alloc(), Given::Sensors)?;
     let again = given_registration(rt.alloc(), Given::Sensors)?;
     let quotes = given_registration(rt.alloc(), Given::Quotes)?;
-    let lux = query_of(rt.alloc(), Kind::Resource, &[("rt", "light-lux")])?;
-    let all = query_of(rt.alloc(), Kind::Endpoint, &[])?;
+    let lux = query_of(rt.alloc(), Kind::Resource, "rt=light-lux")?;
+    let all = query_of(rt.alloc(), Kind::Endpoint, "")?;
     let cases = [
         (&lux, Some(&sensors), Some(&again), true),
         (&lux, Some(&sensors), None, false),
