@@ -24,6 +24,7 @@ path_before octets digits at low high behind =
 pub few_digits : (n : ℕ) → n < 2 ^ 64 → length (decimal n) ≤ 20
 few_digits n small = length-decimal-le 20 n (omega arith) (omega arith) small
 
+-- the octets from the path on are the location
 pub written_location : (octets before : List ℕ) (at number : ℕ) → 4 ≤ at → at ≤ length octets → length before ≤ 24 → drop at octets ≡ decimal number ++ drop 24 before
     → drop (at - 4) (slice_set (slice_set (slice_set (slice_set octets (at - 4 + 3) 47) (at - 4 + 2) 100) (at - 4 + 1) 114) (at - 4) 47) ≡ location number
 unfolding location

@@ -14,6 +14,7 @@ use Rattle.listing.specs.Listed.{listed_lines, listed_of}
 use Rattle.listing.specs.Own.{own_item}
 use Rattle.listing.proofs.ShowingLaws.{appended-joined}
 
+-- its links, as they are made
 pub own_links : own_items ≡ own_item (codes "/rd") (codes ";rt=\"core.rd\";ct=40") (codes "core.rd") false
     ∷ own_item (codes "/rd-lookup/ep") (codes ";rt=\"core.rd-lookup-ep\";ct=40;obs") (codes "core.rd-lookup-ep") true
     ∷ own_item (codes "/rd-lookup/res") (codes ";rt=\"core.rd-lookup-res\";ct=40;obs") (codes "core.rd-lookup-res") true ∷ []

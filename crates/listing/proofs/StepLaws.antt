@@ -41,6 +41,7 @@ writes_first line rest text new all c lines skip most left begins none some e h 
     ∙ ap (appended text) (sym (write_one most left line lines some))
     ∙ ap (λ (s : ℕ). appended text (shown_lines s most (line ∷ lines))) (sym none) ∙ h
 
+-- so is the line of the first link that is listed
 pub writes_link : (query : Query) (owner : Option Record) (item : Item) (more rest : List Item) (text new all : List ℕ) (skip most left : ℕ)
     → rest ≡ item ∷ more → listed_of query owner item ≡ true → skip ≡ 0 → most ≡ left + 1 → new ≡ separated text ++ link_line item
     → appended text (shown_lines skip most (listed_lines query owner rest)) ≡ all → appended new (shown_lines skip left (listed_lines query owner more)) ≡ all
@@ -65,6 +66,7 @@ separated-front : (text : List ℕ) → (more : List ℕ) × (separated text ≡
 separated-front [] = ([], refl)
 separated-front (c ∷ cs) = (comma ∷ [], refl)
 
+-- so does a text with that line
 pub front_stays : (first text new line : List ℕ) → (more : List ℕ) × (text ≡ first ++ more) → new ≡ separated text ++ line → (more : List ℕ) × (new ≡ first ++ more)
 front_stays first text new line begins e =
     let mark = separated-front text in (
@@ -77,13 +79,16 @@ front_stays first text new line begins e =
 pub endpoint_none : (query : Query) (r : Record) (text : List ℕ) (skip most : ℕ) → endpoint_listed query r ≡ false → text ≡ appended text (shown_lines skip most (listed_endpoint query r))
 endpoint_none query r text skip most h = rw h (sym (ap (appended text) (shown_none skip most) ∙ appended-nil text))
 
+-- its line may be skipped
 pub endpoint_skipped : (query : Query) (r : Record) (text : List ℕ) (skip most : ℕ) → endpoint_listed query r ≡ true → 0 < skip → text ≡ appended text (shown_lines skip most (listed_endpoint query r))
 endpoint_skipped query r text skip most h some =
     rw h (sym (ap (appended text) (skip_one skip (skip - 1) most (endpoint_line r) [] (omega arith) ∙ shown_none (skip - 1) most) ∙ appended-nil text))
 
+-- or none may be written
 pub endpoint_cut : (query : Query) (r : Record) (text : List ℕ) (skip most : ℕ) → most ≡ 0 → text ≡ appended text (shown_lines skip most (listed_endpoint query r))
 endpoint_cut query r text skip most zero = none_more text _ skip most (listed_endpoint query r) zero refl
 
+-- or it is written
 pub endpoint_written : (query : Query) (r : Record) (text new : List ℕ) (skip most : ℕ) → endpoint_listed query r ≡ true → skip ≡ 0 → 0 < most → new ≡ separated text ++ endpoint_line r
     → new ≡ appended text (shown_lines skip most (listed_endpoint query r))
 endpoint_written query r text new skip most h none some e =

@@ -3,3 +3,4 @@ pub mod Saying
 pub mod Listed
 pub mod Own
 pub mod Comparing
+pub mod Views

@@ -6,7 +6,7 @@ ghost use Rattle.listing.specs.Appending.{separated};
 ghost use Rattle.listing.specs.Saying.{own_line, said, said_in_order};
 
 use crate::locations::{ROOM, write_location};
-use crate::pieces::{Piece, attribute_pieces, endpoint_pieces, link_pieces};
+use crate::pieces::{Piece, attribute_pieces, endpoint_pieces, is_escaped, link_pieces};
 use rd_base::{Bytes, Item, Pair, Record, Starved};
 
 /// Appends an octet of a quoted text.
@@ -14,7 +14,7 @@ fn append_octet(octet: u8, into: &mut Bytes) -> Result<(), Starved>
     ensures ok { OnOk result (into.new ≡ into.old ++ escaped_character octet) }
     ensures starved { OnErr result (into.new ≡ into.old) }
 {
-    if octet == b'"' || octet == b'\\' {
+    if is_escaped(octet) {
         return into.append(&[b'\\', octet]);
     }
     into.append(&[octet])

@@ -3,7 +3,8 @@ ghost use Rattle.std.specs.Prelude.{◌≡◌, ◌↔◌, [], Some, bytes_eq, Is
 ghost use Rattle.std.specs.Option.{option_copied};
 ghost use Rattle.document_model.specs.ListingLines as listing_model;
 ghost use Rattle.document_model.specs.Matching as model;
-ghost use Rattle.listing.specs.Comparing.{FirstListed, left, part_given, same_lines};
+ghost use Rattle.listing.specs.Comparing.{part_given, same_lines};
+ghost use Rattle.listing.specs.Views.{FirstListed, left};
 ghost use Rattle.listing.specs.Listed.{listed_endpoint, listed_lines};
 
 use crate::locations::{ROOM, write_location};

@@ -1,10 +1,10 @@
 // Lines that are read octet by octet, so that two can be compared without memory.
-ghost use Rattle.std.specs.Prelude.{◌≡◌, ◌<◌, ◌++◌, ◌==◌, ◌||◌, [], false, flat_map, bytes_eq, IsTrue};
+ghost use Rattle.std.specs.Prelude.{◌≡◌, ◌<◌, ◌++◌, [], false, flat_map, bytes_eq, IsTrue};
 ghost use Rattle.document_model.specs.ListingLines as listing_model;
-ghost use Rattle.listing.specs.Comparing.{Gives, PieceAt, left, pieces_left};
+ghost use Rattle.listing.specs.Views.{Gives, PieceAt, left, pieces_left};
 ghost use Rattle.listing.specs.Saying.{said, said_in_order};
 
-use crate::pieces::{PIECES, Piece, attribute_pieces};
+use crate::pieces::{PIECES, Piece, attribute_pieces, is_escaped};
 use rd_base::Pair;
 
 /// The octets of a line that are left.
@@ -32,13 +32,6 @@ pub fn octets_of<'a>(pieces: [Piece<'a>; PIECES], extra: &'a [Pair]) -> Octets<'
         at: 0,
         extra,
     }
-}
-
-/// Whether a backslash stands before the octet in a quoted text.
-fn is_escaped(octet: u8) -> bool
-    ensures { result ≡ (octet == 34 || octet == 92) }
-{
-    octet == b'"' || octet == b'\\'
 }
 
 /// The piece with this index, where there is one.

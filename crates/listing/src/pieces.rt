@@ -1,5 +1,6 @@
 // The pieces of lines: texts that stand in them as they are, and texts that stand in quotes (RFC 6690 section 2).
-ghost use Rattle.std.specs.Prelude.{◌≡◌, ◌++◌};
+ghost use Rattle.std.specs.Prelude.{◌≡◌, ◌==◌, ◌||◌};
+ghost use Rattle.document_model.specs.Characters.{backslash, quote_mark};
 ghost use Rattle.document_model.specs.ListingLines as listing_model;
 ghost use Rattle.document_model.specs.Matching as model;
 ghost use Rattle.listing.specs.Saying.{said_in_order, own_line};
@@ -16,6 +17,13 @@ pub enum Piece<'a> {
     Plain(&'a [u8]),
     /// A text with a backslash before each quote and each backslash.
     Escaped(&'a [u8]),
+}
+
+/// Whether a backslash stands before the octet in a quoted text.
+pub fn is_escaped(octet: u8) -> bool
+    ensures { result ≡ (octet == quote_mark || octet == backslash) }
+{
+    octet == b'"' || octet == b'\\'
 }
 
 /// The line of a link.

@@ -1,5 +1,5 @@
 use Rattle.std.proofs.Common.{◌≡◌, bytes_eq, length}
-use Rattle.listing.specs.Comparing.{left}
+use Rattle.listing.specs.Views.{left}
 use Rattle.listing.proofs.octets.same_octets.Given as goal
 
 abbrev pub invariant-octets : goal.invariant-octets

@@ -1,5 +1,5 @@
 use Rattle.std.proofs.Common.{◌≡◌}
-use Rattle.listing.specs.Comparing.{left, pieces_left}
+use Rattle.listing.specs.Views.{left, pieces_left}
 use Rattle.listing.proofs.octets.Octets.next_octet.Given as goal
 
 abbrev pub invariant-pieces : goal.invariant-pieces
