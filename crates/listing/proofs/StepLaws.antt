@@ -1,0 +1,102 @@
+-- One step over the links of a registration, and none.
+use Rattle.std.proofs.Common.{◌≡◌, ℕ, ◌+◌, ◌-◌, ◌<◌, true, false, List, [], ◌∷◌, ◌++◌, length, Option, Result, Ok, Err, refl, sym, ap, ◌∙◌, add-one, append_assoc, arith}
+use Rattle.std.specs.Result.{OnOk, is_err}
+use Rattle.rd_base.specs.declared.queries.Kind.TheVariants as kind
+use Rattle.rd_base.specs.declared.queries.Query.{Query}
+use Rattle.rd_base.specs.declared.records.Item.{Item}
+use Rattle.rd_base.specs.declared.records.Record.{Record}
+use Rattle.document_model.specs.Characters.{comma}
+use Rattle.document_model.specs.ListingLines.{endpoint_line, endpoint_listed, link_line, part}
+use Rattle.listing.specs.Appending.{appended, separated, shown_lines}
+use Rattle.listing.specs.Listed.{listed_endpoint, listed_lines, listed_of}
+use Rattle.listing.proofs.PieceLaws.{endpoint_line_begins, link_line_begins}
+use Rattle.listing.proofs.ShowingLaws.{appended-cons, appended-nil, shown_none, skip_one, write_one}
+
+-- what holds where a call did not fail
+pub where_ok : {T E : Type 0} {P : Type 0} (r : Result T E) → is_err r ≡ false → OnOk r P → P
+where_ok (Ok x) passed holds = holds
+where_ok (Err e) passed holds = absurd (let clash : true ≡ false = passed in cc)
+
+-- a link that is listed stands before the lines of those behind it
+pub listed_first : (query : Query) (owner : Option Record) (item : Item) (more rest : List Item) → rest ≡ item ∷ more → listed_of query owner item ≡ true
+    → listed_lines query owner rest ≡ link_line item ∷ listed_lines query owner more
+listed_first query owner item more rest split listed = rw (split, listed) refl
+
+-- where no line may be written any more, the text stays
+pub none_more : (text all : List ℕ) (skip most : ℕ) (lines : List (List ℕ)) → most ≡ 0 → appended text (shown_lines skip most lines) ≡ all → text ≡ all
+none_more text all skip most lines zero h = sym (appended-nil text) ∙ ap (λ (m : ℕ). appended text (shown_lines skip m lines)) (sym zero) ∙ h
+
+-- where no link is left, the text stays
+pub none_left : (query : Query) (owner : Option Record) (rest : List Item) (text all : List ℕ) (skip most : ℕ) → rest ≡ []
+    → appended text (shown_lines skip most (listed_lines query owner rest)) ≡ all → text ≡ all
+none_left query owner rest text all skip most empty h =
+    sym (appended-nil text) ∙ ap (appended text) (sym (shown_none skip most)) ∙ ap (λ (xs : List Item). appended text (shown_lines skip most (listed_lines query owner xs))) (sym empty) ∙ h
+
+-- the first line of those that are left is written
+pub writes_first : (line rest text new all : List ℕ) (c : ℕ) (lines : List (List ℕ)) (skip most left : ℕ) → line ≡ c ∷ rest → skip ≡ 0 → most ≡ left + 1
+    → new ≡ separated text ++ line → appended text (shown_lines skip most (line ∷ lines)) ≡ all → appended new (shown_lines skip left lines) ≡ all
+writes_first line rest text new all c lines skip most left begins none some e h =
+    ap (λ (t : List ℕ). appended t (shown_lines skip left lines)) e ∙ ap (λ (s : ℕ). appended (separated text ++ line) (shown_lines s left lines)) none
+    ∙ appended-cons text line rest c (shown_lines 0 left lines) begins
+    ∙ ap (appended text) (sym (write_one most left line lines some))
+    ∙ ap (λ (s : ℕ). appended text (shown_lines s most (line ∷ lines))) (sym none) ∙ h
+
+-- so is the line of the first link that is listed
+pub writes_link : (query : Query) (owner : Option Record) (item : Item) (more rest : List Item) (text new all : List ℕ) (skip most left : ℕ)
+    → rest ≡ item ∷ more → listed_of query owner item ≡ true → skip ≡ 0 → most ≡ left + 1 → new ≡ separated text ++ link_line item
+    → appended text (shown_lines skip most (listed_lines query owner rest)) ≡ all → appended new (shown_lines skip left (listed_lines query owner more)) ≡ all
+writes_link query owner item more rest text new all skip most left split listed none some e h =
+    let begins = link_line_begins item in
+    writes_first (link_line item) begins.0 text new all 60 (listed_lines query owner more) skip most left begins.1 none some e
+    (ap (λ (ls : List (List ℕ)). appended text (shown_lines skip most ls)) (sym (listed_first query owner item more rest split listed)) ∙ h)
+
+-- and is one of those that are counted
+pub counts_link : (query : Query) (owner : Option Record) (item : Item) (more rest : List Item) (skip most left : ℕ)
+    → rest ≡ item ∷ more → listed_of query owner item ≡ true → skip ≡ 0 → most ≡ left + 1
+    → length (shown_lines skip most (listed_lines query owner rest)) ≡ length (shown_lines skip left (listed_lines query owner more)) + 1
+counts_link query owner item more rest skip most left split listed none some =
+    ap (λ (ls : List (List ℕ)). length (shown_lines skip most ls)) (listed_first query owner item more rest split listed)
+    ∙ ap (λ (s : ℕ). length (shown_lines s most (link_line item ∷ listed_lines query owner more))) none
+    ∙ ap (λ (ls : List (List ℕ)). length ls) (write_one most left (link_line item) (listed_lines query owner more) some)
+    ∙ sym (add-one (length (shown_lines 0 left (listed_lines query owner more))))
+    ∙ ap (λ (s : ℕ). length (shown_lines s left (listed_lines query owner more)) + 1) (sym none)
+
+-- a text before a line begins as it was
+separated-front : (text : List ℕ) → (more : List ℕ) × (separated text ≡ text ++ more)
+separated-front [] = ([], refl)
+separated-front (c ∷ cs) = (comma ∷ [], refl)
+
+-- so does a text with that line
+pub front_stays : (first text new line : List ℕ) → (more : List ℕ) × (text ≡ first ++ more) → new ≡ separated text ++ line → (more : List ℕ) × (new ≡ first ++ more)
+front_stays first text new line begins e =
+    let mark = separated-front text in (
+      begins.0 ++ (mark.0 ++ line),
+      e ∙ ap (λ (t : List ℕ). t ++ line) (mark.1 ∙ ap (λ (t : List ℕ). t ++ mark.0) begins.1)
+          ∙ ap (λ (t : List ℕ). t ++ line) (append_assoc first begins.0 mark.0) ∙ append_assoc first (begins.0 ++ mark.0) line ∙ ap (λ (t : List ℕ). first ++ t) (append_assoc begins.0 mark.0 line),
+    )
+
+-- an endpoint that is listed has one line, and another none
+pub endpoint_none : (query : Query) (r : Record) (text : List ℕ) (skip most : ℕ) → endpoint_listed query r ≡ false → text ≡ appended text (shown_lines skip most (listed_endpoint query r))
+endpoint_none query r text skip most h = rw h (sym (ap (appended text) (shown_none skip most) ∙ appended-nil text))
+
+-- its line may be skipped
+pub endpoint_skipped : (query : Query) (r : Record) (text : List ℕ) (skip most : ℕ) → endpoint_listed query r ≡ true → 0 < skip → text ≡ appended text (shown_lines skip most (listed_endpoint query r))
+endpoint_skipped query r text skip most h some =
+    rw h (sym (ap (appended text) (skip_one skip (skip - 1) most (endpoint_line r) [] (omega arith) ∙ shown_none (skip - 1) most) ∙ appended-nil text))
+
+-- or none may be written
+pub endpoint_cut : (query : Query) (r : Record) (text : List ℕ) (skip most : ℕ) → most ≡ 0 → text ≡ appended text (shown_lines skip most (listed_endpoint query r))
+endpoint_cut query r text skip most zero = none_more text _ skip most (listed_endpoint query r) zero refl
+
+-- or it is written
+pub endpoint_written : (query : Query) (r : Record) (text new : List ℕ) (skip most : ℕ) → endpoint_listed query r ≡ true → skip ≡ 0 → 0 < most → new ≡ separated text ++ endpoint_line r
+    → new ≡ appended text (shown_lines skip most (listed_endpoint query r))
+endpoint_written query r text new skip most h none some e =
+    let begins = endpoint_line_begins r in
+    rw h (sym (appended-nil new) ∙ ap (appended new) (sym (shown_none skip (most - 1)))
+    ∙ writes_first (endpoint_line r) begins.0 text new _ 60 [] skip most (most - 1) begins.1 none (omega arith) e refl)
+
+-- a registration gives no line to discovery
+pub gives_nothing : (query : Query) (r : Record) (text : List ℕ) (skip most : ℕ) → query.kind ≡ kind.Discovery → text ≡ appended text (shown_lines skip most (part query r))
+unfolding part
+gives_nothing query r text skip most h = rw h (sym (ap (appended text) (shown_none skip most) ∙ appended-nil text))

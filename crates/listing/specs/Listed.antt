@@ -1,0 +1,20 @@
+-- Which links are listed, of a registration or of the directory itself, and their lines.
+use Rattle.std.specs.Prelude.{ℕ, Bool, List, [], ◌∷◌, map, filter, Option, Some, None, if◌then◌else◌}
+use Rattle.rd_base.specs.declared.queries.Query.{Query}
+use Rattle.rd_base.specs.declared.records.Item.{Item}
+use Rattle.rd_base.specs.declared.records.Record.{Record}
+use Rattle.document_model.specs.Discovery.{own_link_listed}
+use Rattle.document_model.specs.ListingLines.{endpoint_line, endpoint_listed, link_line, link_listed}
+
+-- the query lists a link of this registration, or one of the directory itself, which has no endpoint
+abbrev pub listed_of : Query → Option Record → Item → Bool
+listed_of query (Some r) item = link_listed query r item
+listed_of query None item = own_link_listed query item
+
+-- the lines of the links that are listed
+abbrev pub listed_lines : Query → Option Record → List Item → List (List ℕ)
+listed_lines query owner items = map link_line (filter (listed_of query owner) items)
+
+-- the line of an endpoint, where it is listed
+abbrev pub listed_endpoint : Query → Record → List (List ℕ)
+listed_endpoint query r = if endpoint_listed query r then endpoint_line r ∷ [] else []

@@ -1,0 +1,19 @@
+-- The directory's own links, as they stand in memory.
+use Rattle.std.specs.Prelude.{ℕ, Bool, List, [], ◌∷◌, codes, None, if◌then◌else◌}
+use Rattle.rd_base.specs.declared.attributes.Pair.{Pair}
+use Rattle.rd_base.specs.declared.records.Item.{Item}
+
+-- the attribute of a resource that can be observed (RFC 7641 section 6)
+abbrev pub observable_pairs : Bool → List Pair
+observable_pairs observable = if observable then record { name = codes "obs"; value = [] } ∷ [] else []
+
+-- a link of the directory itself: its type, that it gives link documents, and whether it can be observed
+abbrev pub own_item : List ℕ → List ℕ → List ℕ → Bool → Item
+own_item target raw type observable = record {
+  target_ref = target;
+  anchor_ref = None;
+  target = target;
+  anchor = None;
+  raw = raw;
+  pairs = record { name = codes "rt"; value = type } ∷ record { name = codes "ct"; value = codes "40" } ∷ observable_pairs observable;
+}

@@ -1,0 +1,114 @@
+// Lines that are read octet by octet, so that two can be compared without memory.
+ghost use Rattle.std.specs.Prelude.{◌≡◌, ◌<◌, ◌++◌, [], false, flat_map, bytes_eq, IsTrue};
+ghost use Rattle.document_model.specs.ListingLines as listing_model;
+ghost use Rattle.listing.specs.Views.{Gives, PieceAt, left, pieces_left};
+ghost use Rattle.listing.specs.Saying.{said, said_in_order};
+
+use crate::pieces::{PIECES, Piece, attribute_pieces, is_escaped};
+use rd_base::Pair;
+
+/// The octets of a line that are left.
+#[derive(Drop)]
+pub struct Octets<'a> {
+    /// Octets that come first.
+    run: &'a [u8],
+    /// Octets behind them, each escaped where it has to be.
+    escaped: &'a [u8],
+    /// Pieces of which those from `at` on stand behind them.
+    pieces: [Piece<'a>; PIECES],
+    at: usize,
+    /// Extra attributes behind the pieces.
+    extra: &'a [Pair],
+}
+
+/// The octets of pieces and of extra attributes behind them.
+pub fn octets_of<'a>(pieces: [Piece<'a>; PIECES], extra: &'a [Pair]) -> Octets<'a>
+    ensures { left result ≡ said_in_order pieces.entry ++ flat_map listing_model.extra_attribute extra.now }
+{
+    Octets {
+        run: b"",
+        escaped: b"",
+        pieces,
+        at: 0,
+        extra,
+    }
+}
+
+/// The piece with this index, where there is one.
+fn piece_at<'a>(pieces: [Piece<'a>; PIECES], at: usize) -> Option<Piece<'a>>
+    ensures { PieceAt pieces.entry at result }
+{
+    if at < PIECES { Some(pieces[at]) } else { None }
+}
+
+impl<'a> Octets<'a> {
+    /// Goes on to the next piece; false where none is left.
+    fn refill(&mut self) -> bool
+        requires run { self.old.run.now ≡ [] }
+        requires escaped { self.old.escaped.now ≡ [] }
+        ensures same { left self.new ≡ left self.old }
+        ensures fewer { IsTrue result → pieces_left self.new < pieces_left self.old }
+        ensures end { result ≡ false → left self.old ≡ [] }
+    {
+        if let Some(piece) = piece_at(self.pieces, self.at) {
+            match piece {
+                Piece::Plain(text) => self.run = text,
+                Piece::Escaped(text) => self.escaped = text,
+            }
+            self.at += 1;
+            return true;
+        }
+        if let Some((pair, rest)) = self.extra.split_first() {
+            self.pieces = attribute_pieces(pair);
+            self.at = 0;
+            self.extra = rest;
+            return true;
+        }
+        false
+    }
+
+    /// The next octet; None where none is left.
+    fn next_octet(&mut self) -> Option<u8>
+        ensures { Gives result (left self.old) (left self.new) }
+    {
+        'pieces: loop {
+            if let Some((first, rest)) = self.run.split_first() {
+                self.run = rest;
+                return Some(*first);
+            }
+            if let Some((first, rest)) = self.escaped.split_first() {
+                if is_escaped(*first) {
+                    self.run = &self.escaped[..1];
+                    self.escaped = rest;
+                    return Some(b'\\');
+                }
+                self.escaped = rest;
+                return Some(*first);
+            }
+            if !self.refill() {
+                return None;
+            }
+        }
+    }
+}
+
+/// Whether the same octets are left of both.
+pub fn same_octets(old: &mut Octets<'_>, new: &mut Octets<'_>) -> bool
+    ensures { result ≡ bytes_eq (left old.old) (left new.old) }
+{
+    'octets: loop {
+        let first = old.next_octet();
+        let second = new.next_octet();
+        match first {
+            None => return second.is_none(),
+            Some(octet) => match second {
+                None => return false,
+                Some(other) => {
+                    if octet != other {
+                        return false;
+                    }
+                }
+            },
+        }
+    }
+}

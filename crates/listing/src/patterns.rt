@@ -1,0 +1,71 @@
+// Patterns against values (RFC 6690 section 4.1).
+ghost use Rattle.std.specs.Prelude.{◌≡◌, ◌&&◌, ◌==◌, not};
+ghost use Rattle.std.specs.Option.{option_copied};
+ghost use Rattle.std.specs.List.{list_any, slice_split};
+ghost use Rattle.document_model.specs.Options.{is_among};
+ghost use Rattle.document_model.specs.Matching as model;
+ghost use Rattle.document_model.specs.Characters.{is_empty};
+
+/// What stands before an asterisk that ends the pattern, where one does.
+#[tactic(auto, using(crate::proofs::PatternLaws::before_wildcard_last))]
+fn before_wildcard(pattern: &[u8]) -> Option<&[u8]>
+    ensures { option_copied result ≡ model.before_wildcard pattern.now }
+{
+    let (last, front) = pattern.split_last()?;
+    if *last != b'*' {
+        return None;
+    }
+    Some(front)
+}
+
+/// Whether the pattern matches the value: one that ends with an asterisk a value that begins with the rest of it, and
+/// any other the equal value.
+#[tactic(auto, unfolding(document_model::specs::Matching::matches_value))]
+pub fn matches_value(pattern: &[u8], value: &[u8]) -> bool
+    ensures { result ≡ model.matches_value pattern.now value.now }
+{
+    match before_wildcard(pattern) {
+        Some(front) => value.starts_with(front),
+        None => value == pattern,
+    }
+}
+
+/// Whether the values of the name are lists of parts.
+fn is_list_name(name: &[u8]) -> bool
+    ensures { result ≡ is_among model.list_names name.now }
+{
+    name == b"rel".as_slice()
+        || name == b"rev".as_slice()
+        || name == b"rt".as_slice()
+        || name == b"if".as_slice()
+}
+
+/// Whether the text is a part of a value, and the pattern matches it; an empty text is no part.
+fn is_matched_part(pattern: &[u8], text: &[u8]) -> bool
+    ensures { result ≡ (not (is_empty text.now) && model.matches_value pattern.now text.now) }
+{
+    match text {
+        [] => false,
+        _ => matches_value(pattern, text),
+    }
+}
+
+/// Whether the pattern matches one part of the value, which spaces part.
+fn matches_part(pattern: &[u8], value: &[u8]) -> bool
+    ensures { result ≡ list_any (λ part. not (is_empty part) && model.matches_value pattern.now part) (slice_split (λ c. c == model.space) value.now) }
+{
+    value
+        .split(|octet| *octet == b' ')
+        .any(|part| is_matched_part(pattern, part))
+}
+
+/// Whether the pattern matches a value of the name.
+#[tactic(auto, unfolding(document_model::specs::Matching::matches_named))]
+pub fn matches_named(name: &[u8], pattern: &[u8], value: &[u8]) -> bool
+    ensures { result ≡ model.matches_named name.now pattern.now value.now }
+{
+    if is_list_name(name) {
+        return matches_part(pattern, value);
+    }
+    matches_value(pattern, value)
+}

@@ -1,0 +1,144 @@
+// The pieces of lines: texts that stand in them as they are, and texts that stand in quotes (RFC 6690 section 2).
+ghost use Rattle.std.specs.Prelude.{◌≡◌, ◌==◌, ◌||◌};
+ghost use Rattle.document_model.specs.Characters.{backslash, quote_mark};
+ghost use Rattle.document_model.specs.ListingLines as listing_model;
+ghost use Rattle.document_model.specs.Matching as model;
+ghost use Rattle.listing.specs.Saying.{said_in_order, own_line};
+
+use rd_base::{Item, Pair, Record};
+
+/// How many pieces each part of a line is cut into; those that are left over are empty.
+pub const PIECES: usize = 11;
+
+/// A piece of a line.
+#[derive(Clone, Copy)]
+pub enum Piece<'a> {
+    /// A text as it is.
+    Plain(&'a [u8]),
+    /// A text with a backslash before each quote and each backslash.
+    Escaped(&'a [u8]),
+}
+
+/// Whether a backslash stands before the octet in a quoted text.
+pub fn is_escaped(octet: u8) -> bool
+    ensures { result ≡ (octet == quote_mark || octet == backslash) }
+{
+    octet == b'"' || octet == b'\\'
+}
+
+/// The line of a link.
+#[tactic(auto, using(crate::proofs::PieceLaws::link_with_anchor, crate::proofs::PieceLaws::link_without_anchor))]
+pub fn link_pieces<'a>(item: &'a Item) -> [Piece<'a>; PIECES]
+    ensures { said_in_order result ≡ listing_model.link_line item.now }
+{
+    let none = Piece::Plain(b"");
+    let target = Piece::Plain(item.target.as_bytes());
+    let raw = Piece::Plain(item.raw.as_bytes());
+    if let Some(given) = &item.anchor {
+        let anchor = Piece::Escaped(given.as_bytes());
+        return [
+            Piece::Plain(b"<"),
+            target,
+            Piece::Plain(b">"),
+            raw,
+            Piece::Plain(b";anchor=\""),
+            anchor,
+            Piece::Plain(b"\""),
+            none,
+            none,
+            none,
+            none,
+        ];
+    }
+    [
+        Piece::Plain(b"<"),
+        target,
+        Piece::Plain(b">"),
+        raw,
+        none,
+        none,
+        none,
+        none,
+        none,
+        none,
+        none,
+    ]
+}
+
+/// The line of an endpoint before its extra attributes.
+pub fn endpoint_pieces<'a>(record_of: &'a Record, location: &'a [u8]) -> [Piece<'a>; PIECES]
+    requires { location.now ≡ model.location record_of.now.number }
+    ensures { said_in_order result ≡ own_line record_of.now }
+{
+    let none = Piece::Plain(b"");
+    let place = Piece::Plain(location);
+    let base = Piece::Escaped(record_of.base.as_bytes());
+    let ep = Piece::Escaped(record_of.name.ep.as_bytes());
+    if let Some(given) = &record_of.name.sector {
+        let sector = Piece::Escaped(given.as_bytes());
+        return [
+            Piece::Plain(b"<"),
+            place,
+            Piece::Plain(b">;base=\""),
+            base,
+            Piece::Plain(b"\";ep=\""),
+            ep,
+            Piece::Plain(b"\";d=\""),
+            sector,
+            Piece::Plain(b"\";rt=\"core.rd-ep\""),
+            none,
+            none,
+        ];
+    }
+    [
+        Piece::Plain(b"<"),
+        place,
+        Piece::Plain(b">;base=\""),
+        base,
+        Piece::Plain(b"\";ep=\""),
+        ep,
+        Piece::Plain(b"\";rt=\"core.rd-ep\""),
+        none,
+        none,
+        none,
+        none,
+    ]
+}
+
+/// An extra attribute of an endpoint: its name alone where its value is empty.
+#[tactic(auto, using(crate::proofs::PieceLaws::extra_with_value, crate::proofs::PieceLaws::is_some_text))]
+pub fn attribute_pieces<'a>(pair: &'a Pair) -> [Piece<'a>; PIECES]
+    ensures { said_in_order result ≡ listing_model.extra_attribute pair.now }
+{
+    let none = Piece::Plain(b"");
+    let name = Piece::Plain(pair.name.as_bytes());
+    if pair.value.is_empty() {
+        return [
+            Piece::Plain(b";"),
+            name,
+            none,
+            none,
+            none,
+            none,
+            none,
+            none,
+            none,
+            none,
+            none,
+        ];
+    }
+    let value = Piece::Escaped(pair.value.as_bytes());
+    [
+        Piece::Plain(b";"),
+        name,
+        Piece::Plain(b"=\""),
+        value,
+        Piece::Plain(b"\""),
+        none,
+        none,
+        none,
+        none,
+        none,
+        none,
+    ]
+}
