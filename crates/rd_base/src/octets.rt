@@ -100,13 +100,6 @@ impl Bytes {
         self.items.extend_from_slice(slice)?;
         Ok(())
     }
-
-    /// Cuts off what stands behind the first `length` octets. Takes no memory.
-    pub fn truncate(&mut self, length: usize)
-        ensures { self.new ≡ take length self.old }
-    {
-        self.items.truncate(length);
-    }
 }
 
 impl PartialEq for Bytes {
