@@ -1,0 +1,5 @@
+mod PathLemmas
+mod FoundLemmas
+mod AscendLemmas
+mod WalkLemmas
+mod ShortLemmas

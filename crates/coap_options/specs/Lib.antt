@@ -1,0 +1,4 @@
+pub mod Definitions
+pub mod Segments
+pub mod Found
+pub mod Meanings
