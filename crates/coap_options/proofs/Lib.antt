@@ -3,3 +3,6 @@ mod FoundLemmas
 mod AscendLemmas
 mod WalkLemmas
 mod ShortLemmas
+mod ValuesLemmas
+mod RefusalLemmas
+mod KeyLemmas

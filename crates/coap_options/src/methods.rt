@@ -6,9 +6,9 @@ ghost use Rattle.message_model.specs.Request as request;
 use message_model::Path;
 
 // GET, POST and DELETE (RFC 7252 section 12.1.1).
-const GET: u8 = 1;
+pub(crate) const GET: u8 = 1;
 
-const POST: u8 = 2;
+pub(crate) const POST: u8 = 2;
 
 const DELETE: u8 = 4;
 
