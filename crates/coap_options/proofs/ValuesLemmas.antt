@@ -1,7 +1,7 @@
 -- The values of a number that may be repeated, from the left.
-use Rattle.std.proofs.Common.{◌≡◌, ℕ, ◌≤◌, Bool, true, false, ◌&&◌, cond, leb, eqb, List, [], ◌∷◌, ◌++◌, length, map, refl, sym, ap, ◌∙◌, append_assoc, inl, inr}
-use Rattle.std.specs.Prelude.{filter, ◌==◌, if◌then◌else◌}
-use Rattle.std.proofs.lemmas.Bool.{cases_Bool, eqb-true, leb-true}
+use Rattle.std.proofs.Common.{◌≡◌, ℕ, Bool, true, false, ◌&&◌, cond, eqb, List, [], ◌∷◌, ◌++◌, length, refl, sym, ap, ◌∙◌, append_assoc, inl, inr}
+use Rattle.std.specs.Prelude.{◌==◌}
+use Rattle.std.proofs.lemmas.Bool.{cases_Bool, eqb-true}
 use Rattle.std.proofs.lemmas.List.{append-nil}
 use Rattle.message_model.specs.Message.{Opt}
 use Rattle.message_model.specs.OptionTable as table
@@ -55,9 +55,9 @@ same_test number before option repeats =
     elim (cases_Bool (eqb option.0 number)) [
       | inl same ↦
           rw same (
-            and_true (is_recognized before option.0 (length option.1))
-            ∙ ap (λ (n : ℕ). is_allowed_by (definition_of n) (stands_in option.0 before) (length option.1)) (eqb-true _ _ same)
-            ∙ repeats (stands_in option.0 before) (length option.1)
+          and_true (is_recognized before option.0 (length option.1))
+          ∙ ap (λ (n : ℕ). is_allowed_by (definition_of n) (stands_in option.0 before) (length option.1)) (eqb-true _ _ same)
+          ∙ repeats (stands_in option.0 before) (length option.1)
           )
       | inr other ↦ rw other (and_false (is_recognized before option.0 (length option.1)))
     ]

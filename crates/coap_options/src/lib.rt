@@ -23,3 +23,6 @@ pub use methods::allowed;
 pub use reading::meaning;
 pub use requests::request;
 pub use values::{EtagIter, QueryIter, etags, queries};
+
+#[cfg(test)]
+mod tests;

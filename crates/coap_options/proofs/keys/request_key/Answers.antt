@@ -1,4 +1,4 @@
-use Rattle.std.proofs.Common.{refl, ap, ◌∙◌}
+use Rattle.std.proofs.Common.{ap, ◌∙◌}
 use Rattle.coap_message.specs.Left.{options_left}
 use Rattle.coap_message.specs.Views.{message_in}
 use Rattle.message_model.specs.Request.{queries_in}

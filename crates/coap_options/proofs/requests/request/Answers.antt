@@ -1,4 +1,4 @@
-use Rattle.std.proofs.Common.{sym, ◌∙◌}
+use Rattle.std.proofs.Common.{◌∙◌}
 use Rattle.coap_message.specs.Views.{message_in}
 use Rattle.coap_options.proofs.ShortLemmas.{block1_short, block2_short}
 use Rattle.coap_options.proofs.RefusalLemmas.{refused_later, refused_option}
