@@ -1,0 +1,27 @@
+//! The methods of the resources.
+
+ghost use Rattle.std.specs.Prelude.{◌≡◌};
+ghost use Rattle.message_model.specs.Request as request;
+
+use message_model::Path;
+
+// GET, POST and DELETE (RFC 7252 section 12.1.1).
+pub(crate) const GET: u8 = 1;
+
+pub(crate) const POST: u8 = 2;
+
+const DELETE: u8 = 4;
+
+/// Whether a resource has the method with this code (RFC 9176 sections 4.3, 5, 5.1, 5.3 and 6): GET at the discovery and
+/// the lookups, POST at both registrations, POST and DELETE at a registration's location; a path that names no resource
+/// has none.
+pub fn allowed(path: &Path, code: u8) -> bool
+    ensures { result ≡ request.allowed path.now code }
+{
+    match *path {
+        Path::Core | Path::Res | Path::Ep => code == GET,
+        Path::SimpleRd | Path::Rd => code == POST,
+        Path::Location(_) => code == POST || code == DELETE,
+        Path::Other => false,
+    }
+}

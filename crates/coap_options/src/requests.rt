@@ -1,0 +1,190 @@
+//! The first refusal that a request alone decides.
+
+ghost use Rattle.std.specs.Prelude.{◌≡◌, ◌≤◌, ◌<◌, Some, None, length, IfSome, IfOk, IfErr, OnOk};
+ghost use Rattle.std.specs.Option.{option_map, ForSome};
+ghost use Rattle.message_model.specs.Blocks as blocks;
+ghost use Rattle.message_model.specs.Refusals as refusals;
+ghost use Rattle.message_model.specs.Refusals.{refusal_of};
+ghost use Rattle.coap_message.specs.Views.{message_in};
+ghost use Rattle.coap_options.specs.Meanings.{IsMeaning};
+ghost use Rattle.coap_options.specs.Refusing.{registers, has_bad_block, refusal_by};
+
+use crate::heeding::BadOption;
+use crate::meanings::Meaning;
+use crate::methods::{GET, POST, allowed};
+use crate::reading::meaning;
+use crate::uints::uint_of;
+use coap_message::View;
+use message_model::{Block, Path, Refusal};
+
+// The format of link documents (RFC 7252 section 12.3).
+const LINK_FORMAT: u16 = 40;
+
+// A path that names no resource.
+fn is_nowhere(path: &Path) -> bool
+    ensures { result ≡ refusals.is_nowhere path.now }
+{
+    match *path {
+        Path::Other => true,
+        _ => false,
+    }
+}
+
+// A registration is a POST to `/rd` (RFC 9176 section 5).
+fn registers(code: u8, path: &Path) -> bool
+    ensures { result ≡ registers code path.now }
+{
+    match *path {
+        Path::Rd => code == POST,
+        _ => false,
+    }
+}
+
+// The block that the value of a Block option says (RFC 7959 section 2.2).
+#[tactic(auto, unfolding(message_model::specs::Blocks::block_read))]
+fn block_read(value: &[u8]) -> Option<Block>
+    requires { length value.now ≤ 3 }
+    ensures block { result ≡ blocks.block_read value.now }
+    ensures sized { IfSome result (λ block. block.szx < blocks.reserved_szx) }
+{
+    let bits = uint_of(value);
+    if bits % 8 == 7 {
+        return None;
+    }
+    Some(Block {
+        num: bits / 16,
+        more: bits / 8 % 2 == 1,
+        szx: (bits % 8) as u8,
+    })
+}
+
+// The size of a block (RFC 7959 section 2.2).
+fn block_size(szx: u8) -> usize
+    requires { szx < blocks.reserved_szx }
+    ensures { result ≡ blocks.block_size szx }
+{
+    1usize << (szx + 4)
+}
+
+// A Block option with the reserved exponent (RFC 7959 section 2.2).
+fn says_no_block(value: Option<&[u8]>) -> bool
+    requires { ForSome value (λ v. length v.now ≤ 3) }
+    ensures { result ≡ refusals.says_no_block (option_map (λ v. v.now) value.entry) }
+{
+    match value {
+        Some(octets) => block_read(octets).is_none(),
+        None => false,
+    }
+}
+
+// A block that more follow has exactly the block size, and the last is no longer (RFC 7959 section 2.2).
+fn is_misfit(block: &Block, size: usize) -> bool
+    requires { block.now.szx < blocks.reserved_szx }
+    ensures { result ≡ blocks.is_misfit block.now size }
+{
+    let most = block_size(block.szx);
+    if block.more {
+        return size != most;
+    }
+    most < size
+}
+
+// A payload of this length does not fit the block that it is said to be.
+fn is_misfit_of(value: Option<&[u8]>, size: usize) -> bool
+    requires { ForSome value (λ v. length v.now ≤ 3) }
+    ensures { result ≡ refusals.is_misfit_of (option_map (λ v. v.now) value.entry) size }
+{
+    let Some(octets) = value else {
+        return false;
+    };
+    let Some(block) = block_read(octets) else {
+        return false;
+    };
+    is_misfit(&block, size)
+}
+
+// A Block option says no block, or the payload of a registration does not fit its Block1 (RFC 7959 sections 2.2 and 2.5).
+fn has_bad_block(
+    registration: bool,
+    block1: Option<&[u8]>,
+    block2: Option<&[u8]>,
+    size: usize,
+) -> bool
+    requires block1 { ForSome block1 (λ v. length v.now ≤ 3) }
+    requires block2 { ForSome block2 (λ v. length v.now ≤ 3) }
+    ensures { result ≡ has_bad_block registration (option_map (λ v. v.now) block1.entry) (option_map (λ v. v.now) block2.entry) size }
+{
+    if says_no_block(block1) {
+        return true;
+    }
+    if says_no_block(block2) {
+        return true;
+    }
+    registration && is_misfit_of(block1, size)
+}
+
+// A format is named, and it is not that of link documents.
+fn is_other_format(format: Option<u16>) -> bool
+    ensures { result ≡ refusals.is_other_format format }
+{
+    match format {
+        Some(number) => number != LINK_FORMAT,
+        None => false,
+    }
+}
+
+// The first refusal behind that of an unrecognized critical option.
+#[tactic(auto, unfolding(crate::specs::Refusing::refusal_by))]
+fn later_refusal(meaning: &Meaning<'_>) -> Option<Refusal>
+    requires block1 { ForSome meaning.now.block1 (λ v. length v.now ≤ 3) }
+    requires block2 { ForSome meaning.now.block2 (λ v. length v.now ≤ 3) }
+    ensures { result ≡ refusal_by meaning.now.view.code meaning.now.path meaning.now.proxy
+        (option_map (λ v. v.now) meaning.now.block1) (option_map (λ v. v.now) meaning.now.block2)
+        meaning.now.accept meaning.now.format (length meaning.now.view.payload.now) }
+{
+    let code = meaning.view.code;
+    if meaning.proxy {
+        return Some(Refusal::Proxy);
+    }
+    if is_nowhere(&meaning.path) {
+        return Some(Refusal::Path);
+    }
+    if !allowed(&meaning.path, code) {
+        return Some(Refusal::Method);
+    }
+    let registration = registers(code, &meaning.path);
+    let size = meaning.view.payload.len();
+    if has_bad_block(registration, meaning.block1, meaning.block2, size) {
+        return Some(Refusal::Block);
+    }
+    if code == GET && is_other_format(meaning.accept) {
+        return Some(Refusal::Accept);
+    }
+    if registration && is_other_format(meaning.format) {
+        return Some(Refusal::Format);
+    }
+    None
+}
+
+/// What a request means, or why it is refused before its query is looked at: the first of the refusals in the order of
+/// [`Refusal`] (RFC 7252 section 5.9).
+///
+/// `BadOption(n)`: a critical option is not recognized, and `n` is the number of the first one. `Proxy`: Proxy-Uri or
+/// Proxy-Scheme stands in it. `Path`: its path names no resource. `Method`: the resource does not have its method.
+/// `Block`: Block1 or Block2 has the exponent 7, or it is a registration whose payload does not fit its Block1. `Accept`:
+/// it is a GET that accepts another format than that of link documents. `Format`: it is a registration whose body has
+/// another format.
+pub fn request<'a>(view: &View<'a>) -> Result<Meaning<'a>, Refusal>
+    ensures meaning { IfOk result (λ meaning. IsMeaning (message_in view.now) meaning) }
+    ensures accepted { OnOk result (refusal_of (message_in view.now) ≡ None) }
+    ensures refused { IfErr result (λ refusal. refusal_of (message_in view.now) ≡ Some refusal) }
+{
+    let meant = match meaning(view) {
+        Ok(meant) => meant,
+        Err(BadOption(number)) => return Err(Refusal::BadOption(number)),
+    };
+    match later_refusal(&meant) {
+        Some(refusal) => Err(refusal),
+        None => Ok(meant),
+    }
+}

@@ -1,0 +1,116 @@
+//! The table of options (RFC 7252 section 5.10, RFC 7641 section 2, RFC 7959 sections 2.1 and 4).
+
+ghost use Rattle.std.specs.Prelude.{◌≡◌, ◌&&◌, nat_le};
+ghost use Rattle.std.specs.Option.{option_map};
+ghost use Rattle.message_model.specs.OptionTable as table;
+ghost use Rattle.coap_options.specs.Definitions.{definition_in};
+
+pub(crate) const URI_HOST: u32 = 3;
+
+pub(crate) const ETAG: u32 = 4;
+
+pub(crate) const OBSERVE: u32 = 6;
+
+pub(crate) const URI_PORT: u32 = 7;
+
+pub(crate) const LOCATION_PATH: u32 = 8;
+
+pub(crate) const URI_PATH: u32 = 11;
+
+pub(crate) const CONTENT_FORMAT: u32 = 12;
+
+pub(crate) const URI_QUERY: u32 = 15;
+
+pub(crate) const ACCEPT: u32 = 17;
+
+pub(crate) const BLOCK2: u32 = 23;
+
+pub(crate) const BLOCK1: u32 = 27;
+
+pub(crate) const SIZE2: u32 = 28;
+
+pub(crate) const PROXY_URI: u32 = 35;
+
+pub(crate) const PROXY_SCHEME: u32 = 39;
+
+pub(crate) const SIZE1: u32 = 60;
+
+// Of an option: the least and greatest length of its value, and whether it may be repeated.
+#[derive(Clone, Copy)]
+pub(crate) struct Definition {
+    pub least: usize,
+    pub most: usize,
+    pub repeatable: bool,
+}
+
+// An option that stands at most once.
+fn at_most_once(least: usize, most: usize) -> Option<Definition>
+    ensures { option_map definition_in result ≡ table.at_most_once least most }
+{
+    Some(Definition {
+        least,
+        most,
+        repeatable: false,
+    })
+}
+
+// An option that may stand more than once.
+fn any_number(least: usize, most: usize) -> Option<Definition>
+    ensures { option_map definition_in result ≡ table.any_number least most }
+{
+    Some(Definition {
+        least,
+        most,
+        repeatable: true,
+    })
+}
+
+// The definition of the option with this number, where the table has it.
+#[tactic(auto, unfolding(message_model::specs::OptionTable::definition_of))]
+fn definition_of(number: u32) -> Option<Definition>
+    ensures { option_map definition_in result ≡ table.definition_of number }
+{
+    match number {
+        URI_HOST => at_most_once(1, 255),
+        ETAG => any_number(1, 8),
+        OBSERVE => at_most_once(0, 3),
+        URI_PORT => at_most_once(0, 2),
+        LOCATION_PATH => any_number(0, 255),
+        URI_PATH => any_number(0, 255),
+        CONTENT_FORMAT => at_most_once(0, 2),
+        URI_QUERY => any_number(0, 255),
+        ACCEPT => at_most_once(0, 2),
+        BLOCK2 => at_most_once(0, 3),
+        BLOCK1 => at_most_once(0, 3),
+        SIZE2 => at_most_once(0, 4),
+        PROXY_URI => at_most_once(1, 1034),
+        PROXY_SCHEME => at_most_once(1, 255),
+        SIZE1 => at_most_once(0, 4),
+        _ => None,
+    }
+}
+
+// A length between the least and the greatest.
+fn has_length(definition: &Definition, size: usize) -> bool
+    ensures { result ≡ (nat_le definition.now.least size && nat_le size definition.now.most) }
+{
+    definition.least <= size && size <= definition.most
+}
+
+// The table has the option and allows this length, and that it is a further one where it is (RFC 7252 sections 5.4.3 and
+// 5.4.5).
+pub(crate) fn is_recognized(number: u32, is_further: bool, size: usize) -> bool
+    ensures { result ≡ table.is_allowed_by (table.definition_of number) is_further size }
+{
+    let Some(definition) = definition_of(number) else {
+        return false;
+    };
+    has_length(&definition, size) && (definition.repeatable || !is_further)
+}
+
+// Odd numbers are critical (RFC 7252 section 5.4.6).
+pub(crate) fn is_critical(number: u32) -> bool
+    ensures { result ≡ table.is_critical number }
+{
+    number % 2 == 1
+}

@@ -1,0 +1,101 @@
+//! The values of options that may be repeated, one after the other.
+
+ghost use Rattle.std.specs.Prelude.{◌≡◌, false, ◌&&◌, ◌==◌, [], ◌∷◌, length, IfSome};
+ghost use Rattle.std.specs.Option.{IfNone};
+ghost use Rattle.message_model.specs.Request as request;
+ghost use Rattle.message_model.specs.OptionTable.{definition_of, is_allowed_by};
+ghost use Rattle.coap_message.specs.Views.{message_in};
+ghost use Rattle.coap_message.specs.Left.{options_left};
+ghost use Rattle.coap_options.specs.Left.{values_left, queries_left, etags_left};
+
+use crate::meanings::Meaning;
+use crate::table::{ETAG, URI_QUERY, is_recognized};
+use coap_message::{Opt, OptionsIter, options_of};
+
+/// The query options that are left, in order (RFC 7252 section 5.10.1): a contract sees them by `queries_left`.
+#[derive(Clone, Copy, Debug)]
+pub struct QueryIter<'a> {
+    options: OptionsIter<'a>,
+}
+
+/// The entity tags that are left, in order (RFC 7252 section 5.10.6): a contract sees them by `etags_left`.
+#[derive(Clone, Copy, Debug)]
+pub struct EtagIter<'a> {
+    options: OptionsIter<'a>,
+}
+
+// Whether the option has this number, which may be repeated, and is recognized.
+fn is_value(number: u32, option: &Opt<'_>) -> bool
+    ensures { result ≡ (option.now.number == number && is_allowed_by (definition_of number) false (length option.now.value.now)) }
+{
+    if option.number != number {
+        return false;
+    }
+    is_recognized(number, false, option.value.len())
+}
+
+// The next value of a number that may be repeated, and the options behind it.
+fn next_value<'a>(options: OptionsIter<'a>, number: u32) -> Option<(&'a [u8], OptionsIter<'a>)>
+    ensures some { IfSome result (λ x. values_left number (options_left options.entry) ≡ x.0.now ∷ values_left number (options_left x.1)) }
+    ensures none { IfNone result (values_left number (options_left options.entry) ≡ []) }
+{
+    let mut left = options;
+    'options: while let Some(option) = left.next() {
+        if is_value(number, &option) {
+            return Some((option.value, left));
+        }
+    }
+    None
+}
+
+/// The query options of a message, in order: those that are recognized (RFC 7252 sections 5.4 and 5.10.1).
+pub fn queries<'a>(meaning: &Meaning<'a>) -> QueryIter<'a>
+    ensures { queries_left result ≡ request.queries_in (message_in meaning.now.view) }
+{
+    QueryIter {
+        options: options_of(&meaning.view),
+    }
+}
+
+/// The entity tags of a message, in order: those that are recognized (RFC 7252 sections 5.4 and 5.10.6).
+pub fn etags<'a>(meaning: &Meaning<'a>) -> EtagIter<'a>
+    ensures { etags_left result ≡ request.etags_in (message_in meaning.now.view) }
+{
+    EtagIter {
+        options: options_of(&meaning.view),
+    }
+}
+
+impl<'a> Iterator for QueryIter<'a> {
+    ghost use Rattle.std.specs.Iterator.{YieldsFirstBy, item_count};
+    ghost use Rattle.coap_options.specs.Left.{queries_left};
+
+    type Item = &'a [u8];
+
+    ghost next_gives = { YieldsFirstBy (λ value. value.now) queries_left };
+
+    ghost remaining = { item_count queries_left };
+
+    fn next(&mut self) -> Option<&'a [u8]> {
+        let (value, left) = next_value(self.options, URI_QUERY)?;
+        self.options = left;
+        Some(value)
+    }
+}
+
+impl<'a> Iterator for EtagIter<'a> {
+    ghost use Rattle.std.specs.Iterator.{YieldsFirstBy, item_count};
+    ghost use Rattle.coap_options.specs.Left.{etags_left};
+
+    type Item = &'a [u8];
+
+    ghost next_gives = { YieldsFirstBy (λ value. value.now) etags_left };
+
+    ghost remaining = { item_count etags_left };
+
+    fn next(&mut self) -> Option<&'a [u8]> {
+        let (value, left) = next_value(self.options, ETAG)?;
+        self.options = left;
+        Some(value)
+    }
+}
