@@ -1,0 +1,5 @@
+pub mod NumberReading
+pub mod BaseReading
+pub mod Judged
+pub mod Steps
+pub mod Meeting

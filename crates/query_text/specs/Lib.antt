@@ -1,0 +1,5 @@
+pub mod Numbers
+pub mod Bases
+pub mod Standing
+pub mod Judging
+pub mod Walking
