@@ -3,3 +3,5 @@ pub mod Bases
 pub mod Standing
 pub mod Judging
 pub mod Walking
+pub mod Answering
+pub mod Giving
