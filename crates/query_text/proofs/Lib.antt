@@ -3,3 +3,8 @@ pub mod BaseReading
 pub mod Judged
 pub mod Steps
 pub mod Meeting
+pub mod Choices
+pub mod ParametersKept
+pub mod Results
+pub mod OptionsKept
+pub mod LookupResults

@@ -92,7 +92,7 @@ behind kind judge at_end h k others (query ∷ queries) =
     ∙ ap (λ (o : Option Fault). or_else (at_place (length others) (judge others query)) o)
     (ap (λ w. faults_from w queries) (one_more kind others query) ∙ behind kind judge at_end h k (query ∷ others) queries)
 
-of_parameters : (kind : Reading) → is_lookup kind ≡ false → (queries : List (List ℕ)) → faults_from (start_of kind) queries ≡ parameters_fault kind queries
+pub of_parameters : (kind : Reading) → is_lookup kind ≡ false → (queries : List (List ℕ)) → faults_from (start_of kind) queries ≡ parameters_fault kind queries
 unfolding parameters_fault
 of_parameters kind h queries = behind kind (parameter_fault kind) (missing_fault kind) (λ others query. same_parameter others query kind h) (same_missing kind h) [] queries
 

@@ -5,3 +5,4 @@ pub mod Judging
 pub mod Walking
 pub mod Answering
 pub mod Giving
+pub mod Asking
