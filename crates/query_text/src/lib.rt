@@ -21,3 +21,6 @@ pub use faults::fault;
 pub use lookups::lookup_query;
 pub use parameters::{reg_params, update_params};
 pub use pieces::Pieces;
+
+#[cfg(test)]
+mod tests;
