@@ -1,0 +1,10 @@
+pub mod NumberReading
+pub mod BaseReading
+pub mod Judged
+pub mod Steps
+pub mod Meeting
+pub mod Choices
+pub mod ParametersKept
+pub mod Results
+pub mod OptionsKept
+pub mod LookupResults

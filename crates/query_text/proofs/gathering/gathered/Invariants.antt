@@ -1,0 +1,16 @@
+use Rattle.std.proofs.Common.{◌≡◌, ◌+◌, ◌<◌, ◌^◌, length}
+use Rattle.query_text.specs.Walking.{start_of, faults_from}
+use Rattle.query_text.specs.Giving.{seen_in, seen_of}
+use Rattle.query_text.proofs.ParametersKept.{joined}
+use Rattle.query_text.proofs.gathering.gathered.Given as goal
+
+abbrev pub invariant-options : goal.invariant-options
+invariant-options g l = record {
+  same : faults_from l.walk (g.Q.Pieces.left l.queries) ≡ faults_from (start_of l.fn.kind) (g.Q.Pieces.left l.fn.queries);
+  kind : l.walk.kind ≡ l.fn.kind;
+  given : joined (seen_in l.given) (seen_of (g.Q.Pieces.left l.queries)) ≡ seen_of (g.Q.Pieces.left l.fn.queries);
+  room : 0 < l.walk.index → l.walk.index + length (g.Q.Pieces.left l.queries) < 2 ^ 63;
+}
+
+abbrev pub decreases-options : goal.decreases-options
+decreases-options g l = length (g.Q.Pieces.left l.queries)

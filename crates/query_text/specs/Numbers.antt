@@ -1,0 +1,12 @@
+-- The number of an option.
+use Rattle.std.specs.Prelude.{ℕ, List, Option, Some, None, if◌then◌else◌}
+use Rattle.document_model.specs.Options.{is_number, number_of}
+use Rattle.document_model.specs.Parameters.{is_lifetime}
+
+-- the number that the text writes, where it writes one
+abbrev pub number_in : List ℕ → Option ℕ
+number_in text = if is_number text then Some (number_of text) else None
+
+-- the lifetime that the text writes, where it writes one
+abbrev pub lifetime_in : List ℕ → Option ℕ
+lifetime_in text = if is_lifetime text then Some (number_of text) else None

@@ -1,0 +1,53 @@
+// What a lookup asks for (RFC 9176 section 6.2).
+ghost use Rattle.std.specs.Prelude.{◌≡◌};
+ghost use Rattle.document_model.specs.Criteria as criteria;
+ghost use Rattle.query_text.specs.Answering.{Answers, Asks};
+ghost use Rattle.query_text.specs.Asking.{wanted_in, query_of};
+
+use crate::asked::Asked;
+use crate::walking::Walk;
+use crate::{Pieces, QueryBad, Reading};
+use rd_base::{Criteria, Kind, Query};
+use std::alloc::Global;
+
+/// What the options ask for, or their first fault.
+fn all_asked<'a, Q: Pieces<'a> + Drop>(alloc: Global, mut queries: Q) -> Result<Asked, QueryBad>
+    ensures { Asks (Q.left queries) result }
+{
+    let mut walk = Walk::start(Reading::Lookup);
+    let mut asked = Asked::nothing(alloc);
+    'options: while let Some(named) = walk.step(&mut queries)? {
+        asked.keep(alloc, &named)?;
+    }
+    Ok(asked)
+}
+
+/// The query of that kind that asks for this. Takes no memory.
+fn query_of(kind: Kind, asked: Asked) -> Query
+    ensures { result ≡ query_of kind (wanted_in asked) }
+{
+    Query {
+        kind,
+        criteria: Criteria::of(asked.criteria),
+        page: asked.page,
+        count: asked.count,
+    }
+}
+
+/// What a lookup of that kind asks for: its criteria in their order, and which part of the listing (RFC 9176 section 6.2).
+/// An option without an equals sign has the empty pattern.
+///
+/// # Errors
+///
+/// `At` exactly with the first fault, that of [`fault`](crate::fault): `Starved` may come in its place. A page without a
+/// count is found behind the last option.
+pub fn lookup_query<'a, Q: Pieces<'a> + Drop>(
+    alloc: Global,
+    kind: Kind,
+    queries: Q,
+) -> Result<Query, QueryBad>
+    ensures { Answers result (criteria.lookup_query kind (Q.left queries)) }
+{
+    let asked = all_asked(alloc, queries)?;
+    Ok(query_of(kind, asked))
+}

@@ -1,0 +1,94 @@
+// The parameters of registrations and updates (RFC 9176 sections 5, 5.1 and 5.3.1).
+ghost use Rattle.std.specs.Prelude.{◌≡◌, false};
+ghost use Rattle.document_model.specs.Parameters.{registration_parameters, update_parameters};
+ghost use Rattle.query_text.specs.Answering.{Answers, registering};
+ghost use Rattle.query_text.specs.Giving.{seen_in, registration_of, update_of};
+ghost use Rattle.query_text.specs.Judging.{is_lookup};
+
+use crate::gathering::gathered;
+use crate::given::Given;
+use crate::{Pieces, QueryBad, Reading};
+use rd_base::{Name, Pairs, RegParams, Text, UpdateParams};
+use std::alloc::Global;
+
+/// The lifetime of a registration that gives none, in seconds (RFC 9176 section 5).
+const DEFAULT_LIFETIME: u32 = 90_000;
+
+/// What the parameters of a registration are read as.
+fn registering(simple: bool) -> Reading
+    ensures kind { result ≡ registering simple }
+    ensures no_lookup { is_lookup result ≡ false }
+{
+    if simple {
+        Reading::Simple
+    } else {
+        Reading::Register
+    }
+}
+
+/// The parameters of a registration that give this. Takes no memory where `ep` is given.
+fn registration_of(alloc: Global, given: Given) -> RegParams
+    ensures { result ≡ registration_of (seen_in given) }
+{
+    let Given {
+        ep,
+        sector,
+        lifetime,
+        base,
+        attributes,
+    } = given;
+    RegParams {
+        name: Name {
+            ep: ep.unwrap_or(Text::new(alloc)),
+            sector,
+        },
+        lt: lifetime.unwrap_or(DEFAULT_LIFETIME),
+        base,
+        attrs: Pairs::of(attributes),
+    }
+}
+
+/// The parameters of an update that give this. Takes no memory.
+fn update_of(given: Given) -> UpdateParams
+    ensures { result ≡ update_of (seen_in given) }
+{
+    UpdateParams {
+        lt: given.lifetime,
+        base: given.base,
+        attrs: Pairs::of(given.attributes),
+    }
+}
+
+/// The parameters of a registration (RFC 9176 section 5), or of a simple one (RFC 9176 section 5.1).
+///
+/// # Errors
+///
+/// `At` exactly with the first fault, that of [`fault`](crate::fault): `Starved` may come in its place. Of one parameter
+/// what is no UTF-8 comes first, then a control character in its value, then the rules of its name. An endpoint that is
+/// not named is found behind the last parameter.
+pub fn reg_params<'a, Q: Pieces<'a> + Drop>(
+    alloc: Global,
+    queries: Q,
+    simple: bool,
+) -> Result<RegParams, QueryBad>
+    ensures { Answers result (registration_parameters (registering simple) (Q.left queries)) }
+{
+    let given = gathered(alloc, registering(simple), queries)?;
+    Ok(registration_of(alloc, given))
+}
+
+/// The parameters of an update (RFC 9176 section 5.3.1).
+///
+/// # Errors
+///
+/// `At` exactly with the first fault, that of [`fault`](crate::fault): `Starved` may come in its place. An update names no
+/// endpoint and no sector.
+pub fn update_params<'a, Q: Pieces<'a> + Drop>(
+    alloc: Global,
+    queries: Q,
+) -> Result<UpdateParams, QueryBad>
+    ensures { Answers result (update_parameters (Q.left queries)) }
+{
+    let given = gathered(alloc, Reading::Update, queries)?;
+    Ok(update_of(given))
+}

@@ -1,0 +1,13 @@
+// Query options handed in one after the other.
+ghost use Rattle.std.specs.Prelude.{◌≡◌, ◌<◌, ◌^◌, ℕ, List, [], ◌∷◌, length, IfSome, IfNone};
+
+/// Pieces of octets, one after the other. The crate that reads options of messages gives query options so.
+pub trait Pieces<'a> {
+    ghost left: { Self → List (List ℕ) };
+
+    /// The next piece, where one is left. Pieces lie in memory, so they are fewer than 2^63.
+    fn next(&mut self) -> Option<&'a [u8]>
+        ensures some { IfSome result (λ piece. left self.old ≡ piece.now ∷ left self.new) }
+        ensures none { IfNone result ((left self.old ≡ []) × (left self.new ≡ [])) }
+        ensures counted { length (left self.old) < 2 ^ 63 };
+}
