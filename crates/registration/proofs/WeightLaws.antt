@@ -1,0 +1,69 @@
+-- Sums that stop at the greatest number of 64 bits, and the octets of lines.
+use Rattle.std.proofs.Common.{◌≡◌, ℕ, ◌+◌, ◌<◌, ◌^◌, List, ◌∷◌, ◌++◌, [], length, flat_map, sum_by, decimal, codes, refl, ap, ◌∙◌, arith, length-append}
+use Rattle.std.proofs.lemmas.Grind.{flat_map-append}
+use Rattle.rd_base.specs.declared.attributes.Pair.{Pair}
+use Rattle.rd_base.specs.declared.moments.Moment.{Moment}
+use Rattle.rd_base.specs.declared.records.Item.{Item}
+use Rattle.document_model.specs.Characters.{quote_mark}
+use Rattle.document_model.specs.ListingLines.{link_line, endpoint_line, weight, quoted_attribute, extra_attribute, anchor_text}
+use Rattle.document_model.specs.Matching.{location, sector_pairs}
+use Rattle.document_model.specs.Quoting.{quoted, escaped_character}
+use Rattle.registration.specs.Drafts.{recorded}
+use Rattle.registration.specs.Weighing.{capped}
+use Rattle.registration.specs.declared.drafts.Draft.{Draft}
+
+-- a sum is capped once
+pub capped_twice : (a b : ℕ) → capped (capped a + b) ≡ capped (a + b)
+capped_twice a b = omega arith
+
+pub capped_small : (a : ℕ) → a < 2 ^ 64 → capped a ≡ a
+capped_small a h = omega arith
+
+-- a text in quotes
+pub quoted_size : (text : List ℕ) → length (quoted text) ≡ 2 + length (flat_map escaped_character text)
+unfolding quoted
+quoted_size text = let joined = length-append (flat_map escaped_character text) (quote_mark ∷ []) in omega (arith, joined)
+
+pub attribute_size : (name value : List ℕ) → length (quoted_attribute (record { name = name; value = value })) ≡ 2 + length name + length (quoted value)
+attribute_size name value =
+    let whole = length-append name (codes "=" ++ quoted value) in
+    omega (arith, whole)
+
+pub link_size : (item : Item) → length (link_line item) ≡ 2 + length item.target + length item.raw + length (anchor_text item.anchor)
+unfolding link_line
+link_size item =
+    let closed = length-append item.target (codes ">") in
+    let behind = length-append item.raw (anchor_text item.anchor) in
+    let whole = length-append (codes "<" ++ (item.target ++ codes ">")) (item.raw ++ anchor_text item.anchor) in
+    omega (arith, closed, behind, whole)
+
+-- the line of an endpoint, part by part
+pub endpoint_size : (number : ℕ) (now : Moment) (draft : Draft) → length (endpoint_line (recorded number now draft))
+    ≡ 6 + length (decimal number) + length (quoted_attribute (record { name = codes "base"; value = draft.base })) + length (quoted_attribute (record { name = codes "ep"; value = draft.name.ep }))
+    + length (flat_map quoted_attribute (sector_pairs draft.name.sector)) + length (quoted_attribute (record { name = codes "rt"; value = codes "core.rd-ep" })) + length (flat_map extra_attribute draft.attrs)
+unfolding endpoint_line location recorded
+endpoint_size number now draft =
+    let based : Pair = record { name = codes "base"; value = draft.base } in
+    let named : Pair = record { name = codes "ep"; value = draft.name.ep } in
+    let typed : Pair = record { name = codes "rt"; value = codes "core.rd-ep" } in
+    let sectors = sector_pairs draft.name.sector in
+    let last = length-append (quoted_attribute typed) [] in
+    let three : length (flat_map quoted_attribute (sectors ++ typed ∷ [])) ≡ length (flat_map quoted_attribute sectors) + length (quoted_attribute typed) =
+    ap length (flat_map-append quoted_attribute sectors (typed ∷ [])) ∙ length-append (flat_map quoted_attribute sectors) (quoted_attribute typed ++ []) ∙ ap (λ (n : ℕ). length (flat_map quoted_attribute sectors) + n) (last ∙ add_nothing (length (quoted_attribute typed))) in
+    let two = length-append (quoted_attribute named) (flat_map quoted_attribute (sectors ++ typed ∷ [])) in
+    let one = length-append (quoted_attribute based) (quoted_attribute named ++ flat_map quoted_attribute (sectors ++ typed ∷ [])) in
+    let own : List ℕ = flat_map quoted_attribute (based ∷ named ∷ (sectors ++ typed ∷ [])) in
+    let extras : List ℕ = flat_map extra_attribute draft.attrs in
+    let four = length-append own extras in
+    let place = length-append (codes "/rd/" ++ decimal number) (codes ">") in
+    let digits = length-append (codes "/rd/") (decimal number) in
+    let whole = length-append (codes "<" ++ ((codes "/rd/" ++ decimal number) ++ codes ">")) (own ++ extras) in
+    omega (arith, one, two, three, four, place, digits, whole)
+  where
+    add_nothing : (n : ℕ) → n + 0 ≡ n
+    add_nothing n = omega arith
+
+-- a draft weighs its endpoint line and its link lines, each with one octet more
+pub weight_parts : (number : ℕ) (now : Moment) (draft : Draft) → weight (recorded number now draft) ≡ length (endpoint_line (recorded number now draft)) + 1 + sum_by (λ item. length (link_line item) + 1) draft.items
+unfolding weight recorded
+weight_parts number now draft = refl

@@ -1,0 +1,58 @@
+-- Drafts: what parameters and submitted links make, and the record that a draft becomes (RFC 9176 section 5).
+use Rattle.std.specs.Prelude.{◌≡◌, ◌⊎◌, ⊤, ℕ, Bool, true, ◌&&◌, List, Some, is_some}
+use Rattle.rd_base.specs.Bases.{base_of}
+use Rattle.rd_base.specs.Peers.{IsHost}
+use Rattle.rd_base.specs.declared.moments.Moment.{Moment}
+use Rattle.rd_base.specs.declared.parameters.RegParams.{RegParams}
+use Rattle.rd_base.specs.declared.peers.Peer.{Peer}
+use Rattle.rd_base.specs.declared.records.Item.{Item}
+use Rattle.rd_base.specs.declared.records.Record.{Record}
+use Rattle.rd_base.specs.declared.submitted.SubmittedLink.{SubmittedLink}
+use Rattle.document_model.specs.Bases.{registered_base}
+use Rattle.document_model.specs.Bodies.{is_reference}
+use Rattle.document_model.specs.BodyFaults.{no_document, no_reference, not_limited, body_fault}
+use Rattle.document_model.specs.Parameters.{is_base}
+use Rattle.document_model.specs.Records.{items_of}
+use Rattle.document_model.specs.References.{where_given}
+use Rattle.registration.specs.declared.drafts.Draft.{Draft}
+use Rattle.registration.specs.declared.drafts.DraftFault.{DraftFault}
+use Rattle.registration.specs.declared.drafts.DraftFault.TheVariants as fault
+
+-- the draft of a registration from a peer, with these parameters and these links
+unfoldable pub drafted : Peer → RegParams → List SubmittedLink → Draft
+drafted peer params links = record {
+  name = params.name;
+  lt = params.lt;
+  base = registered_base params.base peer;
+  base_given = is_some params.base;
+  attrs = params.attrs;
+  items = items_of (registered_base params.base peer) links;
+}
+
+-- the record that a draft becomes under a number, at a moment
+unfoldable pub recorded : ℕ → Moment → Draft → Record
+recorded number now draft = record {
+  number = number;
+  name = draft.name;
+  lt = draft.lt;
+  granted = now;
+  base = draft.base;
+  base_given = draft.base_given;
+  attrs = draft.attrs;
+  items = draft.items;
+}
+
+-- the target of an item is a URI-reference as it was submitted, and so is its anchor, where it has one
+abbrev pub has_references : Item → Bool
+has_references item = is_reference item.target_ref && where_given is_reference item.anchor_ref
+
+-- what references are resolved against: a base that may be given, or that of a peer (RFC 9176 section 5)
+abbrev pub IsBasis : List ℕ → Type 0
+IsBasis base = (is_base base ≡ true) ⊎ ((peer : Peer) × (IsHost peer.host × (base ≡ base_of peer)))
+
+-- the answer is the fault of the body; want of memory has no cause in it
+abbrev pub IsFaultOf : List ℕ → DraftFault → Type 0
+IsFaultOf body (fault.Links place) = body_fault body ≡ Some (no_document place)
+IsFaultOf body (fault.Reference place) = body_fault body ≡ Some (no_reference place)
+IsFaultOf body (fault.Limited link) = body_fault body ≡ Some (not_limited link)
+IsFaultOf body fault.Starved = ⊤

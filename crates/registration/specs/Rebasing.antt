@@ -1,0 +1,21 @@
+-- Links against another base, whatever text spells it.
+use Rattle.std.specs.Prelude.{◌≡◌, ⊤, ℕ, List, Option, Some, None}
+use Rattle.rd_base.specs.declared.records.Item.{Item}
+use Rattle.ref_resolve.specs.declared.splitting.Parts.{Parts}
+use Rattle.ref_resolve.specs.Seen.{components_of}
+use Rattle.document_model.specs.Records.{based, rebased}
+use Rattle.document_model.specs.References.{IsReference}
+
+-- the text against each base that spells these parts
+abbrev pub IsBased : Parts → List ℕ → List ℕ → Type 0
+IsBased base text new = (spelled : List ℕ) → IsReference spelled (components_of base) → new ≡ based spelled text
+
+-- the text, where there is one
+abbrev pub AreBased : Parts → Option (List ℕ) → Option (List ℕ) → Type 0
+AreBased base None None = ⊤
+AreBased base (Some text) (Some new) = IsBased base text new
+AreBased base text new = ⊥
+
+-- the link against each base that spells these parts
+abbrev pub IsRebased : Parts → Item → Item → Type 0
+IsRebased base item new = (spelled : List ℕ) → IsReference spelled (components_of base) → new ≡ rebased spelled item

@@ -1,0 +1,110 @@
+// From a body to a draft (RFC 9176 section 5).
+ghost use Rattle.std.specs.Prelude.{◌≡◌, true, Some, None, IfOk, IfErr, IfSome, option_map};
+ghost use Rattle.std.specs.List.{list_all};
+ghost use Rattle.rd_base.specs.Bases.{base_of};
+ghost use Rattle.rd_base.specs.Peers.{IsHost};
+ghost use Rattle.rd_base.specs.declared.peers.Host.TheVariants as host;
+ghost use Rattle.document_model.specs.Bases.{registered_base};
+ghost use Rattle.document_model.specs.Bodies.{linked_references};
+ghost use Rattle.document_model.specs.BodyFaults.{body_fault};
+ghost use Rattle.document_model.specs.Parameters.{is_base};
+ghost use Rattle.registration.specs.Drafts.{IsFaultOf, drafted, has_references};
+ghost use Rattle.registration.specs.Reading.{BodyReads};
+
+use crate::drafts::{Draft, DraftFault};
+use crate::reading::read_links;
+use link_format::{LinkBad, check};
+use rd_base::{Host, Items, Peer, RegParams, Starved, Text, base_of};
+use ref_resolve::parts;
+use std::alloc::Global;
+
+/// The octets of an address are octets.
+fn known_octets(octets: [u8; 4])
+    ensures { IsHost (host.V4 octets) }
+{}
+
+/// The groups of an address have 16 bits.
+fn known_groups(groups: [u16; 8])
+    ensures { IsHost (host.V6 groups) }
+{}
+
+/// The numbers of an address fit.
+fn known_host(host: Host)
+    ensures { IsHost host }
+{
+    match host {
+        Host::V4(octets) => known_octets(octets),
+        Host::V6(groups) => known_groups(groups),
+    }
+}
+
+/// The base of a peer is one that may be given.
+fn peer_base(alloc: Global, peer: Peer) -> Result<Text, Starved>
+    ensures value { IfOk result (λ base. base ≡ base_of peer) }
+    ensures base { IfOk result (λ base. is_base base ≡ true) }
+{
+    known_host(peer.host);
+    base_of(alloc, &peer)
+}
+
+/// The base of a registration: the one that is given, else that of the peer (RFC 9176 section 5).
+fn registered_base(alloc: Global, given: Option<Text>, peer: Peer) -> Result<Text, Starved>
+    requires { IfSome given (λ base. is_base base ≡ true) }
+    ensures value { IfOk result (λ base. base ≡ registered_base given peer) }
+    ensures base { IfOk result (λ base. is_base base ≡ true) }
+{
+    match given {
+        Some(base) => Ok(base),
+        None => peer_base(alloc, peer),
+    }
+}
+
+/// The links of a body against a base, or its first fault.
+fn items_of(alloc: Global, base: &str, body: &[u8]) -> Result<Items, DraftFault>
+    requires { is_base base.now ≡ true }
+    ensures { BodyReads base.now body.now result }
+{
+    let Ok(base) = parts(base) else {
+        unreachable!();
+    };
+    match check(body) {
+        Ok(links) => read_links(alloc, &base, links),
+        Err(LinkBad { at }) => Err(DraftFault::Links(at)),
+    }
+}
+
+/// The draft of a registration (RFC 9176 section 5): its links against its base, which is the one that is given, else that
+/// of the peer. A target or an anchor with a scheme stays as it was written; any other one is resolved (RFC 3986 section
+/// 5.2). The base of the parameters is one that a registration may give.
+///
+/// # Errors
+///
+/// `Links` exactly where the body is no link document; else `Reference` exactly where a target or an anchor is no
+/// URI-reference; else `Limited` exactly where a link without a scheme in its target has one in its anchor. `Starved` may
+/// come in the place of each, and leaves nothing behind.
+pub fn build(alloc: Global, params: RegParams, peer: Peer, body: &[u8]) -> Result<Draft, DraftFault>
+    requires { IfSome params.base (λ base. is_base base ≡ true) }
+    ensures draft { IfOk result (λ draft. option_map (drafted peer params) (linked_references body.now) ≡ Some draft) }
+    ensures good { IfOk result (λ draft. body_fault body.now ≡ None) }
+    ensures base { IfOk result (λ draft. is_base draft.base ≡ true) }
+    ensures references { IfOk result (λ draft. list_all has_references draft.items ≡ true) }
+    ensures refused { IfErr result (λ fault. IsFaultOf body.now fault) }
+{
+    let RegParams {
+        name,
+        lt,
+        base,
+        attrs,
+    } = params;
+    let base_given = base.is_some();
+    let base = registered_base(alloc, base, peer)?;
+    let items = items_of(alloc, base.as_str(), body)?;
+    Ok(Draft {
+        name,
+        lt,
+        base,
+        base_given,
+        attrs,
+        items,
+    })
+}
