@@ -5,3 +5,5 @@ pub mod Noting
 pub mod LookingBack
 mod LimitExamples
 pub mod ObserverLaws
+pub mod AddingLaws
+pub mod ManyObservers

@@ -1,10 +1,6 @@
 -- Tables at their limits, computed on events: kept answers, observers, and queries that are observed.
-use Rattle.std.proofs.Common.{◌≡◌, ℕ, ◌-◌, ◌/◌, ◌%◌, true, false, List, [], ◌∷◌, map, Some, is_some, refl}
+use Rattle.std.proofs.Common.{◌≡◌, ℕ, ◌-◌, true, false, List, [], ◌∷◌, map, is_some, refl}
 use Rattle.std.specs.List.{range_with_len}
-use Rattle.rd_base.specs.declared.peers.Host.TheVariants as host
-use Rattle.rd_base.specs.declared.peers.Peer.{Peer}
-use Rattle.rd_base.specs.declared.queries.Kind.TheVariants as kind
-use Rattle.rd_base.specs.declared.queries.Query.{Query}
 use Rattle.event_model.specs.declared.notes.Note.{Note}
 use Rattle.event_model.specs.declared.notes.Note.TheVariants as note
 use Rattle.event_model.specs.declared.notes.Observer.{Observer}
@@ -12,10 +8,7 @@ use Rattle.event_model.specs.Events.{Event}
 use Rattle.event_model.specs.KeptAnswers.{kept_answer}
 use Rattle.event_model.specs.Observers.{has_room_for}
 use Rattle.event_model.proofs.OnLiterals.{events_on_literals}
-
--- the peer 192.0.3.k
-abbrev peer : ℕ → Peer
-peer k = record { host = host.V4 (192 ∷ 0 ∷ 3 ∷ k ∷ []); port = 5683 }
+use Rattle.event_model.proofs.ManyObservers.{peer, page_query, observers_by}
 
 -- an event at the moment 0
 abbrev at_first : Note → Event
@@ -56,17 +49,9 @@ young_answer : is_some (kept_answer 246_999 (peer 1, 1 ∷ []) (keeps 1 ∷ []))
 unfolding events_on_literals
 young_answer = refl
 
--- a lookup of one page of the endpoints, told apart by its page
-abbrev page_query : ℕ → Query
-page_query k = record { kind = kind.Endpoint; criteria = []; page = Some k; count = Some 1 }
-
--- an observer of a query, with the token k
-abbrev observer : Query → ℕ → Observer
-observer q k = record { peer = peer 1; token = k / 256 ∷ k % 256 ∷ []; query = q; key = []; szx = 6 }
-
 -- as many observers of one query as there may be
 abbrev observers_of_one : ℕ → List Observer
-observers_of_one n = map (observer (page_query 0)) (range_with_len 0 n)
+observers_of_one n = observers_by (λ k. page_query 0) n
 
 full_of_observers : has_room_for (page_query 0) (observers_of_one 1024) ≡ false
 unfolding events_on_literals
@@ -78,7 +63,7 @@ room_for_one = refl
 
 -- observers of so many queries
 abbrev observers_of_many : ℕ → List Observer
-observers_of_many n = map (λ k. observer (page_query k) k) (range_with_len 0 n)
+observers_of_many n = observers_by page_query n
 
 full_of_queries : has_room_for (page_query 256) (observers_of_many 256) ≡ false
 unfolding events_on_literals

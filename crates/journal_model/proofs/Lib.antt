@@ -19,3 +19,4 @@ pub mod Knowing
 pub mod Observing
 pub mod TickKnowing
 pub mod ObserversKnow
+mod LimitExamples

@@ -1,14 +1,7 @@
 -- Who is due, computed: a change makes an observer due, also where it is changed back, and a look alone makes nobody due.
-use Rattle.std.proofs.Common.{◌≡◌, ℕ, Bool, true, false, List, [], ◌∷◌, ◌++◌, map, codes, refl}
-use Rattle.journal_model.specs.Meantime.{is_never}
-use Rattle.journal_model.specs.Standing.{observers_of}
-use Rattle.trace_model.specs.Steps.{told}
+use Rattle.std.proofs.Common.{◌≡◌, ℕ, true, false, List, [], ◌∷◌, ◌++◌, codes, refl}
 use Rattle.trace_model.proofs.OnLiterals.{output_on_literals}
-use Rattle.trace_model.proofs.Writing.{lines}
-
--- which of the observers are due behind a trace
-abbrev due_behind : List (List ℕ) → List Bool
-due_behind trace = map (λ w. w.due) (observers_of (told is_never 1 (lines trace)).journal)
+use Rattle.trace_model.proofs.Writing.{due_behind}
 
 -- an observer asks at 1000: CON 0.01 m=0010 t=c1 [6 x][11 rd-lookup][11 res][15 rt=light-lux]
 abbrev observing : List (List ℕ)

@@ -62,6 +62,29 @@ other_tag : output 1 (lines (
 unfolding output_on_literals
 other_tag = refl
 
+-- a device whose fetch runs is refused another
+--     in 0 1000 192.0.2.10:5683: CON 0.02 m=0005 t=e1 [11 .well-known][11 rd][15 ep=s1]
+--     go 0 1000
+--     in 0 1001 192.0.2.10:5683: CON 0.02 m=0006 t=e1 [11 .well-known][11 rd][15 ep=s1]
+--     go 0 1001
+-- gives
+--     out 0 192.0.2.10:5683: ACK 2.04 m=0005 t=e1
+--     out 0 192.0.2.10:5683: CON 0.01 m=0000 t=0000000000000001 [11 .well-known][11 core]
+--     out 0 192.0.2.10:5683: ACK 5.03 m=0006 t=e1 | fetching
+--     end 0 0 0
+refused_while_fetching : output 1 (lines (
+    codes "in 0 1000 192.0.2.10:5683 41020005e1bb2e77656c6c2d6b6e6f776e0272644565703d7331"
+    ∷ codes "go 0 1000"
+    ∷ codes "in 0 1001 192.0.2.10:5683 41020006e1bb2e77656c6c2d6b6e6f776e0272644565703d7331"
+    ∷ codes "go 0 1001" ∷ []))
+    ≡ writes (
+    codes "out 0 192.0.2.10:5683 61440005e1"
+    ∷ codes "out 0 192.0.2.10:5683 480100000000000000000001bb2e77656c6c2d6b6e6f776e04636f7265"
+    ∷ codes "out 0 192.0.2.10:5683 61a30006e1ff6665746368696e67"
+    ∷ codes "end 0 0 0" ∷ [])
+unfolding output_on_literals
+refused_while_fetching = refl
+
 -- the request is sent again four times, and then the fetch ends
 --     in 0 1000 192.0.2.10:5683: CON 0.02 m=0005 t=e1 [11 .well-known][11 rd][15 ep=s1]
 --     go 0 1000
@@ -104,6 +127,49 @@ never_answered : output 1 (lines (
     ∷ codes "end 0 0 0" ∷ [])
 unfolding output_on_literals
 never_answered = refl
+
+-- behind the end of a fetch without an answer the device is fetched from anew
+--     in 0 1000 192.0.2.10:5683: CON 0.02 m=0005 t=e1 [11 .well-known][11 rd][15 ep=s1]
+--     go 0 1000
+--     tick 0 3000
+--     tick 0 7000
+--     tick 0 15000
+--     tick 0 31000
+--     tick 0 63000
+--     in 0 63001 192.0.2.10:5683: CON 0.02 m=0006 t=e1 [11 .well-known][11 rd][15 ep=s1]
+--     go 0 63001
+-- gives
+--     out 0 192.0.2.10:5683: ACK 2.04 m=0005 t=e1
+--     out 0 192.0.2.10:5683: CON 0.01 m=0000 t=0000000000000001 [11 .well-known][11 core]
+--     out 0 192.0.2.10:5683: CON 0.01 m=0000 t=0000000000000001 [11 .well-known][11 core]
+--     out 0 192.0.2.10:5683: CON 0.01 m=0000 t=0000000000000001 [11 .well-known][11 core]
+--     out 0 192.0.2.10:5683: CON 0.01 m=0000 t=0000000000000001 [11 .well-known][11 core]
+--     out 0 192.0.2.10:5683: CON 0.01 m=0000 t=0000000000000001 [11 .well-known][11 core]
+--     out 0 192.0.2.10:5683: ACK 2.04 m=0006 t=e1
+--     out 0 192.0.2.10:5683: CON 0.01 m=0001 t=0000000000000002 [11 .well-known][11 core]
+--     end 0 0 0
+fetched_anew : output 1 (lines (
+    codes "in 0 1000 192.0.2.10:5683 41020005e1bb2e77656c6c2d6b6e6f776e0272644565703d7331"
+    ∷ codes "go 0 1000"
+    ∷ codes "tick 0 3000"
+    ∷ codes "tick 0 7000"
+    ∷ codes "tick 0 15000"
+    ∷ codes "tick 0 31000"
+    ∷ codes "tick 0 63000"
+    ∷ codes "in 0 63001 192.0.2.10:5683 41020006e1bb2e77656c6c2d6b6e6f776e0272644565703d7331"
+    ∷ codes "go 0 63001" ∷ []))
+    ≡ writes (
+    codes "out 0 192.0.2.10:5683 61440005e1"
+    ∷ codes "out 0 192.0.2.10:5683 480100000000000000000001bb2e77656c6c2d6b6e6f776e04636f7265"
+    ∷ codes "out 0 192.0.2.10:5683 480100000000000000000001bb2e77656c6c2d6b6e6f776e04636f7265"
+    ∷ codes "out 0 192.0.2.10:5683 480100000000000000000001bb2e77656c6c2d6b6e6f776e04636f7265"
+    ∷ codes "out 0 192.0.2.10:5683 480100000000000000000001bb2e77656c6c2d6b6e6f776e04636f7265"
+    ∷ codes "out 0 192.0.2.10:5683 480100000000000000000001bb2e77656c6c2d6b6e6f776e04636f7265"
+    ∷ codes "out 0 192.0.2.10:5683 61440006e1"
+    ∷ codes "out 0 192.0.2.10:5683 480100010000000000000002bb2e77656c6c2d6b6e6f776e04636f7265"
+    ∷ codes "end 0 0 0" ∷ [])
+unfolding output_on_literals
+fetched_anew = refl
 
 -- another code than 2.05 ends the fetch
 --     in 0 1000 192.0.2.10:5683: CON 0.02 m=0005 t=e1 [11 .well-known][11 rd][15 ep=s1]

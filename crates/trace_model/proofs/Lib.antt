@@ -8,6 +8,7 @@ mod BlockTraces
 mod ObserverTraces
 mod FetchTraces
 mod FullTableTraces
+mod StepTraces
 mod DueExamples
 mod BadLineTraces
 mod MeantimeTraces

@@ -1,7 +1,11 @@
 -- How traces and what is written of them are spelled out in examples.
-use Rattle.std.specs.Prelude.{ℕ, List, flat_map, replicate, Some, None}
+use Rattle.std.specs.Prelude.{ℕ, Bool, List, [], ◌∷◌, ◌++◌, map, reverse, flat_map, replicate, Some, None}
 use Rattle.line_model.specs.declared.lines.Reason.{Reason}
-use Rattle.trace_model.specs.Output.{Output, ended}
+use Rattle.journal_model.specs.declared.rows.Row.{Row}
+use Rattle.journal_model.specs.Meantime.{is_never}
+use Rattle.journal_model.specs.Standing.{observers_of}
+use Rattle.trace_model.specs.Steps.{told}
+use Rattle.trace_model.specs.Output.{Output, ended, out_lines, last_line}
 
 -- lines, each with its line feed
 abbrev pub lines : List (List ℕ) → List ℕ
@@ -18,3 +22,15 @@ stops_at number why texts = record { text = lines texts; bad = Some (record { li
 -- digits many times
 abbrev pub many : ℕ → List ℕ → List ℕ
 many n digits = flat_map (λ d. d) (replicate n digits)
+
+-- what each row of a journal writes, in the order of the rows, and behind them the last line
+abbrev pub row_by_row : List Row → List (List ℕ)
+row_by_row rows = map out_lines (reverse rows) ++ last_line rows ∷ []
+
+-- what each step of a trace writes, and behind them the last line
+abbrev pub by_steps : ℕ → List (List ℕ) → List (List ℕ)
+by_steps workers trace = row_by_row (told is_never workers (lines trace)).journal
+
+-- which of the observers are due behind a trace of one worker
+abbrev pub due_behind : List (List ℕ) → List Bool
+due_behind trace = map (λ w. w.due) (observers_of (told is_never 1 (lines trace)).journal)
