@@ -54,20 +54,14 @@ fn is_limited(target: &Referred, anchor: &Option<Referred>) -> bool
 fn text_of(referred: Option<Referred>) -> Option<Text>
     ensures { result ≡ option_map (λ r. r.text) referred }
 {
-    match referred {
-        None => None,
-        Some(referred) => Some(referred.text),
-    }
+    referred.map(|referred| referred.text)
 }
 
 /// The text of an anchor, where there is one.
 fn anchor_text(anchor: Option<Anchor>) -> Option<Text>
     ensures { result ≡ option_map (λ a. a.text) anchor }
 {
-    match anchor {
-        None => None,
-        Some(anchor) => Some(anchor.text),
-    }
+    anchor.map(|anchor| anchor.text)
 }
 
 /// A link that begins at this octet of the body, against a base.

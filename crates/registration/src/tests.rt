@@ -1,7 +1,9 @@
 //! Bodies and the drafts that they give, what drafts weigh, and links against another base.
 
 ghost use Rattle.std.specs.Prelude.{◌≡◌, true, IfOk, IfSome};
+ghost use Rattle.std.specs.List.{list_all};
 ghost use Rattle.document_model.specs.Parameters.{is_base};
+ghost use Rattle.registration.specs.Drafts.{has_references};
 
 use crate::{Draft, DraftFault, build, rebased, weight};
 use rd_base::{Host, Items, Name, Pair, Pairs, Peer, RegParams, Starved, Text};
@@ -46,7 +48,10 @@ fn params_of(alloc: Global, ep: &str, base: Option<Text>) -> Result<RegParams, S
 }
 
 /// The draft of a body, with a base or with none.
-fn draft_of(alloc: Global, base: &str, body: &[u8]) -> Result<Draft, DraftFault> {
+fn draft_of(alloc: Global, base: &str, body: &[u8]) -> Result<Draft, DraftFault>
+    ensures base { IfOk result (λ draft. is_base draft.base ≡ true) }
+    ensures references { IfOk result (λ draft. list_all has_references draft.items ≡ true) }
+{
     if base.is_empty() {
         return build(alloc, params_of(alloc, "n", None)?, PEER, body);
     }

@@ -20,8 +20,8 @@ items-preserved c =
     record {
       done = λ spelled s.
           one_more c.items.new.items c.push.new.self.items (rebased spelled item) (map (rebased spelled) c.in-Some.more.now) (map (rebased spelled) c.args.items.now)
-          (c.in_ok-push.ensures.items ∙ ap (λ (x : Item). c.items.new.items ++ x ∷ []) (new spelled s))
-          (ap (λ (ls : List Item). c.items.new.items ++ map (rebased spelled) ls) (sym first) ∙ c.items.invariant.done spelled s);
+          (◌∙◌ {A = List Item} c.in_ok-push.ensures.items (ap (λ (x : Item). c.items.new.items ++ x ∷ []) (new spelled s)))
+          (◌∙◌ {A = List Item} (ap (λ (ls : List Item). c.items.new.items ++ map (rebased spelled) ls) (sym first)) (c.items.invariant.done spelled s));
       left = parts.1;
       new =
           all_more c.items.new.items c.push.new.self.items c.in_ok-rebased_item.field-0 c.in_ok-push.ensures.items c.items.invariant.new
