@@ -1,6 +1,6 @@
 -- Choices carried through functions, and what no fault says.
 use Rattle.std.proofs.Common.{◌≡◌, ℕ, Bool, true, false, not, List, [], ◌∷◌, bytes_eq, map, Option, Some, None, refl, sym, ap, subst, ◌∙◌}
-use Rattle.std.specs.Prelude.{if◌then◌else◌, option_map, find, ◌&&◌}
+use Rattle.std.specs.Prelude.{if◌then◌else◌, option_map, find}
 use Rattle.std.specs.Str.{is_utf8}
 use Rattle.std.proofs.lemmas.Slice.Eq.{bytes_eq-Decides}
 use Rattle.document_model.proofs.ReferenceLaws.{none_some}

@@ -1,10 +1,9 @@
 -- What parameters give, one after the other.
-use Rattle.std.proofs.Common.{◌≡◌, ℕ, Bool, true, false, not, List, [], ◌∷◌, ◌++◌, bytes_eq, Option, Some, None, refl, sym, ap, subst, ◌∙◌, append_assoc}
+use Rattle.std.proofs.Common.{◌≡◌, ℕ, Bool, true, false, not, List, [], ◌∷◌, ◌++◌, bytes_eq, Option, Some, refl, sym, ap, subst, ◌∙◌, append_assoc}
 use Rattle.std.proofs.lemmas.List.{append-nil}
-use Rattle.std.specs.Prelude.{if◌then◌else◌, option_map, filter}
+use Rattle.std.specs.Prelude.{if◌then◌else◌, filter}
 use Rattle.std.proofs.lemmas.Slice.Eq.{bytes_eq-Decides}
 use Rattle.rd_base.specs.declared.attributes.Pair.{Pair}
-use Rattle.document_model.specs.declared.readings.Reading.{Reading}
 use Rattle.document_model.specs.Faults.{or_else}
 use Rattle.document_model.specs.Options.{option_name, option_value, is_among, number_of, value_named}
 use Rattle.document_model.specs.Parameters.{ep, sector, lifetime, base, own_names, pair_of_option}

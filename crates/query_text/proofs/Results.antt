@@ -1,7 +1,6 @@
 -- What a call answers where an option is refused or all are good.
-use Rattle.std.proofs.Common.{◌≡◌, ℕ, Bool, false, List, [], Option, Some, None, Result, Ok, Err, refl, sym, ap, subst, ◌∙◌}
+use Rattle.std.proofs.Common.{◌≡◌, ℕ, false, List, Option, Some, Result, Ok, Err, refl, sym, ap, subst, ◌∙◌}
 use Rattle.document_model.specs.declared.readings.Reading.{Reading}
-use Rattle.document_model.specs.declared.readings.Why.{Why}
 use Rattle.document_model.specs.Faults.{Fault}
 use Rattle.std.specs.Result.{IsErrAnd}
 use Rattle.rd_base.specs.declared.parameters.RegParams.{RegParams}

@@ -1,5 +1,5 @@
 -- The first fault of what is left, one option at a time.
-use Rattle.std.proofs.Common.{◌≡◌, ℕ, List, [], ◌∷◌, Option, Some, None, refl, sym, ap, ◌∙◌}
+use Rattle.std.proofs.Common.{◌≡◌, ℕ, List, [], ◌∷◌, Option, Some, sym, ap, ◌∙◌}
 use Rattle.document_model.specs.declared.readings.Why.{Why}
 use Rattle.document_model.specs.Faults.{or_else}
 use Rattle.query_text.specs.declared.judging.Named.{Named}

@@ -1,5 +1,5 @@
 -- What a call answers for what the definition says.
-use Rattle.std.specs.Prelude.{◌≡◌, ℕ, List, Option, None, Some, Result, Ok, Err}
+use Rattle.std.specs.Prelude.{◌≡◌, ℕ, List, None, Some, Result, Ok, Err}
 use Rattle.document_model.specs.declared.readings.Reading.{Reading}
 use Rattle.document_model.specs.declared.readings.Reading.TheVariants as reading
 use Rattle.document_model.specs.Faults.{Fault}

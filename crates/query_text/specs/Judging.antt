@@ -1,5 +1,5 @@
 -- What an option is refused for, where it is known which names stood before it.
-use Rattle.std.specs.Prelude.{ℕ, Bool, true, false, not, ◌&&◌, ◌||◌, nat_lt, List, [], ◌∷◌, length, bytes_eq, Option, Some, None, is_none, if◌then◌else◌}
+use Rattle.std.specs.Prelude.{ℕ, Bool, true, false, not, ◌&&◌, ◌||◌, nat_lt, List, [], ◌∷◌, length, bytes_eq, Option, Some, None, if◌then◌else◌}
 use Rattle.std.specs.Str.{is_utf8}
 use Rattle.document_model.specs.declared.readings.Reading.{Reading}
 use Rattle.document_model.specs.declared.readings.Reading.TheVariants as reading

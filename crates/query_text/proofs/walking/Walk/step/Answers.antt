@@ -1,7 +1,5 @@
 -- The option that was read, and what it is refused for.
-use Rattle.std.proofs.Common.{◌≡◌, ℕ, Option, List, Some, None, sym, ap, ◌∙◌}
-use Rattle.document_model.specs.declared.readings.Why.{Why}
-use Rattle.query_text.specs.Walking.{at_place}
+use Rattle.std.proofs.Common.{Some, None, sym, ◌∙◌}
 use Rattle.query_text.proofs.Steps.{ended, refused}
 use Rattle.query_text.proofs.walking.Walk.step.Goals as goal
 
