@@ -3,6 +3,7 @@ use Rattle.std.proofs.Common.{◌≡◌, ℕ, ◌+◌, ◌≤◌, ◌<◌, ◌^�
 use Rattle.std.specs.List.{list_all}
 use Rattle.std.proofs.lemmas.List.Folds.{list_all-append}
 use Rattle.rd_base.specs.declared.records.Item.{Item}
+use Rattle.rd_base.specs.declared.moments.Moment.{Moment}
 use Rattle.rd_base.specs.declared.parameters.RegParams.{RegParams}
 use Rattle.rd_base.specs.declared.peers.Peer.{Peer}
 use Rattle.rd_base.specs.declared.submitted.SubmittedLink.{SubmittedLink}
@@ -13,15 +14,16 @@ use Rattle.document_model.specs.BodyFaults.{no_document, not_limited, is_of_link
 use Rattle.document_model.specs.Documents.{Link, link_text}
 use Rattle.document_model.specs.DocumentReading.{document, good_prefix}
 use Rattle.document_model.specs.Quoting.{submitted_link, submitted_links}
-use Rattle.document_model.specs.Records.{items_of}
+use Rattle.document_model.specs.Records.{items_of, registered}
 use Rattle.document_model.specs.References.{IsReference}
 use Rattle.document_model.specs.Refusals.{is_refused_as_links}
 use Rattle.document_model.proofs.BodyLaws.{body_fault-links}
 use Rattle.document_model.proofs.DocumentLaws.{document_found}
 use Rattle.ref_resolve.specs.declared.splitting.Parts.{Parts}
 use Rattle.ref_resolve.specs.Seen.{components_of}
-use Rattle.registration.specs.Drafts.{drafted, has_references}
+use Rattle.registration.specs.Drafts.{drafted, has_references, recorded}
 use Rattle.registration.specs.Reading.{LinkReads, Reads, IsLinksFault, BodyReads, fault_from, room_of}
+use Rattle.registration.specs.declared.drafts.Draft.{Draft}
 use Rattle.registration.specs.declared.drafts.DraftFault.{DraftFault}
 use Rattle.registration.specs.declared.drafts.DraftFault.TheVariants as fault
 use Rattle.registration.proofs.FaultLaws.{fault_here, fault_of_all, fault_of_none, room_cons, room_bound}
@@ -111,3 +113,10 @@ pub drafts : (peer : Peer) (params : RegParams) (linked : Option (List Submitted
 unfolding drafted
 drafts peer params None base given items e g h = cc
 drafts peer params (Some links) base given items e g h = let same : items_of base links ≡ items = cc in rw (← e, ← g, same) refl
+
+-- and the draft becomes the record of the registration
+pub records : (number : ℕ) (now : Moment) (peer : Peer) (params : RegParams) (linked : Option (List SubmittedLink)) (draft : Draft) → option_map (drafted peer params) linked ≡ Some draft
+    → option_map (registered number now peer params) linked ≡ Some (recorded number now draft)
+unfolding drafted recorded registered
+records number now peer params None draft h = cc
+records number now peer params (Some links) draft h = let same : drafted peer params links ≡ draft = cc in ap (λ (d : Draft). Some (recorded number now d)) same

@@ -1,6 +1,7 @@
 // From a body to a draft (RFC 9176 section 5).
-ghost use Rattle.std.specs.Prelude.{◌≡◌, true, Some, None, IfOk, IfErr, IfSome, option_map};
+ghost use Rattle.std.specs.Prelude.{◌≡◌, ℕ, true, Some, None, IfOk, IfErr, IfSome, option_map};
 ghost use Rattle.std.specs.List.{list_all};
+ghost use Rattle.rd_base.specs.declared.moments.Moment.{Moment};
 ghost use Rattle.rd_base.specs.Bases.{base_of};
 ghost use Rattle.rd_base.specs.Peers.{IsHost};
 ghost use Rattle.rd_base.specs.declared.peers.Host.TheVariants as host;
@@ -8,7 +9,8 @@ ghost use Rattle.document_model.specs.Bases.{registered_base};
 ghost use Rattle.document_model.specs.Bodies.{linked_references};
 ghost use Rattle.document_model.specs.BodyFaults.{body_fault};
 ghost use Rattle.document_model.specs.Parameters.{is_base};
-ghost use Rattle.registration.specs.Drafts.{IsFaultOf, drafted, has_references};
+ghost use Rattle.document_model.specs.Records.{registered};
+ghost use Rattle.registration.specs.Drafts.{IsFaultOf, drafted, has_references, recorded};
 ghost use Rattle.registration.specs.Reading.{BodyReads};
 
 use crate::drafts::{Draft, DraftFault};
@@ -85,6 +87,7 @@ fn items_of(alloc: Global, base: &str, body: &[u8]) -> Result<Items, DraftFault>
 pub fn build(alloc: Global, params: RegParams, peer: Peer, body: &[u8]) -> Result<Draft, DraftFault>
     requires { IfSome params.base (λ base. is_base base ≡ true) }
     ensures draft { IfOk result (λ draft. option_map (drafted peer params) (linked_references body.now) ≡ Some draft) }
+    ensures record_of { (number : ℕ) (now : Moment) → IfOk result (λ draft. option_map (registered number now peer params) (linked_references body.now) ≡ Some (recorded number now draft)) }
     ensures good { IfOk result (λ draft. body_fault body.now ≡ None) }
     ensures base { IfOk result (λ draft. is_base draft.base ≡ true) }
     ensures references { IfOk result (λ draft. list_all has_references draft.items ≡ true) }
