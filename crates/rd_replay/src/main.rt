@@ -32,7 +32,7 @@ fn main(rt: HostRuntime) -> ExitCode {
             )
         }
         Err(status) => {
-            report(rt.alloc(), &mut err, status);
+            report(&mut err, status);
             status
         }
     };

@@ -1,5 +1,5 @@
 -- Fronts of texts, and how the text of a journal grows.
-use Rattle.std.proofs.Common.{◌≡◌, ℕ, ◌+◌, Bool, true, false, List, [], ◌∷◌, ◌++◌, take, drop, Option, Some, None, Result, Ok, Err, refl, sym, ap, ◌∙◌, subst, append_assoc, append-nil, take-append-drop}
+use Rattle.std.proofs.Common.{ℕ, ◌+◌, Bool, true, false, List, [], ◌∷◌, ◌++◌, take, drop, Option, Some, None, Result, Ok, Err, refl, sym, ap, ◌∙◌, subst, append_assoc, append-nil, take-append-drop}
 use Rattle.std.specs.Prelude.{is_some, nat_lt, if◌then◌else◌}
 use Rattle.std.specs.List.{flat_map}
 use Rattle.rd_base.specs.declared.moments.Moment.{Moment}
@@ -12,7 +12,6 @@ use Rattle.line_model.specs.Lines.{line_of}
 use Rattle.rd_server.specs.Journal.{out_line}
 use Rattle.rd_server.specs.Journal.{Row, Journal, journal, goes_on, after_step, after_line, worker_in, workers, gone, come_row, go_row, tick_row, number_for, held, text}
 use Rattle.rd_server.specs.Endings.{IsFrontOf, whole_text, ending}
-use Rattle.rd_server.specs.Going.{Place, journal_from}
 
 pub front_self : (xs : List ℕ) → IsFrontOf xs xs
 front_self xs = ([], sym (append-nil xs))

@@ -1,10 +1,9 @@
 -- How pieces of a trace lead on.
-use Rattle.std.proofs.Common.{◌≡◌, ℕ, ◌+◌, ◌<◌, ◌≤◌, true, List, [], ◌∷◌, ◌++◌, length, take, Option, Some, None, Result, Ok, Err, refl, sym, ap, ◌∙◌, subst, append_assoc, append-nil, length-append, arith}
+use Rattle.std.proofs.Common.{◌≡◌, ℕ, ◌+◌, ◌<◌, List, [], ◌∷◌, ◌++◌, length, take, Option, Some, None, Result, Ok, Err, refl, sym, ap, ◌∙◌, subst, append_assoc, append-nil, length-append, arith}
 use Rattle.std.proofs.lemmas.Bool.{lt-ltb}
 use Rattle.std.specs.Prelude.{IsOkAnd, IsErrAnd, if◌then◌else◌, ok_or}
 use Rattle.std.specs.Io.KnownBytes.{Appends}
 use Rattle.std.proofs.KnownBytes.{Appends-trans, Appends-nil}
-use Rattle.rd_server.specs.declared.desk.Desk.{Desk}
 use Rattle.rd_server.specs.declared.sessions.Session.{Session}
 use Rattle.line_model.specs.declared.lines.Reason.{Reason}
 use Rattle.line_model.specs.declared.lines.Reason.TheVariants as reason

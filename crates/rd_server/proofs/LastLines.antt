@@ -1,9 +1,7 @@
 -- How a trace ends.
-use Rattle.std.proofs.Common.{◌≡◌, ℕ, ◌+◌, List, [], ◌∷◌, ◌++◌, take, Option, Some, None, Result, Ok, Err, refl, sym, ap, ◌∙◌, subst, append_assoc, append-nil}
-use Rattle.std.specs.Prelude.{IsOkAnd, IsErrAnd}
+use Rattle.std.proofs.Common.{◌≡◌, ℕ, ◌+◌, List, [], ◌∷◌, ◌++◌, take, Option, Some, None, Result, refl, sym, ap, ◌∙◌, subst, append_assoc, append-nil}
 use Rattle.std.specs.Io.KnownBytes.{Appends}
 use Rattle.std.proofs.KnownBytes.{Appends-trans, Appends-nil}
-use Rattle.rd_server.specs.declared.desk.Desk.{Desk}
 use Rattle.rd_server.specs.declared.sessions.Session.{Session}
 use Rattle.line_model.specs.declared.lines.Reason.{Reason}
 use Rattle.line_model.specs.declared.lines.LineBad.{LineBad}

@@ -1,5 +1,5 @@
 -- What a whole line leads to.
-use Rattle.std.proofs.Common.{◌≡◌, ℕ, ◌+◌, List, [], ◌∷◌, ◌++◌, Option, Some, None, Result, Ok, Err, refl, sym, ap, ◌∙◌, subst}
+use Rattle.std.proofs.Common.{◌≡◌, ℕ, ◌+◌, List, ◌++◌, Option, Some, None, Result, Ok, Err, refl, sym, subst}
 use Rattle.std.specs.Prelude.{IsOkAnd}
 use Rattle.rd_base.specs.declared.peers.Peer.{Peer}
 use Rattle.rd_server.specs.declared.desk.Desk.{Desk}

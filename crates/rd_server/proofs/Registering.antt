@@ -1,17 +1,16 @@
 -- What an entry changes in the numbers of names.
-use Rattle.std.proofs.Common.{◌≡◌, ℕ, ◌+◌, ◌≤◌, Bool, true, false, cond, List, [], ◌∷◌, ◌++◌, Option, Some, None, refl, sym, ap, ◌∙◌, subst, arith}
+use Rattle.std.proofs.Common.{◌≡◌, ℕ, ◌+◌, ◌≤◌, Bool, true, false, List, [], ◌∷◌, ◌++◌, Option, Some, None, refl, sym, ap, ◌∙◌, subst, arith}
 use Rattle.std.specs.Prelude.{max, bytes_eq, if◌then◌else◌, unwrap_or}
 use Rattle.std.specs.Option.{SomeIff}
 use Rattle.std.specs.HashMap.{get}
 use Rattle.std.proofs.lemmas.Slice.Eq.{bytes_eq-Decides}
 use Rattle.rd_base.specs.declared.moments.Moment.{Moment}
-use Rattle.rd_base.specs.declared.peers.Peer.{Peer}
 use Rattle.rd_server.specs.declared.desk.Desk.{Desk}
 use Rattle.rd_server.specs.declared.desk.Job.{Job}
 use Rattle.rd_server.specs.Forms.{location}
-use Rattle.rd_server.specs.Journal.{Row, Entry, given, drawn, entries, held, go_row, number_for, number_by, number_in}
+use Rattle.rd_server.specs.Journal.{Row, Entry, given, drawn, held, number_by, number_in}
 use Rattle.rd_server.specs.declared.registry.Registry.{Registry}
-use Rattle.rd_server.specs.Standing.{StandsFor, KeepsNumbers, GivesNumber, Went, Answers}
+use Rattle.rd_server.specs.Standing.{StandsFor, KeepsNumbers, GivesNumber, Went}
 
 -- a number that a name has is not above the greatest
 below_by : (name : List ℕ) (entry : Option Entry) (earlier : Option ℕ) (most n : ℕ) → ((m : ℕ) → earlier ≡ Some m → m ≤ most)

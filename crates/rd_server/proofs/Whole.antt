@@ -1,18 +1,17 @@
 -- What a whole replay writes, by what was read.
-use Rattle.std.proofs.Common.{◌≡◌, ℕ, List, [], ◌∷◌, ◌++◌, Option, Some, None, refl, sym, ap, ◌∙◌, subst, append-nil, append_assoc}
+use Rattle.std.proofs.Common.{◌≡◌, ℕ, List, [], ◌++◌, Option, Some, None, refl, sym, ap, ◌∙◌, subst}
 use Rattle.std.specs.Prelude.{IfSome}
 use Rattle.std.specs.Io.KnownBytes.{Appends, Consumes, IsAtEnd}
 use Rattle.std.proofs.KnownBytes.{Appends-trans}
 use Rattle.line_model.specs.declared.lines.LineBad.{LineBad}
 use Rattle.rd_server.specs.declared.endings.Stop.{Stop}
 use Rattle.rd_server.specs.declared.endings.Stop.TheVariants as stop
-use Rattle.rd_server.specs.declared.endings.Status.{Status}
 use Rattle.rd_server.specs.declared.endings.Status.TheVariants as status
 use Rattle.rd_server.specs.declared.sessions.Session.{Session}
-use Rattle.rd_server.specs.Journal.{Journal, journal_of, text, end_line, journal}
+use Rattle.rd_server.specs.Journal.{Journal, journal_of, text, end_line}
 use Rattle.line_model.specs.Texts.{lines_of}
-use Rattle.rd_server.specs.Endings.{IsWritten, IsFrontOf, whole_text, ending, status_of, EndsBy}
-use Rattle.rd_server.specs.Going.{Place, Goes, Feeds, Halts, Finishes, start, journal_from}
+use Rattle.rd_server.specs.Endings.{IsWritten, IsFrontOf, whole_text, status_of}
+use Rattle.rd_server.specs.Going.{Goes, Feeds, Halts, Finishes, start, journal_from}
 use Rattle.rd_server.proofs.Fronts.{journal_front, whole_front}
 use Rattle.rd_server.proofs.Journeys.{halts_before}
 

@@ -1,5 +1,5 @@
 -- How a replay ends: its status, what stands in the output and on the error sink, and why.
-use Rattle.std.specs.Prelude.{◌≡◌, ℕ, ◌≤◌, List, [], ◌∷◌, ◌++◌, codes, decimal, Bool, true, false, Option, Some, None, if◌then◌else◌, bytes_eq}
+use Rattle.std.specs.Prelude.{◌≡◌, ◌⊎◌, ℕ, ◌≤◌, List, [], ◌∷◌, ◌++◌, codes, decimal, Bool, true, false, Option, Some, None, bytes_eq}
 use Rattle.std.specs.Io.KnownBytes.{Appends}
 use Rattle.rd_base.specs.Outside.{Rose}
 use Rattle.line_model.specs.declared.lines.Reason.{Reason}
@@ -69,13 +69,16 @@ status_text status.Usage = codes "usage: rd_replay [--workers N] [--make N]\n"
 status_text (status.Line bad) = line_text bad
 status_text status.Memory = codes "memory\n"
 
--- a text was said, or a front of it
-abbrev pub Says : Option (List ℕ) → Option (List ℕ) → List ℕ → Type 0
-Says before now said = (front : List ℕ) × IsFrontOf front said × Appends before now front
+-- a text was said, or a front of it where a fault was counted
+pub record Says (before now : Option (List ℕ)) (counted counts : ℕ) (text : List ℕ) : Type 0 where
+  pub said : List ℕ
+  pub front : IsFrontOf said text
+  pub stands : Appends before now said
+  pub whole : (said ≡ text) ⊎ Rose counted counts
 
--- a front of what is said of the status stands on the error sink
-abbrev pub IsReported : Option (List ℕ) → Option (List ℕ) → Status → Type 0
-IsReported before now status = Says before now (status_text status)
+-- what is said of the status stands on the error sink, or a front of it where a fault was counted
+abbrev pub IsReported : Option (List ℕ) → Option (List ℕ) → ℕ → ℕ → Status → Type 0
+IsReported before now counted counts status = Says before now counted counts (status_text status)
 
 -- the words are none, or the one word for one worker
 abbrev pub are_words : List (List ℕ) → Bool

@@ -1,10 +1,9 @@
 -- How a replay goes from one place in a trace to another.
-use Rattle.std.specs.Prelude.{◌≡◌, ℕ, ◌≤◌, List, [], ◌∷◌, ◌++◌, Bool, true, false, Option, Some, None, Result, Ok, Err, IsOkAnd, IsErrAnd, ◌+◌, take}
+use Rattle.std.specs.Prelude.{◌≡◌, ℕ, ◌≤◌, List, [], ◌++◌, Bool, true, false, Option, Some, None, Result, Ok, Err, IsOkAnd, IsErrAnd, ◌+◌, take}
 use Rattle.std.specs.Io.KnownBytes.{Appends, Consumes, IsAtEnd}
 use Rattle.rd_base.specs.Outside.{Rose}
 use Rattle.rd_base.specs.declared.peers.Peer.{Peer}
 use Rattle.line_model.specs.declared.lines.Reason.{Reason}
-use Rattle.line_model.specs.declared.lines.LineBad.{LineBad}
 use Rattle.rd_server.specs.declared.endings.Stop.{Stop}
 use Rattle.rd_server.specs.declared.endings.Stop.TheVariants as stop
 use Rattle.rd_server.specs.declared.endings.Read.{Read}
@@ -18,7 +17,7 @@ use Rattle.line_model.specs.Lines.{line_of}
 use Rattle.line_model.specs.Texts.{lines_of}
 use Rattle.rd_server.specs.Journal.{Row, Journal, journal, after_line, out_line, text}
 use Rattle.rd_server.specs.Standing.{StandsFor}
-use Rattle.rd_server.specs.Endings.{IsFrontOf, whole_text, ending}
+use Rattle.rd_server.specs.Endings.{IsFrontOf, whole_text}
 
 -- a place in a trace: the rows so far, the number of the next line, and what has come of that line
 pub record Place : Type 0 where

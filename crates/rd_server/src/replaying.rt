@@ -1,5 +1,5 @@
 // A trace replayed: from words and octets to output lines and a status.
-ghost use Rattle.std.specs.Prelude.{◌≡◌, ◌↔◌, ℕ, List, [], map, IfSome, IfOk, true, false};
+ghost use Rattle.std.specs.Prelude.{◌≡◌, ◌↔◌, ◌≤◌, ℕ, List, [], map, flat_map, drop, decimal, IfSome, true, false};
 ghost use Rattle.std.specs.String.{string_bytes};
 ghost use Rattle.std.specs.Io.KnownBytes.{IsAtEnd};
 ghost use Rattle.std.specs.List.{AllByRecursion};
@@ -10,9 +10,13 @@ ghost use Rattle.rd_server.specs.Going.{Place, IsAt, ReadsAll, CountsFailed, Cou
 
 use crate::endings::{Read, Status, Stop};
 use crate::sessions::{Session, write_all};
-use rd_base::{Bytes, Got, Sink, Source, Starved};
+use itoa::write_digits;
+use rd_base::{Got, Sink, Source};
 use std::alloc::Global;
 use trace_text::{LineBad, Reason};
+
+/// The digits that a number of 64 bits has at most.
+const DIGITS: usize = 20;
 
 /// Reads the trace piece by piece, and does its lines.
 fn read_all<S: Source, K: Sink>(
@@ -100,44 +104,60 @@ fn are_words(words: &[String]) -> bool
     }
 }
 
-/// What is said of a bad line.
-fn line_text(alloc: Global, bad: LineBad) -> Result<Bytes, Starved>
-    ensures { IfOk result (λ text. text ≡ ends.line_text bad) }
+/// The name of a reason.
+fn reason_name(why: Reason) -> &'static [u8]
+    ensures { result.now ≡ ends.reason_text why }
 {
-    let line = bad.line;
-    let why = match bad.why {
-        Reason::Long => "long",
-        Reason::Form => "form",
-        Reason::Worker => "worker",
-        Reason::Busy => "busy",
-    };
-    let text = format!(in alloc; "line {line}: {why}\n")?;
-    Ok(Bytes::of(text.into_bytes()))
+    match why {
+        Reason::Long => b"long",
+        Reason::Form => b"form",
+        Reason::Worker => b"worker",
+        Reason::Busy => b"busy",
+    }
 }
 
-/// Says on the error sink how a replay ended: nothing for `Done`. What can't be said there is left out.
-pub fn report<E: Sink>(alloc: Global, err: &mut E, status: Status)
-    ensures { IsReported (E.holds err.old) (E.holds err.new) status }
+/// Writes texts one behind the other, or a front of them where the sink fails.
+fn say<E: Sink>(err: &mut E, texts: &[&[u8]])
+    ensures { ends.Says (E.holds err.old) (E.holds err.new) (E.faults err.old) (E.faults err.new) (flat_map (λ text. text.now) texts.now) }
 {
-    match status {
-        Status::Done => {}
-        Status::ReadFault => say(err, b"read failed\n"),
-        Status::WriteFault => say(err, b"write failed\n"),
-        Status::Usage => say(err, b"usage: rd_replay [--workers N] [--make N]\n"),
-        Status::Memory => say(err, b"memory\n"),
-        Status::Line(bad) => {
-            if let Ok(text) = line_text(alloc, bad) {
-                say(err, text.as_slice());
-            }
+    'texts: for text in texts {
+        if !write_all(err, text) {
+            return;
         }
     }
 }
 
-/// Writes a text, or a front of it where the sink fails.
-fn say<E: Sink>(err: &mut E, text: &[u8])
-    ensures { ends.Says (E.holds err.old) (E.holds err.new) text.now }
+/// Writes the digits of a number to the end of the octets, and answers where they begin.
+fn write_number(number: u64, into: &mut [u8; DIGITS]) -> usize
+    ensures digits { drop result into.new ≡ decimal number }
+    ensures within { result ≤ 20 }
 {
-    let _ = write_all(err, text);
+    write_digits(number, into, DIGITS)
+}
+
+/// Says which line is bad, and why. Takes no memory.
+fn say_line<E: Sink>(err: &mut E, bad: LineBad)
+    ensures { ends.Says (E.holds err.old) (E.holds err.new) (E.faults err.old) (E.faults err.new) (ends.line_text bad) }
+{
+    let mut digits = [0; DIGITS];
+    let start = write_number(bad.line, &mut digits);
+    let why = reason_name(bad.why);
+    say(err, &[b"line ", &digits[start..], b": ", why, b"\n"])
+}
+
+/// Says on the error sink how a replay ended: nothing for `Done`. A front of it is said where the sink fails. Takes no
+/// memory.
+pub fn report<E: Sink>(err: &mut E, status: Status)
+    ensures { IsReported (E.holds err.old) (E.holds err.new) (E.faults err.old) (E.faults err.new) status }
+{
+    match status {
+        Status::Done => {}
+        Status::ReadFault => say(err, &[b"read failed\n"]),
+        Status::WriteFault => say(err, &[b"write failed\n"]),
+        Status::Usage => say(err, &[b"usage: rd_replay [--workers N] [--make N]\n"]),
+        Status::Memory => say(err, &[b"memory\n"]),
+        Status::Line(bad) => say_line(err, bad),
+    }
 }
 
 /// Replays a trace: reads it from `source` to its end and writes to `out` a line for each datagram that is sent,
@@ -163,8 +183,8 @@ pub fn replay<S: Source, K: Sink, E: Sink>(
     // ReadFault and WriteFault come only where a count rose, and any other status only where it did not.
     ensures reads { CountsReads (S.faults source.old) (S.faults source.new) result }
     ensures writes { CountsWrites (K.faults out.old) (K.faults out.new) result }
-    // What is said of the status, or a front of it where `err` fails.
-    ensures reported { IsReported (E.holds err.old) (E.holds err.new) result }
+    // The text of the status was said, or a front of it where `err` counted a fault.
+    ensures reported { IsReported (E.holds err.old) (E.holds err.new) (E.faults err.old) (E.faults err.new) result }
     // In each journal a step has its one entry exactly where it ends a job and is answered 2.01.
     ensures accounted { (lines : List (List ℕ)) → AllByRecursion journals.IsAccounted (journals.journal [] 1 lines).rows }
 {
@@ -173,6 +193,6 @@ pub fn replay<S: Source, K: Sink, E: Sink>(
     } else {
         Status::Usage
     };
-    report(alloc, err, status);
+    report(err, status);
     status
 }

@@ -1,4 +1,4 @@
-use Rattle.std.proofs.Common.{ap, sym, ◌∙◌, ◌+◌, Some, take, drop, length, ℕ, List, arith}
+use Rattle.std.proofs.Common.{ap, ◌∙◌, ◌+◌, Some, take, ℕ, List, arith}
 use Rattle.std.proofs.lemmas.List.{length-drop, take_all}
 use Rattle.rd_server.proofs.Cuts.{cut_none, cut_some}
 use Rattle.rd_server.proofs.fields.cut.Goals as goal

@@ -1,5 +1,5 @@
 use Rattle.std.proofs.Common.{◌∙◌, sym}
-use Rattle.rd_server.specs.Forms.{is_segment, is_plain_document}
+use Rattle.rd_server.specs.Forms.{is_segment}
 use Rattle.rd_server.proofs.Parts.{all_more, all_fails, all_last}
 use Rattle.rd_server.proofs.forms.are_segments.Goals as goal
 

@@ -1,4 +1,4 @@
-use Rattle.std.proofs.Common.{◌≡◌, List, ℕ, ◌++◌, take, Some, None, refl, ◌∙◌}
+use Rattle.std.proofs.Common.{◌++◌, take, Some, None, refl, ◌∙◌}
 use Rattle.std.proofs.KnownBytes.{Consumes-trans}
 use Rattle.rd_server.proofs.Journeys.{feeds_more}
 use Rattle.rd_server.proofs.replaying.read_all.Goals as goal

@@ -1,4 +1,4 @@
-use Rattle.std.proofs.Common.{◌∙◌, length, arith}
+use Rattle.std.proofs.Common.{◌∙◌, arith}
 use Rattle.rd_server.proofs.Writing.{more_written}
 use Rattle.rd_server.proofs.sessions.write_all.Goals as goal
 

@@ -1,4 +1,4 @@
-use Rattle.std.proofs.Common.{◌≡◌, ◌+◌, ℕ, Some, arith, sym, ◌∙◌}
+use Rattle.std.proofs.Common.{sym}
 use Rattle.rd_server.proofs.Registering.{gives_again}
 use Rattle.rd_server.proofs.registry.Registry.number_for.Goals as goal
 

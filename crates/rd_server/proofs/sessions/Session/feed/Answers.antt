@@ -1,4 +1,4 @@
-use Rattle.std.proofs.Common.{◌≡◌, List, ℕ, [], ◌∷◌, ◌++◌, Some, None, refl, sym, ap, ◌∙◌}
+use Rattle.std.proofs.Common.{[], ◌∷◌, ◌++◌, Some, None, refl, sym, ◌∙◌}
 use Rattle.rd_server.proofs.LineFeeds.{cut_pieces}
 use Rattle.rd_server.proofs.Journeys.{feeds_more, stops_anyway, piece_is, counts_still}
 use Rattle.rd_server.proofs.sessions.Session.feed.Goals as goal

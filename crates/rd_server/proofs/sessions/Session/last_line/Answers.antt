@@ -1,4 +1,4 @@
-use Rattle.std.proofs.Common.{◌≡◌, [], true, false, sym, ◌∙◌}
+use Rattle.std.proofs.Common.{◌≡◌, true, false, ◌∙◌}
 use Rattle.rd_server.proofs.LastLines.{last_done, none_begun}
 use Rattle.rd_server.proofs.sessions.Session.last_line.Goals as goal
 
