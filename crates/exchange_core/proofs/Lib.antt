@@ -1,0 +1,2 @@
+pub mod ResendLaws
+pub mod RowLaws
