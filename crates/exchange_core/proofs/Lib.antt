@@ -1,2 +1,6 @@
 pub mod ResendLaws
 pub mod RowLaws
+pub mod Finding
+pub mod RepeatLaws
+pub mod ExchangeLaws
+pub mod StandingLaws

@@ -5,6 +5,7 @@ use Rattle.std.proofs.lemmas.Bool.{false≢true}
 use Rattle.std.proofs.lemmas.List.{take_more, take_all}
 use Rattle.std.proofs.lemmas.List.Quantifiers.{position-Some}
 use Rattle.rd_base.specs.declared.peers.Peer.{Peer}
+use Rattle.history_model.proofs.Lists.{length-filter-le}
 use Rattle.event_model.specs.Events.{is_young, exchange_lifetime}
 use Rattle.exchange_core.specs.declared.answers.Keyed.{Keyed}
 use Rattle.exchange_core.specs.declared.rows.Exchange.{Exchange}
@@ -146,7 +147,7 @@ pub oldest_behind : (xs : List Exchange) (n : ℕ) (x : Exchange) → n ≡ leng
 oldest_behind xs n x e some is =
     let more : take (n - 1 + 1) xs ≡ take (n - 1) xs ++ get_or xs (n - 1) x ∷ [] = take_more xs (n - 1) x (omega (arith, e, some)) in
     let whole : n - 1 + 1 ≡ length xs = omega (arith, e, some) in
-    sym (take_all xs (n - 1 + 1) (omega (arith, whole))) ∙ (more ∙ ap (λ y. take (n - 1) xs ++ y ∷ []) (sym is))
+    sym (take_all (n - 1 + 1) xs (omega (arith, whole))) ∙ (more ∙ ap (λ y. take (n - 1) xs ++ y ∷ []) (sym is))
 
 -- where the latest is old, each is
 pub young-none : (now last : ℕ) (xs : List Exchange) → InOrder last xs → is_young now last ≡ false → young now xs ≡ []
@@ -173,3 +174,25 @@ repeat_among-young now peer mid last (x ∷ xs) order =
     by true false w y more = rw (y, young-none now x.admitted.0 xs order.1 y) refl
     by false true w y more = rw w more
     by false false w y more = more
+
+-- how many are left
+pub length-young : (now : ℕ) (xs : List Exchange) → length (young now xs) ≤ length xs
+length-young now xs = length-filter-le (λ x. is_young now x.admitted.0) xs
+
+pub length-answered : (test : Exchange → Bool) (reply : List ℕ) (xs : List Exchange) → length (answered_first test reply xs) ≡ length xs
+unfolding answered_first
+length-answered test reply [] = refl
+length-answered test reply (x ∷ xs) = by (test x) (length-answered test reply xs)
+  where
+    by : (b : Bool) → length (answered_first test reply xs) ≡ length xs → length (cond b (answered reply x ∷ xs) (x ∷ answered_first test reply xs)) ≡ length (x ∷ xs)
+    by true more = refl
+    by false more = ap (λ n. suc n) more
+
+pub length-without : (test : Exchange → Bool) (xs : List Exchange) → length (without_first test xs) ≤ length xs
+unfolding without_first
+length-without test [] = omega arith
+length-without test (x ∷ xs) = by (test x) (length-without test xs)
+  where
+    by : (b : Bool) → length (without_first test xs) ≤ length xs → length (cond b xs (x ∷ without_first test xs)) ≤ length (x ∷ xs)
+    by true more = omega arith
+    by false more = omega (arith, more)

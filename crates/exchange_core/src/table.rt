@@ -3,7 +3,7 @@ ghost use Rattle.std.specs.Prelude.{◌≡◌, ◌≢◌, ℕ, ◌≤◌, [], �
 ghost use Rattle.rd_base.specs.declared.peers.Peer.{Peer};
 ghost use Rattle.event_model.specs.declared.notes.Note.TheVariants as note;
 ghost use Rattle.event_model.specs.Events.{Event};
-ghost use Rattle.exchange_core.specs.Rows.{Table};
+ghost use Rattle.exchange_core.specs.Rows.{young};
 ghost use Rattle.exchange_core.specs.Standing.{StandsFor, IsOrderly, NoneAfter, IsNewPlace, HasAdmission, keyed_by};
 
 use crate::held::{answer_first, drop_first, drop_old, repeat_in};
@@ -93,6 +93,7 @@ impl Exchanges {
     pub fn age(&mut self, now: Moment)
         requires { self.old.moment ≤ now.0 }
         ensures stands { (at : ℕ) (events : List Event) → at ≤ now.0 → StandsFor at events self.old → StandsFor now.0 events self.new }
+        ensures left { self.new.exchanges ≡ young now.0 self.old.exchanges }
         ensures moment { self.new.moment ≡ now.0 }
     {
         drop_old(&mut self.rows, now);
