@@ -133,17 +133,15 @@ each_matches place peer mid moment (x ∷ rest) pairs there =
         → (list_any (is_admitted_event place peer mid moment) rest ≡ true → AllByRecursion (Matches place peer mid moment) rest) → AllByRecursion (Matches place peer mid moment) (x ∷ rest)
     by true e h more =
         let here = at_place place peer mid moment x e in
-        let at = here.0 in
-        (
+        let at = here.0 in (
           here.1 ∙ sym (grind (arith, at)),
           each_weaker (Follows x) (Matches place peer mid moment)
-          (λ y follows. same (test y) (place == y.place) (λ second. not_both place peer mid moment x y follows here.1 second) (eqb-differs place y.place (λ e. follows.place (sym e ∙ sym at)))) rest pairs.0,
+              (λ y follows. same (test y) (place == y.place) (λ second. not_both place peer mid moment x y follows here.1 second) (eqb-differs place y.place (λ e. follows.place (sym e ∙ sym at)))) rest pairs.0,
         )
     by false e h more =
         let other = any_known (Follows x) (is_admitted_event place peer mid moment) rest h pairs.0 in
         let there = at_place place peer mid moment other.0 other.1 in
-        let at = there.0 in
-        (
+        let at = there.0 in (
           same (test x) (place == x.place) (λ first. not_both place peer mid moment x other.0 other.2 first there.1) (eqb-differs place x.place (λ e. other.2.place (at ∙ e))),
           more h,
         )

@@ -4,3 +4,4 @@ pub mod Finding
 pub mod RepeatLaws
 pub mod ExchangeLaws
 pub mod StandingLaws
+pub mod OrderLaws

@@ -34,10 +34,10 @@ pub StandsFor-later : (at now : ℕ) (events : List Event) (t : Table) → at �
 unfolding exchanges_at kept
 StandsFor-later at now events t h stands = record {
   kept =
-    sym (young-later at now t.exchanges h)
-    ∙ (ap (young now) stands.kept
-    ∙ (young-exchanges now events (filter (λ a. is_young at a.moment) (admissions events))
-    ∙ ap (filter_map (exchange_of events)) (filter_stronger (λ a. is_young now a.moment) (λ a. is_young at a.moment) (λ a y. young_before at now a.moment h y) (admissions events))));
+      sym (young-later at now t.exchanges h)
+      ∙ (ap (young now) stands.kept
+      ∙ (young-exchanges now events (filter (λ a. is_young at a.moment) (admissions events))
+      ∙ ap (filter_map (exchange_of events)) (filter_stronger (λ a. is_young now a.moment) (λ a. is_young at a.moment) (λ a y. young_before at now a.moment h y) (admissions events))));
 }
 
 -- and so does one that keeps of its exchanges those that are young then
@@ -219,7 +219,7 @@ StandsFor-admitted now peer mid e events t more is at new added stands = record 
         ≡ just_admitted peer mid now ∷ filter_map (exchange_of events) here
     there =
         subst (λ n. filter_map (exchange_of (e ∷ events)) (filter (λ a. is_young now a.moment) (admission_by n e ++ filter (λ a. not (is_failure_of a.place n)) (admissions events)))
-            ≡ just_admitted peer mid now ∷ filter_map (exchange_of events) here) (sym is)
+        ≡ just_admitted peer mid now ∷ filter_map (exchange_of events) here) (sym is)
         (rw (all_of (admissions events)) (rw young_now
         (ap (λ o. cons_option o (filter_map (exchange_of (e ∷ events)) here)) (in_flight now peer mid e events is at new)
         ∙ ap (λ xs. just_admitted peer mid now ∷ xs) (same-exchanges e events here (each_one (λ a. answer_noted a.place e.note ≡ None) (λ a. silent a.place) here)))))
@@ -230,12 +230,12 @@ pub StandsFor-settled : (at place : ℕ) (peer : Peer) (mid admitted : ℕ) (rep
 unfolding exchanges_at kept admissions
 StandsFor-settled at place peer mid admitted reply e events t more is orderly there changed stands = record {
   kept =
-    ap (young at) changed
-    ∙ (young-answered at peer mid admitted reply t.exchanges
-    ∙ (ap (answered_first (is_admitted_at peer mid admitted) reply) stands.kept
-    ∙ (answered-exchanges place peer mid admitted reply e events here is (pairs_filter Follows (λ a. is_young at a.moment) (admissions events) pairs)
-        (each_filter (Matches place peer mid admitted) (λ a. is_young at a.moment) (admissions events) (each_matches place peer mid admitted (admissions events) pairs there))
-    ∙ sym same)));
+      ap (young at) changed
+      ∙ (young-answered at peer mid admitted reply t.exchanges
+      ∙ (ap (answered_first (is_admitted_at peer mid admitted) reply) stands.kept
+      ∙ (answered-exchanges place peer mid admitted reply e events here is (pairs_filter Follows (λ a. is_young at a.moment) (admissions events) pairs)
+      (each_filter (Matches place peer mid admitted) (λ a. is_young at a.moment) (admissions events) (each_matches place peer mid admitted (admissions events) pairs there))
+      ∙ sym same)));
 }
   where
     here : List Event
@@ -248,7 +248,7 @@ StandsFor-settled at place peer mid admitted reply e events t more is orderly th
         ≡ filter_map (exchange_of (e ∷ events)) here
     same =
         subst (λ n. filter_map (exchange_of (e ∷ events)) (filter (λ a. is_young at a.moment) (admission_by n e ++ filter (λ a. not (is_failure_of a.place n)) (admissions events)))
-            ≡ filter_map (exchange_of (e ∷ events)) here) (sym is) (rw (all_of (admissions events)) refl)
+        ≡ filter_map (exchange_of (e ∷ events)) here) (sym is) (rw (all_of (admissions events)) refl)
 
 -- one that ends a write for want of memory
 pub StandsFor-failed : (at place : ℕ) (peer : Peer) (mid admitted : ℕ) (e : Event) (events : List Event) (t fewer : Table) → e.note ≡ note.Failed place → IsOrderly events
@@ -256,14 +256,14 @@ pub StandsFor-failed : (at place : ℕ) (peer : Peer) (mid admitted : ℕ) (e : 
 unfolding exchanges_at kept admissions
 StandsFor-failed at place peer mid admitted e events t fewer is orderly there changed stands = record {
   kept =
-    ap (young at) changed
-    ∙ (young-without at peer mid admitted t.exchanges
-    ∙ (ap (without_first (is_admitted_at peer mid admitted)) stands.kept
-    ∙ (without-exchanges place peer mid admitted events here
-        (each_filter (λ a. is_admitting a.note ≡ true) (λ a. is_young at a.moment) (admissions events) (each_admits events))
-        (pairs_filter Follows (λ a. is_young at a.moment) (admissions events) pairs)
-        (each_filter (Matches place peer mid admitted) (λ a. is_young at a.moment) (admissions events) (each_matches place peer mid admitted (admissions events) pairs there))
-    ∙ sym same)));
+      ap (young at) changed
+      ∙ (young-without at peer mid admitted t.exchanges
+      ∙ (ap (without_first (is_admitted_at peer mid admitted)) stands.kept
+      ∙ (without-exchanges place peer mid admitted events here
+      (each_filter (λ a. is_admitting a.note ≡ true) (λ a. is_young at a.moment) (admissions events) (each_admits events))
+      (pairs_filter Follows (λ a. is_young at a.moment) (admissions events) pairs)
+      (each_filter (Matches place peer mid admitted) (λ a. is_young at a.moment) (admissions events) (each_matches place peer mid admitted (admissions events) pairs there))
+      ∙ sym same)));
 }
   where
     here : List Event
@@ -279,6 +279,6 @@ StandsFor-failed at place peer mid admitted e events t fewer is orderly there ch
         ≡ filter_map (exchange_of events) left
     same =
         subst (λ n. filter_map (exchange_of (e ∷ events)) (filter (λ a. is_young at a.moment) (admission_by n e ++ filter (λ a. not (is_failure_of a.place n)) (admissions events)))
-            ≡ filter_map (exchange_of (e ∷ events)) left) (sym is)
+        ≡ filter_map (exchange_of (e ∷ events)) left) (sym is)
         (ap (filter_map (exchange_of (e ∷ events))) (filter_swapped (λ a. is_young at a.moment) (λ a. not (place == a.place)) (admissions events)))
         ∙ same-exchanges e events left (each_one (λ a. answer_noted a.place e.note ≡ None) (λ a. ap (answer_noted a.place) is) left)

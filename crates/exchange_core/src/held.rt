@@ -45,15 +45,11 @@ pub fn drop_old(rows: &mut VecDeque<Exchange>, now: Moment)
 }
 
 /// The place of the write that was admitted at a moment.
-fn place_of(
-    rows: &VecDeque<Exchange>,
-    peer: Peer,
-    mid: u16,
-    admitted: Moment,
-) -> Option<usize>
+fn place_of(rows: &VecDeque<Exchange>, peer: Peer, mid: u16, admitted: Moment) -> Option<usize>
     ensures { result ≡ position (is_admitted_at peer mid admitted.0) rows.now.items }
 {
-    rows.iter().position(|exchange| exchange.is_admitted_at(peer, mid, admitted))
+    rows.iter()
+        .position(|exchange| exchange.is_admitted_at(peer, mid, admitted))
 }
 
 /// Keeps the reply of the write that was admitted at a moment.

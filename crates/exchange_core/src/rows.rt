@@ -24,28 +24,28 @@ pub struct Exchange {
 
 impl Exchange {
     /// Whether it is a write of this peer under this Message ID.
-    pub fn is_with(&self, peer: Peer, mid: u16) -> bool
+    pub(crate) fn is_with(&self, peer: Peer, mid: u16) -> bool
         ensures { result ≡ is_with peer mid self.now }
     {
         self.peer == peer && self.mid == mid
     }
 
     /// Whether it is the write of this peer under this Message ID that was admitted at this moment.
-    pub fn is_admitted_at(&self, peer: Peer, mid: u16, admitted: Moment) -> bool
+    pub(crate) fn is_admitted_at(&self, peer: Peer, mid: u16, admitted: Moment) -> bool
         ensures { result ≡ is_admitted_at peer mid admitted.0 self.now }
     {
         self.is_with(peer, mid) && self.admitted == admitted
     }
 
     /// Whether it is not older than an exchange lives.
-    pub fn is_young(&self, now: Moment) -> bool
+    pub(crate) fn is_young(&self, now: Moment) -> bool
         ensures { result ≡ is_young now.0 self.now.admitted.0 }
     {
         now.0.saturating_sub(self.admitted.0) < EXCHANGE_LIFETIME
     }
 
     /// How a write that repeats it is answered.
-    pub fn repeated(&self) -> Keyed
+    pub(crate) fn repeated(&self) -> Keyed
         ensures { result ≡ repeating self.now.reply }
     {
         match &self.reply {

@@ -3,7 +3,7 @@ ghost use Rattle.std.specs.Prelude.{◌≡◌, ◌≢◌, ℕ, ◌≤◌, [], �
 ghost use Rattle.rd_base.specs.declared.peers.Peer.{Peer};
 ghost use Rattle.event_model.specs.declared.notes.Note.TheVariants as note;
 ghost use Rattle.event_model.specs.Events.{Event};
-ghost use Rattle.exchange_core.specs.Rows.{young};
+ghost use Rattle.exchange_core.specs.Rows.{is_admitted_at, young, answered_first, without_first};
 ghost use Rattle.exchange_core.specs.Standing.{StandsFor, IsOrderly, NoneAfter, IsNewPlace, HasAdmission, keyed_by};
 
 use crate::held::{answer_first, drop_first, drop_old, repeat_in};
@@ -76,6 +76,7 @@ impl Exchanges {
     /// Keeps the reply of the write that was admitted at a moment, where it is still there.
     pub fn settle(&mut self, peer: Peer, mid: u16, admitted: Moment, reply: Reply)
         ensures stands { (at : ℕ) (events : List Event) (e : Event) (place : ℕ) → IsOrderly events → HasAdmission place peer mid admitted.0 events → e.note ≡ note.Settled place reply → StandsFor at events self.old → StandsFor at (e ∷ events) self.new }
+        ensures answered { self.new.exchanges ≡ answered_first (is_admitted_at peer mid admitted.0) reply self.old.exchanges }
         ensures moment { self.new.moment ≡ self.old.moment }
     {
         answer_first(&mut self.rows, peer, mid, admitted, reply);
@@ -84,6 +85,7 @@ impl Exchanges {
     /// Forgets the write that was admitted at a moment.
     pub fn forget(&mut self, peer: Peer, mid: u16, admitted: Moment)
         ensures stands { (at : ℕ) (events : List Event) (e : Event) (place : ℕ) → IsOrderly events → HasAdmission place peer mid admitted.0 events → e.note ≡ note.Failed place → StandsFor at events self.old → StandsFor at (e ∷ events) self.new }
+        ensures forgotten { self.new.exchanges ≡ without_first (is_admitted_at peer mid admitted.0) self.old.exchanges }
         ensures moment { self.new.moment ≡ self.old.moment }
     {
         drop_first(&mut self.rows, peer, mid, admitted);

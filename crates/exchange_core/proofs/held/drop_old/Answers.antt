@@ -25,8 +25,8 @@ oldest-preserved c =
     let left : c.pop_back.new.self.items ≡ front = c.pop_back.ensures.rest in
     record {
       items =
-        ap (λ xs. young c.args.now.0 xs) left
-        ∙ (sym (young-popped c.args.now.0 front x (sym c.is_young.ensures ∙ c.if-is_young.false)) ∙ (ap (λ xs. young c.args.now.0 xs) (sym whole) ∙ c.oldest.invariant.items));
+          ap (λ xs. young c.args.now.0 xs) left
+          ∙ (sym (young-popped c.args.now.0 front x (sym c.is_young.ensures ∙ c.if-is_young.false)) ∙ (ap (λ xs. young c.args.now.0 xs) (sym whole) ∙ c.oldest.invariant.items));
       order = subst (InOrder c.args.now.0) (sym left) (InOrder-popped c.args.now.0 front x (subst (InOrder c.args.now.0) whole c.oldest.invariant.order));
       capacity = c.pop_back.ensures.capacity ∙ c.oldest.invariant.capacity;
     }

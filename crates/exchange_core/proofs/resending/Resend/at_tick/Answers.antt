@@ -3,7 +3,6 @@ use Rattle.exchange_core.specs.Resending.{Resending, Resends}
 use Rattle.exchange_core.proofs.ResendLaws.{due_waits, due_sends, due_ends, sent_again}
 use Rattle.exchange_core.proofs.resending.Resend.at_tick.Goals as goal
 
-
 pub returns-then-saturating_sub-from-clause-answer : goal.returns-then-saturating_sub-from-clause-answer
 returns-then-saturating_sub-from-clause-answer c first others h =
     due_waits c.args.now.0 first others (record { sent = c.self.inside.sent.0; wait = c.self.inside.wait; again = c.self.inside.again }) (omega (arith, c.if-saturating_sub-from.true, c.saturating_sub.ensures, c.from.ensures)) (subst (Resends first others) (sym c.self.view_is) h)

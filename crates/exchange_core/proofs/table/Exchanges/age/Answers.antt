@@ -14,8 +14,7 @@ invariant_of-self c =
     let fewer = length-young c.args.now.0 c.self.inside.rows.items in
     let ok = c.self.inside.rows.ok.0 in
     let ok_now = c.drop_old.new.rows.ok.0 in
-    let before = c.self.invariant in
-    (
+    let before = c.self.invariant in (
       omega (arith, same, before),
       omega (arith, before, left, fewer, ok, ok_now),
       subst (InOrder c.args.now.0) (sym c.drop_old.ensures.items) (InOrder-young c.args.now.0 c.args.now.0 c.self.inside.rows.items (InOrder-later c.self.inside.moment.0 c.args.now.0 c.self.inside.rows.items (subst (λ (t : Table). t.moment ≤ c.args.now.0) (sym c.self.view_is) c.requires) c.self.invariant.2)),

@@ -15,8 +15,7 @@ invariant_of-self c =
     let as_many = ap length items in
     let ok = c.self.inside.rows.ok.0 in
     let ok_now = c.answer_first.new.rows.ok.0 in
-    let before = c.self.invariant in
-    (
+    let before = c.self.invariant in (
       omega (arith, room, before),
       omega (arith, before, many, as_many, ok, ok_now),
       subst (InOrder c.self.inside.moment.0) (sym items) (InOrder-answered test c.args.reply c.self.inside.moment.0 xs before.2),
@@ -26,3 +25,6 @@ pub returns-clause-stands : goal.returns-clause-stands
 returns-clause-stands c at events e place orderly there is stands =
     StandsFor-settled at place c.args.peer c.args.mid c.args.admitted.0 c.args.reply e events (record { moment = c.self.inside.moment.0; exchanges = c.self.inside.rows.items })
     (record { moment = c.self.inside.moment.0; exchanges = c.answer_first.new.rows.items }) is orderly there c.answer_first.ensures.items (subst (StandsFor at events) (sym c.self.view_is) stands)
+
+pub returns-clause-answered : goal.returns-clause-answered
+returns-clause-answered c = c.answer_first.ensures.items ∙ ap (λ (t : Table). answered_first (is_admitted_at c.args.peer c.args.mid c.args.admitted.0) c.args.reply t.exchanges) c.self.view_is
