@@ -1,5 +1,5 @@
 -- The exchanges of a table, and the admissions that they stand for.
-use Rattle.std.proofs.Common.{◌≡◌, ◌≢◌, ℕ, ◌+◌, ◌≤◌, ◌<◌, suc, ◌==◌, ◌||◌, ◌&&◌, Bool, true, false, not, cond, List, [], ◌∷◌, ◌++◌, length, filter, find, Option, Some, None, option_map, option_and_then, refl, sym, ap, subst, ◌∙◌, eqb-true, arith}
+use Rattle.std.proofs.Common.{◌≡◌, ℕ, suc, ◌==◌, ◌||◌, ◌&&◌, Bool, true, false, not, cond, List, [], ◌∷◌, length, filter, find, Option, Some, None, option_and_then, refl, sym, ap, subst, ◌∙◌, eqb-true, arith}
 use Rattle.std.specs.List.{cons_option, filter_map, list_any, AllByRecursion}
 use Rattle.std.proofs.lemmas.Bool.{false≢true, and_parts}
 use Rattle.rd_base.specs.declared.peers.Peer.{Peer}
@@ -8,15 +8,14 @@ use Rattle.history_model.proofs.Pairs.{each_weaker, PairsByRecursion}
 use Rattle.event_model.specs.declared.notes.Note.{Note}
 use Rattle.event_model.specs.declared.notes.Note.TheVariants as note
 use Rattle.event_model.specs.Same.{is_same_peer}
-use Rattle.event_model.specs.Events.{Event, is_young, exchange_lifetime, or_else, last_said}
-use Rattle.event_model.specs.Repeats.{is_admission_of, admissions, answer_noted, settled}
+use Rattle.event_model.specs.Events.{Event, is_young, or_else, last_said}
+use Rattle.event_model.specs.Repeats.{is_admission_of, answer_noted, settled}
 use Rattle.event_model.proofs.AddingLaws.{is_admitting}
-use Rattle.exchange_core.specs.declared.answers.Keyed.{Keyed}
 use Rattle.exchange_core.specs.declared.rows.Exchange.{Exchange}
-use Rattle.exchange_core.specs.Rows.{is_with, is_admitted_at, young, repeating, answered, answered_first, without_first}
+use Rattle.exchange_core.specs.Rows.{is_with, is_admitted_at, young, answered, answered_first, without_first}
 use Rattle.exchange_core.specs.Standing.{exchange_by, exchange_of, is_admitted_event}
 use Rattle.exchange_core.proofs.Finding.{any_known}
-use Rattle.exchange_core.proofs.RepeatLaws.{admits, eqb-differs, admission_is, admission_passes, Follows}
+use Rattle.exchange_core.proofs.RepeatLaws.{admits, eqb-differs, admission_is, Follows}
 
 -- ---- one list for the other
 

@@ -1,13 +1,12 @@
 -- Events whose admissions are in order, with one event more: what a journal needs to show that its events are.
-use Rattle.std.proofs.Common.{◌≡◌, ℕ, Bool, true, false, List, [], ◌∷◌, Option, Some, None, refl, sym, subst, ◌∙◌}
+use Rattle.std.proofs.Common.{◌≡◌, ℕ, false, List, [], ◌∷◌, Option, Some, None, refl, sym, subst}
 use Rattle.std.proofs.lemmas.Bool.{false≢true}
 use Rattle.rd_base.specs.declared.peers.Peer.{Peer}
 use Rattle.event_model.specs.declared.notes.Note.{Note}
 use Rattle.event_model.specs.declared.notes.Note.TheVariants as note
 use Rattle.event_model.specs.Events.{Event}
-use Rattle.event_model.specs.Repeats.{repeated, settled, is_full_of_exchanges}
+use Rattle.event_model.specs.Repeats.{repeated, settled}
 use Rattle.event_model.proofs.AddingLaws.{is_admitting}
-use Rattle.exchange_core.specs.declared.answers.Keyed.{Keyed}
 use Rattle.exchange_core.specs.declared.answers.Keyed.TheVariants as keyed
 use Rattle.exchange_core.specs.Rows.{repeating}
 use Rattle.exchange_core.specs.Standing.{AdmitsNew, AdmitsInOrder, IsOrderly, keyed_as, keyed_by}

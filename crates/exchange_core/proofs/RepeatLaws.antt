@@ -1,5 +1,5 @@
 -- What a repeat is, is the latest admission with its peer and Message ID among those that are kept.
-use Rattle.std.proofs.Common.{◌≡◌, ◌≢◌, ℕ, ◌+◌, ◌≤◌, ◌<◌, ◌==◌, ◌||◌, ◌&&◌, Bool, true, false, not, cond, eqb, ltb, List, [], ◌∷◌, ◌++◌, filter, find, Option, Some, None, option_and_then, refl, sym, ap, ap₂, subst, ◌∙◌, eqb-true, arith}
+use Rattle.std.proofs.Common.{◌≡◌, ◌≢◌, ℕ, ◌+◌, ◌≤◌, ◌==◌, Bool, true, false, not, cond, List, [], ◌∷◌, ◌++◌, filter, find, Option, Some, None, option_and_then, refl, sym, ap, ap₂, subst, ◌∙◌, eqb-true, arith}
 use Rattle.std.specs.List.{list_any, AllByRecursion}
 use Rattle.std.proofs.lemmas.Bool.{false≢true, and_parts, and_from, ltb-false, le-ltb}
 use Rattle.rd_base.specs.declared.peers.Peer.{Peer}
@@ -9,10 +9,10 @@ use Rattle.event_model.specs.declared.notes.Note.{Note}
 use Rattle.event_model.specs.declared.notes.Note.TheVariants as note
 use Rattle.event_model.specs.Same.{is_same_peer}
 use Rattle.event_model.specs.Events.{Event, last_event, is_young, exchange_lifetime}
-use Rattle.event_model.specs.Repeats.{is_admission_of, admission_by, is_failure_of, admissions, kept, is_kept, repeated, answer_noted}
+use Rattle.event_model.specs.Repeats.{is_admission_of, admission_by, is_failure_of, admissions, kept, repeated, answer_noted}
 use Rattle.event_model.proofs.SameLaws.{is_same_peer-Decides, is_same_peer-refl}
 use Rattle.exchange_core.specs.Standing.{NoneAfter, IsNewPlace, AdmitsNew, AdmitsInOrder, IsOrderly}
-use Rattle.exchange_core.proofs.Finding.{found_holds, none_passes, nothing_found, each_filtered, filter_none, none_behind, found_behind, only_dropped, any_none, any_behind_none, any_kept, any_dropped}
+use Rattle.exchange_core.proofs.Finding.{found_holds, none_passes, each_filtered, filter_none, none_behind, found_behind, only_dropped, any_behind_none, any_kept, any_dropped}
 
 -- ---- admissions
 

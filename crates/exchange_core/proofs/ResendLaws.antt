@@ -1,10 +1,9 @@
 -- What is due of a message that waits, from what is kept of it.
-use Rattle.std.proofs.Common.{◌≡◌, ℕ, ◌+◌, ◌-◌, ◌*◌, ◌^◌, ◌<◌, ◌≤◌, zero, suc, false, List, [], ◌∷◌, length, refl, sym, ap, ◌∙◌, lt-ltb, ltb, arith}
+use Rattle.std.proofs.Common.{◌≡◌, ℕ, ◌+◌, ◌-◌, ◌*◌, ◌^◌, ◌<◌, ◌≤◌, List, ◌∷◌, length, refl, sym, ap, ◌∙◌, lt-ltb, arith}
 use Rattle.std.proofs.lemmas.Bool.{le-ltb}
 use Rattle.std.proofs.Math.Nat.{pow-suc, mul_assoc}
 use Rattle.event_model.specs.Events.{Event}
-use Rattle.event_model.specs.Flights.{max_again, first_wait, moment_of_last, deadline}
-use Rattle.exchange_core.specs.declared.resending.Again.{Again}
+use Rattle.event_model.specs.Flights.{max_again, first_wait, deadline}
 use Rattle.exchange_core.specs.declared.resending.Again.TheVariants as again
 use Rattle.exchange_core.specs.Resending.{Resending, Resends, due_at}
 

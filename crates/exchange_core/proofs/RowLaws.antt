@@ -1,12 +1,11 @@
 -- Laws of the exchanges of a table.
-use Rattle.std.proofs.Common.{◌≡◌, ℕ, ◌+◌, ◌-◌, ◌<◌, ◌≤◌, zero, suc, Bool, true, false, not, cond, eqb, ltb, List, [], ◌∷◌, ◌++◌, length, get_or, set, take, drop, filter, find, Option, Some, None, option_map, option_and_then, refl, sym, ap, subst, ◌∙◌, arith}
+use Rattle.std.proofs.Common.{◌≡◌, ℕ, ◌+◌, ◌-◌, ◌<◌, ◌≤◌, zero, suc, Bool, true, false, not, cond, ltb, List, [], ◌∷◌, ◌++◌, length, get_or, set, take, find, Some, None, option_map, option_and_then, refl, sym, ap, ◌∙◌, arith}
 use Rattle.std.specs.List.{position, position_or_len, remove}
-use Rattle.std.proofs.lemmas.Bool.{false≢true}
 use Rattle.std.proofs.lemmas.List.{take_more, take_all}
 use Rattle.std.proofs.lemmas.List.Quantifiers.{position-Some}
 use Rattle.rd_base.specs.declared.peers.Peer.{Peer}
 use Rattle.history_model.proofs.Lists.{length-filter-le}
-use Rattle.event_model.specs.Events.{is_young, exchange_lifetime}
+use Rattle.event_model.specs.Events.{is_young}
 use Rattle.exchange_core.specs.declared.answers.Keyed.{Keyed}
 use Rattle.exchange_core.specs.declared.rows.Exchange.{Exchange}
 use Rattle.exchange_core.specs.Rows.{is_with, young, InOrder, repeating, repeating_young, repeat_among, answered, answered_first, without_first}

@@ -1,14 +1,14 @@
 -- What a table of exchanges stands for, as it is used and changed.
-use Rattle.std.proofs.Common.{◌≡◌, ◌≢◌, ℕ, ◌+◌, ◌≤◌, ◌<◌, ◌==◌, ◌||◌, ◌&&◌, Bool, true, false, not, cond, List, [], ◌∷◌, ◌++◌, length, filter, find, Option, Some, None, option_map, option_and_then, refl, sym, ap, subst, ◌∙◌, lt-ltb, leb, arith}
-use Rattle.std.specs.List.{cons_option, filter_map, list_any, AllByRecursion}
+use Rattle.std.proofs.Common.{◌≡◌, ℕ, ◌+◌, ◌≤◌, ◌<◌, ◌==◌, Bool, true, false, not, cond, List, [], ◌∷◌, ◌++◌, length, filter, find, Option, Some, None, option_map, option_and_then, refl, sym, ap, subst, ◌∙◌, lt-ltb, arith}
+use Rattle.std.specs.List.{cons_option, filter_map, AllByRecursion}
 use Rattle.std.proofs.lemmas.Bool.{false≢true}
 use Rattle.rd_base.specs.declared.peers.Peer.{Peer}
-use Rattle.history_model.proofs.Lists.{filter_all, filter_stronger, filter_swapped, length-filter-le}
-use Rattle.history_model.proofs.Pairs.{each_weaker, each_one, each_filter, pairs_filter, PairsByRecursion}
+use Rattle.history_model.proofs.Lists.{filter_all, filter_stronger, filter_swapped}
+use Rattle.history_model.proofs.Pairs.{each_one, each_filter, pairs_filter, PairsByRecursion}
 use Rattle.event_model.specs.declared.notes.Note.{Note}
 use Rattle.event_model.specs.declared.notes.Note.TheVariants as note
 use Rattle.event_model.specs.Events.{Event, is_young, exchange_lifetime, or_else, last_said}
-use Rattle.event_model.specs.Repeats.{is_admission_of, admission_by, is_failure_of, admissions, kept, repeated, answer_noted, settled, is_full_of_exchanges}
+use Rattle.event_model.specs.Repeats.{admission_by, is_failure_of, admissions, kept, repeated, answer_noted, settled, is_full_of_exchanges}
 use Rattle.event_model.proofs.AddingLaws.{is_admitting}
 use Rattle.exchange_core.specs.declared.answers.Keyed.{Keyed}
 use Rattle.exchange_core.specs.declared.answers.Keyed.TheVariants as keyed
@@ -17,7 +17,7 @@ use Rattle.exchange_core.specs.Rows.{Table, is_with, is_admitted_at, young, InOr
 use Rattle.exchange_core.specs.Standing.{exchange_by, exchange_of, exchanges_at, StandsFor, NoneAfter, IsNewPlace, IsOrderly, HasAdmission, is_aside, keyed_new, keyed_as, keyed_by}
 use Rattle.exchange_core.proofs.RowLaws.{repeat_among-young}
 use Rattle.exchange_core.proofs.Finding.{found_passes}
-use Rattle.exchange_core.proofs.RepeatLaws.{admits, admission_is, each_admission, Follows, Known, known}
+use Rattle.exchange_core.proofs.RepeatLaws.{admits, admission_is, Follows, known}
 use Rattle.exchange_core.proofs.ExchangeLaws.{young-exchanges, find-exchanges, length-exchanges, same-exchanges, Matches, each_matches, young-answered, answered-exchanges, young-without, without-exchanges}
 
 -- ---- time

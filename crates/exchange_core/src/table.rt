@@ -49,6 +49,7 @@ impl Exchanges {
     }
 
     /// How a write of a peer under a Message ID is answered. One that is new is admitted now, in flight, if there is room.
+    /// Now is not before the moments that the table was changed at. Takes no memory.
     pub fn admit_key(&mut self, now: Moment, peer: Peer, mid: u16) -> Keyed
         requires { self.old.moment ≤ now.0 }
         ensures answer { (at : ℕ) (events : List Event) → at ≤ now.0 → IsOrderly events → NoneAfter now.0 events → StandsFor at events self.old → result ≡ keyed_by now.0 peer mid events }
@@ -73,7 +74,7 @@ impl Exchanges {
         Keyed::Fresh
     }
 
-    /// Keeps the reply of the write that was admitted at a moment, where it is still there.
+    /// Keeps the reply of the write that was admitted at a moment, where it is still there. Takes no memory.
     pub fn settle(&mut self, peer: Peer, mid: u16, admitted: Moment, reply: Reply)
         ensures stands { (at : ℕ) (events : List Event) (e : Event) (place : ℕ) → IsOrderly events → HasAdmission place peer mid admitted.0 events → e.note ≡ note.Settled place reply → StandsFor at events self.old → StandsFor at (e ∷ events) self.new }
         ensures answered { self.new.exchanges ≡ answered_first (is_admitted_at peer mid admitted.0) reply self.old.exchanges }
@@ -82,7 +83,7 @@ impl Exchanges {
         answer_first(&mut self.rows, peer, mid, admitted, reply);
     }
 
-    /// Forgets the write that was admitted at a moment.
+    /// Forgets the write that was admitted at a moment, where it is still there: it comes again as a new one.
     pub fn forget(&mut self, peer: Peer, mid: u16, admitted: Moment)
         ensures stands { (at : ℕ) (events : List Event) (e : Event) (place : ℕ) → IsOrderly events → HasAdmission place peer mid admitted.0 events → e.note ≡ note.Failed place → StandsFor at events self.old → StandsFor at (e ∷ events) self.new }
         ensures forgotten { self.new.exchanges ≡ without_first (is_admitted_at peer mid admitted.0) self.old.exchanges }
@@ -91,7 +92,7 @@ impl Exchanges {
         drop_first(&mut self.rows, peer, mid, admitted);
     }
 
-    /// Drops the exchanges that are older than an exchange lives.
+    /// Drops the exchanges that are older than an exchange lives. Now is not before the moments that the table was changed at.
     pub fn age(&mut self, now: Moment)
         requires { self.old.moment ≤ now.0 }
         ensures stands { (at : ℕ) (events : List Event) → at ≤ now.0 → StandsFor at events self.old → StandsFor now.0 events self.new }

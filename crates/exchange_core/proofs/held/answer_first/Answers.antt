@@ -1,4 +1,4 @@
-use Rattle.std.proofs.Common.{sym, ◌∙◌}
+use Rattle.std.proofs.Common.{sym}
 use Rattle.exchange_core.specs.Rows.{is_admitted_at}
 use Rattle.exchange_core.proofs.RowLaws.{answered_first-at, answered_first-nowhere}
 use Rattle.exchange_core.proofs.held.answer_first.Goals as goal

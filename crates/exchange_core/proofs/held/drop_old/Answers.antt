@@ -1,4 +1,4 @@
-use Rattle.std.proofs.Common.{ℕ, ◌-◌, ◌≡◌, List, [], ◌∷◌, ◌++◌, take, true, false, refl, sym, ap, subst, ◌∙◌}
+use Rattle.std.proofs.Common.{ℕ, ◌-◌, ◌≡◌, List, [], ◌∷◌, ◌++◌, take, true, refl, sym, ap, subst, ◌∙◌}
 use Rattle.std.specs.VecDeque.{deque_len}
 use Rattle.event_model.specs.Events.{is_young}
 use Rattle.exchange_core.specs.declared.rows.Exchange.{Exchange}

@@ -1,5 +1,5 @@
-use Rattle.std.proofs.Common.{ℕ, ◌<◌, arith, refl, subst, sym}
-use Rattle.exchange_core.specs.Resending.{Resending, Resends}
+use Rattle.std.proofs.Common.{arith, subst, sym}
+use Rattle.exchange_core.specs.Resending.{Resends}
 use Rattle.exchange_core.proofs.ResendLaws.{due_waits, due_sends, due_ends, sent_again}
 use Rattle.exchange_core.proofs.resending.Resend.at_tick.Goals as goal
 

@@ -1,6 +1,5 @@
-use Rattle.std.proofs.Common.{◌≡◌, ◌≤◌, ◌<◌, ◌∷◌, Option, Some, None, length, ap, subst, sym, ◌∙◌, arith}
-use Rattle.exchange_core.specs.declared.answers.Keyed.{Keyed}
-use Rattle.exchange_core.specs.Rows.{Table, InOrder, young, repeat_among}
+use Rattle.std.proofs.Common.{◌≡◌, ap, subst, sym, ◌∙◌, arith}
+use Rattle.exchange_core.specs.Rows.{Table, young}
 use Rattle.exchange_core.specs.Standing.{StandsFor}
 use Rattle.exchange_core.proofs.StandingLaws.{StandsFor-later, StandsFor-admitted, repeat_answers, full_answers, fresh_answers, repeat-not_fresh}
 use Rattle.exchange_core.proofs.table.Exchanges.admit_key.Goals as goal

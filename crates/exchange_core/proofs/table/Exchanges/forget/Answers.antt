@@ -1,5 +1,5 @@
 use Rattle.std.proofs.Common.{◌≡◌, ap, subst, sym, ◌∙◌, length, arith}
-use Rattle.exchange_core.specs.Rows.{Table, InOrder, is_admitted_at, answered_first, without_first}
+use Rattle.exchange_core.specs.Rows.{Table, InOrder, is_admitted_at, without_first}
 use Rattle.exchange_core.specs.Standing.{StandsFor}
 use Rattle.exchange_core.proofs.RowLaws.{InOrder-without, length-without}
 use Rattle.exchange_core.proofs.StandingLaws.{StandsFor-failed}
