@@ -46,7 +46,7 @@ abbrev pub AdmitsInOrder : Note → Event → List Event → Type 0
 AdmitsInOrder (note.Admitted peer mid) e before = AdmitsNew peer mid e before
 AdmitsInOrder _ e before = Unit {0}
 
--- each admission among the events is such a one, as in each journal
+-- each admission among the events is such a one
 unfoldable pub IsOrderly : List Event → Type 0
 IsOrderly [] = Unit {0}
 IsOrderly (e ∷ before) = AdmitsInOrder e.note e before × IsOrderly before
