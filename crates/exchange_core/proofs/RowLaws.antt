@@ -1,0 +1,197 @@
+-- Laws of the exchanges of a table.
+use Rattle.std.proofs.Common.{◌≡◌, ℕ, ◌+◌, ◌-◌, ◌<◌, ◌≤◌, zero, suc, Bool, true, false, not, cond, ltb, List, [], ◌∷◌, ◌++◌, length, get_or, set, take, find, Some, None, option_map, option_and_then, refl, sym, ap, ◌∙◌, arith}
+use Rattle.std.specs.List.{position, position_or_len, remove}
+use Rattle.std.proofs.lemmas.List.{take_more, take_all}
+use Rattle.std.proofs.lemmas.List.Quantifiers.{position-Some}
+use Rattle.rd_base.specs.declared.peers.Peer.{Peer}
+use Rattle.history_model.proofs.Lists.{length-filter-le}
+use Rattle.event_model.specs.Events.{is_young}
+use Rattle.exchange_core.specs.declared.answers.Keyed.{Keyed}
+use Rattle.exchange_core.specs.declared.rows.Exchange.{Exchange}
+use Rattle.exchange_core.specs.Rows.{is_with, young, InOrder, repeating, repeating_young, repeat_among, answered, answered_first, without_first}
+
+-- ---- the first that passes a test
+
+-- it is at a place
+answered_at : (test : Exchange → Bool) (reply : List ℕ) (xs : List Exchange) (i : ℕ) (d : Exchange) → i < length xs → test (get_or xs i d) ≡ true → ((k : ℕ) → k < i → test (get_or xs k d) ≡ false)
+    → set xs i (answered reply (get_or xs i d)) ≡ answered_first test reply xs
+unfolding answered_first
+answered_at test reply [] i d inside it others = absurd (omega (arith, inside))
+answered_at test reply (x ∷ xs) zero d inside it others = rw it refl
+answered_at test reply (x ∷ xs) (suc i) d inside it others =
+    let no : test x ≡ false = others zero (omega arith) in
+    rw no (ap (λ rest. x ∷ rest) (answered_at test reply xs i d (omega (arith, inside)) it (λ k below. others (suc k) (omega (arith, below)))))
+
+without_at : (test : Exchange → Bool) (xs : List Exchange) (i : ℕ) (d : Exchange) → i < length xs → test (get_or xs i d) ≡ true → ((k : ℕ) → k < i → test (get_or xs k d) ≡ false)
+    → remove xs i ≡ without_first test xs
+unfolding without_first
+without_at test [] i d inside it others = absurd (omega (arith, inside))
+without_at test (x ∷ xs) zero d inside it others = rw it refl
+without_at test (x ∷ xs) (suc i) d inside it others =
+    let no : test x ≡ false = others zero (omega arith) in
+    rw no (ap (λ rest. x ∷ rest) (without_at test xs i d (omega (arith, inside)) it (λ k below. others (suc k) (omega (arith, below)))))
+
+pub answered_first-at : (test : Exchange → Bool) (reply : List ℕ) (xs : List Exchange) (i : ℕ) (x : Exchange) → position test xs ≡ Some i → x ≡ get_or xs i x
+    → set xs i (answered reply x) ≡ answered_first test reply xs
+answered_first-at test reply xs i x there is =
+    let found = position-Some test xs i x there in
+    ap (λ y. set xs i (answered reply y)) is ∙ answered_at test reply xs i x found.0 found.1 found.2
+
+pub without_first-at : (test : Exchange → Bool) (xs : List Exchange) (i : ℕ) → position test xs ≡ Some i → remove xs i ≡ without_first test xs
+without_first-at test [] i there = absurd cc
+without_first-at test (x ∷ xs) i there =
+    let found = position-Some test (x ∷ xs) i x there in
+    without_at test (x ∷ xs) i x found.0 found.1 found.2
+
+-- it is at a place within
+pub place_within : (test : Exchange → Bool) (xs : List Exchange) (i : ℕ) → position test xs ≡ Some i → i < length xs
+place_within test [] i there = absurd cc
+place_within test (x ∷ xs) i there = (position-Some test (x ∷ xs) i x there).0
+
+-- it is nowhere
+nowhere : (test : Exchange → Bool) (xs : List Exchange) → position test xs ≡ None → length xs ≤ position_or_len test xs
+nowhere test xs none = by (ltb (position_or_len test xs) (length xs)) refl none
+  where
+    by : (b : Bool) → ltb (position_or_len test xs) (length xs) ≡ b → cond b (Some (position_or_len test xs)) None ≡ None → length xs ≤ position_or_len test xs
+    by true e h = absurd cc
+    by false e h = grind (arith, e)
+
+answered_past : (test : Exchange → Bool) (reply : List ℕ) (xs : List Exchange) → length xs ≤ position_or_len test xs → xs ≡ answered_first test reply xs
+unfolding answered_first
+answered_past test reply [] h = refl
+answered_past test reply (x ∷ xs) h = by (test x) refl h (answered_past test reply xs)
+  where
+    by : (b : Bool) → test x ≡ b → length (x ∷ xs) ≤ cond (not b) (1 + position_or_len test xs) 0 → (length xs ≤ position_or_len test xs → xs ≡ answered_first test reply xs)
+        → x ∷ xs ≡ cond b (answered reply x ∷ xs) (x ∷ answered_first test reply xs)
+    by true e g more = absurd (omega (arith, g))
+    by false e g more = ap (λ rest. x ∷ rest) (more (omega (arith, g)))
+
+without_past : (test : Exchange → Bool) (xs : List Exchange) → length xs ≤ position_or_len test xs → xs ≡ without_first test xs
+unfolding without_first
+without_past test [] h = refl
+without_past test (x ∷ xs) h = by (test x) refl h (without_past test xs)
+  where
+    by : (b : Bool) → test x ≡ b → length (x ∷ xs) ≤ cond (not b) (1 + position_or_len test xs) 0 → (length xs ≤ position_or_len test xs → xs ≡ without_first test xs)
+        → x ∷ xs ≡ cond b xs (x ∷ without_first test xs)
+    by true e g more = absurd (omega (arith, g))
+    by false e g more = ap (λ rest. x ∷ rest) (more (omega (arith, g)))
+
+pub answered_first-nowhere : (test : Exchange → Bool) (reply : List ℕ) (xs : List Exchange) → position test xs ≡ None → xs ≡ answered_first test reply xs
+answered_first-nowhere test reply xs none = answered_past test reply xs (nowhere test xs none)
+
+pub without_first-nowhere : (test : Exchange → Bool) (xs : List Exchange) → position test xs ≡ None → xs ≡ without_first test xs
+without_first-nowhere test xs none = without_past test xs (nowhere test xs none)
+
+-- ---- their order
+
+pub InOrder-later : (last later : ℕ) (xs : List Exchange) → last ≤ later → InOrder last xs → InOrder later xs
+InOrder-later last later [] h order = tt
+InOrder-later last later (x ∷ xs) h order = (let first = order.0 in omega (arith, h, first), order.1)
+
+pub InOrder-answered : (test : Exchange → Bool) (reply : List ℕ) (last : ℕ) (xs : List Exchange) → InOrder last xs → InOrder last (answered_first test reply xs)
+unfolding answered_first
+InOrder-answered test reply last [] order = tt
+InOrder-answered test reply last (x ∷ xs) order = by (test x) (InOrder-answered test reply x.admitted.0 xs order.1)
+  where
+    by : (b : Bool) → InOrder x.admitted.0 (answered_first test reply xs) → InOrder last (cond b (answered reply x ∷ xs) (x ∷ answered_first test reply xs))
+    by true more = order
+    by false more = (order.0, more)
+
+pub InOrder-without : (test : Exchange → Bool) (last : ℕ) (xs : List Exchange) → InOrder last xs → InOrder last (without_first test xs)
+unfolding without_first
+InOrder-without test last [] order = tt
+InOrder-without test last (x ∷ xs) order = by (test x) (InOrder-without test x.admitted.0 xs order.1)
+  where
+    by : (b : Bool) → InOrder x.admitted.0 (without_first test xs) → InOrder last (cond b xs (x ∷ without_first test xs))
+    by true more = InOrder-later x.admitted.0 last xs order.0 order.1
+    by false more = (order.0, more)
+
+pub InOrder-young : (now last : ℕ) (xs : List Exchange) → InOrder last xs → InOrder last (young now xs)
+InOrder-young now last [] order = tt
+InOrder-young now last (x ∷ xs) order = by (is_young now x.admitted.0) (InOrder-young now x.admitted.0 xs order.1)
+  where
+    by : (b : Bool) → InOrder x.admitted.0 (young now xs) → InOrder last (cond b (x ∷ young now xs) (young now xs))
+    by true more = (order.0, more)
+    by false more = InOrder-later x.admitted.0 last (young now xs) order.0 more
+
+pub InOrder-popped : (last : ℕ) (xs : List Exchange) (x : Exchange) → InOrder last (xs ++ x ∷ []) → InOrder last xs
+InOrder-popped last [] x order = tt
+InOrder-popped last (y ∷ ys) x order = (order.0, InOrder-popped y.admitted.0 ys x order.1)
+
+-- what is not older than one that is young is young
+younger : (now a b : ℕ) → a ≤ b → is_young now a ≡ true → is_young now b ≡ true
+younger now a b h young = grind (arith, young, h)
+
+older : (now a b : ℕ) → a ≤ b → is_young now b ≡ false → is_young now a ≡ false
+older now a b h old = grind (arith, old, h)
+
+-- where the oldest is young, each is
+oldest_at_most : (last : ℕ) (xs : List Exchange) (x : Exchange) → InOrder last (xs ++ x ∷ []) → x.admitted.0 ≤ last
+oldest_at_most last [] x order = order.0
+oldest_at_most last (y ∷ ys) x order = let first = order.0 in let rest = oldest_at_most y.admitted.0 ys x order.1 in omega (arith, first, rest)
+
+pub young-all : (now last : ℕ) (xs : List Exchange) (x : Exchange) → InOrder last (xs ++ x ∷ []) → is_young now x.admitted.0 ≡ true → xs ++ x ∷ [] ≡ young now (xs ++ x ∷ [])
+young-all now last [] x order y = rw y refl
+young-all now last (z ∷ zs) x order y =
+    let first : is_young now z.admitted.0 ≡ true = younger now x.admitted.0 z.admitted.0 (oldest_at_most z.admitted.0 zs x order.1) y in
+    rw first (ap (λ rest. z ∷ rest) (young-all now z.admitted.0 zs x order.1 y))
+
+-- where the oldest is old, it goes
+pub young-popped : (now : ℕ) (xs : List Exchange) (x : Exchange) → is_young now x.admitted.0 ≡ false → young now (xs ++ x ∷ []) ≡ young now xs
+young-popped now [] x old = rw old refl
+young-popped now (y ∷ ys) x old = ap (λ rest. cond (is_young now y.admitted.0) (y ∷ rest) rest) (young-popped now ys x old)
+
+-- the oldest, behind the others
+pub oldest_behind : (xs : List Exchange) (n : ℕ) (x : Exchange) → n ≡ length xs → 0 < n → x ≡ get_or xs (n - 1) x → xs ≡ take (n - 1) xs ++ x ∷ []
+oldest_behind xs n x e some is =
+    let more : take (n - 1 + 1) xs ≡ take (n - 1) xs ++ get_or xs (n - 1) x ∷ [] = take_more xs (n - 1) x (omega (arith, e, some)) in
+    let whole : n - 1 + 1 ≡ length xs = omega (arith, e, some) in
+    sym (take_all (n - 1 + 1) xs (omega (arith, whole))) ∙ (more ∙ ap (λ y. take (n - 1) xs ++ y ∷ []) (sym is))
+
+-- where the latest is old, each is
+pub young-none : (now last : ℕ) (xs : List Exchange) → InOrder last xs → is_young now last ≡ false → young now xs ≡ []
+young-none now last [] order old = refl
+young-none now last (x ∷ xs) order old =
+    let first : is_young now x.admitted.0 ≡ false = older now x.admitted.0 last order.0 old in
+    rw first (young-none now x.admitted.0 xs order.1 first)
+
+-- what a repeat finds, it finds among the young
+pub repeat_among-young : (now : ℕ) (peer : Peer) (mid last : ℕ) (xs : List Exchange) → InOrder last xs
+    → repeat_among now peer mid xs ≡ option_map (λ x. repeating x.reply) (find (is_with peer mid) (young now xs))
+unfolding repeat_among
+repeat_among-young now peer mid last [] order = refl
+repeat_among-young now peer mid last (x ∷ xs) order =
+    by (is_with peer mid x) (is_young now x.admitted.0) refl refl (repeat_among-young now peer mid x.admitted.0 xs order.1)
+  where
+    answer : Exchange → Keyed
+    answer y = repeating y.reply
+
+    by : (w y : Bool) → is_with peer mid x ≡ w → is_young now x.admitted.0 ≡ y
+        → option_and_then (repeating_young now) (find (is_with peer mid) xs) ≡ option_map answer (find (is_with peer mid) (young now xs))
+        → option_and_then (repeating_young now) (cond w (Some x) (find (is_with peer mid) xs)) ≡ option_map answer (find (is_with peer mid) (cond y (x ∷ young now xs) (young now xs)))
+    by true true w y more = rw (w, y) refl
+    by true false w y more = rw (y, young-none now x.admitted.0 xs order.1 y) refl
+    by false true w y more = rw w more
+    by false false w y more = more
+
+-- how many are left
+pub length-young : (now : ℕ) (xs : List Exchange) → length (young now xs) ≤ length xs
+length-young now xs = length-filter-le (λ x. is_young now x.admitted.0) xs
+
+pub length-answered : (test : Exchange → Bool) (reply : List ℕ) (xs : List Exchange) → length (answered_first test reply xs) ≡ length xs
+unfolding answered_first
+length-answered test reply [] = refl
+length-answered test reply (x ∷ xs) = by (test x) (length-answered test reply xs)
+  where
+    by : (b : Bool) → length (answered_first test reply xs) ≡ length xs → length (cond b (answered reply x ∷ xs) (x ∷ answered_first test reply xs)) ≡ length (x ∷ xs)
+    by true more = refl
+    by false more = ap (λ n. suc n) more
+
+pub length-without : (test : Exchange → Bool) (xs : List Exchange) → length (without_first test xs) ≤ length xs
+unfolding without_first
+length-without test [] = omega arith
+length-without test (x ∷ xs) = by (test x) (length-without test xs)
+  where
+    by : (b : Bool) → length (without_first test xs) ≤ length xs → length (cond b xs (x ∷ without_first test xs)) ≤ length (x ∷ xs)
+    by true more = omega arith
+    by false more = omega (arith, more)
