@@ -19,4 +19,5 @@ pub mod Knowing
 pub mod Observing
 pub mod TickKnowing
 pub mod ObserversKnow
+pub mod ReadAgain
 mod LimitExamples
