@@ -20,4 +20,5 @@ pub mod Observing
 pub mod TickKnowing
 pub mod ObserversKnow
 pub mod ReadAgain
+pub mod BodyAnswers
 mod LimitExamples

@@ -1,7 +1,7 @@
 -- What spells a message with its options in order is read as it, whatever its octets are.
-use Rattle.std.proofs.Common.{◌≡◌, ℕ, suc, ◌+◌, ◌-◌, ◌*◌, ◌/◌, ◌%◌, ◌<◌, ◌≤◌, ◌&&◌, ◌||◌, ◌==◌, Bool, true, false, ltb, eqb, List, [], ◌∷◌, ◌++◌, length, take, drop, Option, Some, None, Result, Ok, Err, refl, sym, ap, subst, ◌∙◌, append_assoc, arith, inl, inr}
+use Rattle.std.proofs.Common.{◌≡◌, ℕ, ◌+◌, ◌-◌, ◌*◌, ◌/◌, ◌%◌, ◌<◌, ◌≤◌, ◌||◌, ◌==◌, Bool, false, ltb, List, [], ◌∷◌, ◌++◌, length, take, drop, Option, Some, None, Result, Ok, Err, refl, sym, ap, subst, ◌∙◌, append_assoc, arith}
 use Rattle.std.specs.Prelude.{⊤}
-use Rattle.std.proofs.lemmas.Bool.{cases_lt, cases_eq, lt-ltb, le-ltb, ltb-false, ne_eqb}
+use Rattle.std.proofs.lemmas.Bool.{le-ltb, ltb-false}
 use Rattle.std.proofs.lemmas.List.{length-take}
 use Rattle.std.proofs.lemmas.Option.{same_Some, none-some}
 use Rattle.message_model.specs.declared.messages.Kind4.{Kind4}
@@ -10,7 +10,7 @@ use Rattle.message_model.specs.declared.messages.Unread.{Unread}
 use Rattle.message_model.specs.Codes.{is_reserved, empty}
 use Rattle.message_model.specs.Message.{Message, Opt, longest_token, longest_value, last_number}
 use Rattle.message_model.specs.Spelling.{marker, kind_number, header_spelling, nibble_of, extension_of, option_spelling, options_spelling, payload_spelling, spelling}
-use Rattle.message_model.specs.Reading.{◌>>=◌, bytes_at, option_at, Header, header_of, header_at, Tail, with_option, tail_at, is_filled, is_bad_header, message_of, body_at, or_format, with_body, reading}
+use Rattle.message_model.specs.Reading.{bytes_at, option_at, Header, header_at, Tail, with_option, tail_at, is_bad_header, message_of, body_at, or_format, with_body, reading}
 use Rattle.message_model.proofs.ByteLemmas.{bind_some, passed, bytes_again}
 use Rattle.message_model.proofs.OptionLemmas.{nibble-le, extended_again}
 use Rattle.message_model.proofs.TailLemmas.{marker_is_no_option, tail_at-option, tail_again}
