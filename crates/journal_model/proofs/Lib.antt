@@ -21,4 +21,5 @@ pub mod TickKnowing
 pub mod ObserversKnow
 pub mod ReadAgain
 pub mod BodyAnswers
+pub mod PlainSteps
 mod LimitExamples
