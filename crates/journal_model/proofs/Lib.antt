@@ -22,4 +22,5 @@ pub mod ObserversKnow
 pub mod ReadAgain
 pub mod BodyAnswers
 pub mod PlainSteps
+pub mod PlainCommits
 mod LimitExamples

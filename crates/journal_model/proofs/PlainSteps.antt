@@ -1,5 +1,5 @@
 -- Datagrams that are neither 2.05 nor 2.03: what refusals, writes, commits, responses and empty messages send.
-use Rattle.std.proofs.Common.{◌≡◌, ℕ, ◌+◌, ◌==◌, Bool, true, false, not, cond, ◌&&◌, List, [], ◌∷◌, ◌++◌, length, Option, Some, None, Result, Ok, Err, refl, sym, ap, subst, ◌∙◌, codes, nat_lt, nat_le}
+use Rattle.std.proofs.Common.{◌≡◌, ℕ, ◌+◌, ◌==◌, Bool, true, false, cond, List, [], ◌∷◌, ◌++◌, length, Option, Some, None, refl, sym, subst, ◌∙◌, codes, nat_lt}
 use Rattle.std.specs.List.{AllByRecursion}
 use Rattle.std.proofs.lemmas.Bool.{and_parts, false≢true}
 use Rattle.rd_base.specs.declared.peers.Peer.{Peer}
@@ -9,15 +9,13 @@ use Rattle.message_model.specs.declared.messages.Kind4.{Kind4}
 use Rattle.message_model.specs.declared.messages.Kind4.TheVariants.{Con, Non, Ack, Rst}
 use Rattle.message_model.specs.declared.messages.Unread.{Unread}
 use Rattle.message_model.specs.declared.messages.Unread.TheVariants as unread
-use Rattle.message_model.specs.declared.requests.Path.{Path}
-use Rattle.message_model.specs.declared.requests.Path.TheVariants as path
 use Rattle.message_model.specs.declared.requests.Refusal as requests
 use Rattle.message_model.specs.declared.requests.Refusal.TheVariants as refused_for
 use Rattle.message_model.specs.Codes as codes_of
 use Rattle.message_model.specs.Message.{Message, Opt}
 use Rattle.message_model.specs.Spelling.{header_spelling, spelling}
-use Rattle.message_model.specs.Refusals.{refusal_of, refusal_code, refusal_word}
-use Rattle.message_model.specs.Request.{path_in, queries_in}
+use Rattle.message_model.specs.Refusals.{refusal_of, refusal_code}
+use Rattle.message_model.specs.Request.{queries_in}
 use Rattle.message_model.specs.RequestKey.{key_in}
 use Rattle.document_model.specs.Parameters.{registration_values}
 use Rattle.history_model.specs.declared.entries.Change.TheVariants as change
@@ -30,17 +28,14 @@ use Rattle.event_model.specs.declared.notes.Note.TheVariants as note
 use Rattle.event_model.specs.Events.{Event}
 use Rattle.event_model.specs.Repeats.{repeated, settled, is_full_of_exchanges}
 use Rattle.event_model.specs.Uploads.{max_body, live_upload, live_uploads}
-use Rattle.event_model.specs.Fetches.{Request, max_fetches, fetches, is_fetching, gathered, collected}
 use Rattle.journal_model.specs.declared.steps.Step.{Step}
 use Rattle.journal_model.specs.declared.rows.Row.{Row}
 use Rattle.journal_model.specs.Journal.{events, entries}
-use Rattle.journal_model.specs.Sending.{Effects, Reply, bare, diagnostic, answer, answering}
-use Rattle.journal_model.specs.Requests.{sent_block, has_bad_query, has_bad_payload, later_refusal, refusal_or_later, refusal_by_request}
+use Rattle.journal_model.specs.Sending.{Reply, bare, diagnostic, answer, answering}
+use Rattle.journal_model.specs.Requests.{sent_block, has_bad_query, has_bad_payload, refusal_or_later, refusal_by_request}
 use Rattle.journal_model.specs.Changes.{Outcome, refused_as, entered_unless, change_made, BodyRead, bad_body, good_body, body_read, registered_links, registration, created_at, number_behind, entry_by}
 use Rattle.journal_model.specs.Uploading.{collected_before, is_one_too_many, block_taken, block_unless, block_behind, block_uploaded, registered_by, registering}
 use Rattle.journal_model.specs.Writes.{again_answered, admitted_unless, write_unless, write_effects}
-use Rattle.journal_model.specs.Commits.{settling, simple_unless, on_location, write_done, commit_effects}
-use Rattle.journal_model.specs.Responses.{fetch_of, strange, acknowledgement, more_follow, block_in, is_elsewhere, ends_fetch, completed, gathering, response_taken, response_to, response_by, response_effects}
 use Rattle.journal_model.specs.Rows.{refusal_answered, without_memory, unread_answered}
 use Rattle.journal_model.specs.Headline.{code_at}
 use Rattle.journal_model.proofs.NoteKinds.{are}
@@ -150,7 +145,7 @@ write_plain events moment s m before = by (repeated moment s.peer m.mid events)
 -- ---- commits
 
 -- what comes of a change
-change_plain : (history : List Entry) (entry : Entry) (done : Outcome) → IsPlainCode done.reply.code → IsPlainCode (change_made history entry done).reply.code
+pub change_plain : (history : List Entry) (entry : Entry) (done : Outcome) → IsPlainCode done.reply.code → IsPlainCode (change_made history entry done).reply.code
 change_plain history entry done plain = by (change_refusal 0 history entry)
   where
     refused : (why : Refusal) → IsPlainCode (refused_as why).reply.code
@@ -174,7 +169,7 @@ registration_plain history moment s params body further notes = by (body_read bo
         let entry : Entry = entry_by moment s (change.Register params links) in
         change_plain history entry (record { reply = created_at (number_behind params.name moment (history ++ entry ∷ [])) further; notes = notes }) (record { no_content = refl; no_valid = refl })
 
-registering_plain : (rows : List Row) (moment : ℕ) (s : Step) (m : Message) → IsPlainCode (registering rows moment s m).reply.code
+pub registering_plain : (rows : List Row) (moment : ℕ) (s : Step) (m : Message) → IsPlainCode (registering rows moment s m).reply.code
 unfolding registering block_uploaded
 registering_plain rows moment s m = by (sent_block m)
   where
@@ -204,7 +199,7 @@ SettlesPlainly (note.Settled place octets) = IsPlain octets
 SettlesPlainly _ = Unit {0}
 
 -- notes of a kind that settles nothing
-never_settles : (kind : Note → Bool) → ((place : ℕ) (octets : List ℕ) → kind (note.Settled place octets) ≡ false) → (notes : List Note) → are kind notes ≡ true → AllByRecursion SettlesPlainly notes
+pub never_settles : (kind : Note → Bool) → ((place : ℕ) (octets : List ℕ) → kind (note.Settled place octets) ≡ false) → (notes : List Note) → are kind notes ≡ true → AllByRecursion SettlesPlainly notes
 never_settles kind never [] h = tt
 never_settles kind never (n ∷ notes) h = (by n (and_parts (kind n) (are kind notes) h).0, never_settles kind never notes (and_parts (kind n) (are kind notes) h).1)
   where
