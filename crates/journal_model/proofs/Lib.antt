@@ -23,4 +23,5 @@ pub mod ReadAgain
 pub mod BodyAnswers
 pub mod PlainSteps
 pub mod PlainCommits
+pub mod LookupSends
 mod LimitExamples
