@@ -24,4 +24,5 @@ pub mod BodyAnswers
 pub mod PlainSteps
 pub mod PlainCommits
 pub mod LookupSends
+pub mod ValidSends
 mod LimitExamples
