@@ -25,4 +25,5 @@ pub mod PlainSteps
 pub mod PlainCommits
 pub mod LookupSends
 pub mod ValidSends
+pub mod EventRows
 mod LimitExamples
