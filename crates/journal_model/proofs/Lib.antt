@@ -26,4 +26,5 @@ pub mod PlainCommits
 pub mod LookupSends
 pub mod ValidSends
 pub mod EventRows
+pub mod TickSends
 mod LimitExamples

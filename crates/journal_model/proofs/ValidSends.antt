@@ -87,7 +87,7 @@ part_code : (tag : Option (List ℕ)) (observe : Option ℕ) (asked : Option Blo
 part_code tag observe asked None = refl
 part_code tag observe asked (Some part) = refl
 
-body_code : (tag : Option (List ℕ)) (observe : Option ℕ) (asked : Option Block) (body : List ℕ) → ((body_reply tag observe asked body).code == codes_of.valid) ≡ false
+pub body_code : (tag : Option (List ℕ)) (observe : Option ℕ) (asked : Option Block) (body : List ℕ) → ((body_reply tag observe asked body).code == codes_of.valid) ≡ false
 unfolding body_reply
 body_code tag observe asked body = part_code tag observe asked (block_of body (number_of asked) (szx_of asked))
 
