@@ -27,4 +27,5 @@ pub mod LookupSends
 pub mod ValidSends
 pub mod EventRows
 pub mod TickSends
+pub mod Jobs
 mod LimitExamples
