@@ -28,4 +28,6 @@ pub mod ValidSends
 pub mod EventRows
 pub mod TickSends
 pub mod Jobs
+pub mod RowSends
+pub mod ValidLaw
 mod LimitExamples
