@@ -30,4 +30,5 @@ pub mod TickSends
 pub mod Jobs
 pub mod RowSends
 pub mod ValidLaw
+pub mod Asking
 mod LimitExamples
