@@ -31,4 +31,6 @@ pub mod Jobs
 pub mod RowSends
 pub mod ValidLaw
 pub mod Asking
+pub mod Among
+pub mod FlightKeys
 mod LimitExamples
