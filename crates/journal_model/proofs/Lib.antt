@@ -33,4 +33,5 @@ pub mod ValidLaw
 pub mod Asking
 pub mod Among
 pub mod FlightKeys
+pub mod Standing
 mod LimitExamples
