@@ -34,4 +34,5 @@ pub mod Asking
 pub mod Among
 pub mod FlightKeys
 pub mod Standing
+pub mod AgainFacts
 mod LimitExamples
