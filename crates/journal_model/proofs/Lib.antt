@@ -35,4 +35,5 @@ pub mod Among
 pub mod FlightKeys
 pub mod Standing
 pub mod AgainFacts
+pub mod TickNotices
 mod LimitExamples
