@@ -36,4 +36,5 @@ pub mod FlightKeys
 pub mod Standing
 pub mod AgainFacts
 pub mod TickNotices
+pub mod FreshNotices
 mod LimitExamples
