@@ -136,7 +136,7 @@ again_notes rows moment =
 -- ---- behind the first part
 
 -- it forms nothing and acknowledges nothing
-again_none : (test : Note → Bool) → ((peer : Peer) (token : List ℕ) → test (note.Unwatched peer token) ≡ false) → ((peer : Peer) (mid : ℕ) → test (note.Again peer mid) ≡ false) → (rows : List Row) (moment : ℕ)
+pub again_none : (test : Note → Bool) → ((peer : Peer) (token : List ℕ) → test (note.Unwatched peer token) ≡ false) → ((peer : Peer) (mid : ℕ) → test (note.Again peer mid) ≡ false) → (rows : List Row) (moment : ℕ)
     → list_any test (notices_again rows moment).notes ≡ false
 again_none test unwatched again rows moment = none_of of_again test never (notices_again rows moment).notes (notices_again-notes rows moment)
   where

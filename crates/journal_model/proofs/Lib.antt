@@ -37,4 +37,5 @@ pub mod Standing
 pub mod AgainFacts
 pub mod TickNotices
 pub mod FreshNotices
+pub mod TickFolds
 mod LimitExamples
