@@ -24,7 +24,7 @@ use Rattle.journal_model.proofs.PlainSteps.{each_append}
 use Rattle.journal_model.proofs.Among.{Among}
 use Rattle.journal_model.proofs.FlightKeys.{flight_key, is_landing, key_same_all, key_formed}
 use Rattle.journal_model.proofs.Standing.{is_turning, observers_same, Waits, flies_key}
-use Rattle.journal_model.proofs.AgainFacts.{AgainSent, behind_again}
+use Rattle.journal_model.proofs.AgainFacts.{AgainSent, AgainNoted, behind_again}
 use Rattle.journal_model.proofs.TickNotices.{is_notice_to, IsNoticeOf, Stat, as_before, given, FreshSent, TickSoFar}
 
 eqb-refl : (n : ℕ) → (n == n) ≡ true
@@ -57,6 +57,7 @@ pub record NewNotice (rows : List Row) (moment word : ℕ) (done : Effects) : Ty
   pub lands_none : list_any is_landing kept ≡ false
   pub turns_none : list_any is_turning kept ≡ false
   pub notifies_none : (peer : Peer) → list_any (is_notice_to peer) kept ≡ false
+  pub agains : AllByRecursion (AgainNoted rows moment) kept
 
 -- the notes and the effects of it
 abbrev pub notes_of : {rows : List Row} → {moment word : ℕ} → {done : Effects} → NewNotice rows moment word done → List Note
@@ -78,6 +79,7 @@ so_far_noticed rows moment word done new drew it = record {
   origins = each_append (λ (d : Peer × List ℕ). AgainSent rows moment d ⊎ FreshSent rows moment word d) done.sent ((new.observer.peer, new.octets) ∷ []) it.origins
       (inr (record { observer = new.observer; stands = new.stands; of_peer = refl; body = new.notice; free = λ w. new.free (it.waits_on new.observer.peer w) }), tt);
   stats = λ o stands. stat o stands (it.stats o stands);
+  agains = each_append (AgainNoted rows moment) done.notes (notes_of new) it.agains (tt, new.agains);
 }
   where
     x : Observer

@@ -26,7 +26,7 @@ use Rattle.journal_model.proofs.TickSends.{sent_by_found}
 use Rattle.journal_model.proofs.Among.{Among, all_among, among_all}
 use Rattle.journal_model.proofs.FlightKeys.{is_landing}
 use Rattle.journal_model.proofs.Standing.{is_turning, Waits, waited}
-use Rattle.journal_model.proofs.AgainFacts.{AgainSent, again_sends, again_none, behind_again, again_key, again_waits}
+use Rattle.journal_model.proofs.AgainFacts.{AgainSent, AgainNoted, again_notes, again_sends, again_none, behind_again, again_key, again_waits}
 use Rattle.journal_model.proofs.TickNotices.{is_notice_to, as_before, TickSoFar, so_far_quiet}
 use Rattle.journal_model.proofs.FreshNotices.{NewNotice, so_far_noticed}
 
@@ -53,6 +53,7 @@ tick_begins rows moment word = record {
   waits_on = λ peer w. w;
   origins = each_weak (λ d a. inl a) (notices_again rows moment).sent (again_sends rows moment);
   stats = λ o stands. as_before (again_key rows moment word o) (λ some. again_none (is_notice_to o.peer) (λ p t. refl) (λ p m. refl) rows moment);
+  agains = again_notes rows moment;
 }
 
 -- an answer that is kept does nothing for observers
@@ -60,6 +61,10 @@ kept_does : (test : Note → Bool) → ((peer : Peer) (key body current : List �
     → list_any test (cond b (note.Kept peer key body current ∷ []) []) ≡ false
 kept_does test never true peer key body current = rw (never peer key body current) refl
 kept_does test never false peer key body current = refl
+
+kept_again : (rows : List Row) (moment : ℕ) (b : Bool) (peer : Peer) (key body current : List ℕ) → AllByRecursion (AgainNoted rows moment) (cond b (note.Kept peer key body current ∷ []) [])
+kept_again rows moment true peer key body current = (tt, tt)
+kept_again rows moment false peer key body current = tt
 
 -- one observer
 tick_step : (rows : List Row) (moment : ℕ) (s : Step) (x : Observer) (done : Effects) → Among x (observers (behind_again rows moment s.word)) → length x.token ≤ longest_token
@@ -95,6 +100,7 @@ tick_step rows moment s x done stands small it = looked (is_looked_at (ticking r
       forms_none = λ o. kept_does (is_forming_for (name_of o)) (λ p k b c. refl) (is_long (first_block x) (listing x.query (entries rows) moment)) x.peer x.key _ _;
       lands_none = kept_does is_landing (λ p k b c. refl) (is_long (first_block x) (listing x.query (entries rows) moment)) x.peer x.key _ _;
       turns_none = kept_does is_turning (λ p k b c. refl) (is_long (first_block x) (listing x.query (entries rows) moment)) x.peer x.key _ _;
+      agains = kept_again rows moment (is_long (first_block x) (listing x.query (entries rows) moment)) x.peer x.key _ _;
       notifies_none = λ peer. kept_does (is_notice_to peer) (λ p k b c. refl) (is_long (first_block x) (listing x.query (entries rows) moment)) x.peer x.key _ _;
     }
 
@@ -103,7 +109,7 @@ tick_step rows moment s x done stands small it = looked (is_looked_at (ticking r
       notes = done.notes ++ (noticed_unless b (ticking rows moment s) done x (listing_for (ticking rows moment s) x)).notes;
       drew = done.drew + (noticed_unless b (ticking rows moment s) done x (listing_for (ticking rows moment s) x)).drew;
     })
-    unless true e = so_far_quiet rows moment s.word done (note.Unchanged x.peer x.token ∷ []) (done.drew + 0) (λ o. refl) refl refl (λ peer. refl) it
+    unless true e = so_far_quiet rows moment s.word done (note.Unchanged x.peer x.token ∷ []) (done.drew + 0) (λ o. refl) refl refl (λ peer. refl) (tt, tt) it
     unless false e = so_far_noticed rows moment s.word done (new e) (done.drew + 1) it
 
     looked : (b : Bool) → is_looked_at (ticking rows moment s) done x ≡ b → TickSoFar rows moment s.word (record {
@@ -112,7 +118,7 @@ tick_step rows moment s x done stands small it = looked (is_looked_at (ticking r
       drew = done.drew + (noticed_if b (ticking rows moment s) done x).drew;
     })
     looked true e = unless (is_given (body_given (name_of x) (events_with (ticking rows moment s) done)) (listing_for (ticking rows moment s) x).body) e
-    looked false e = so_far_quiet rows moment s.word done [] (done.drew + 0) (λ o. refl) refl refl (λ peer. refl) it
+    looked false e = so_far_quiet rows moment s.word done [] (done.drew + 0) (λ o. refl) refl refl (λ peer. refl) tt it
 
 -- all of them
 tick_folds : (rows : List Row) (moment : ℕ) (s : Step) (left : List Observer) (done : Effects) → AllByRecursion (λ x. Among x (observers (behind_again rows moment s.word)) × (length x.token ≤ longest_token)) left

@@ -22,10 +22,11 @@ use Rattle.journal_model.specs.Sending.{Effects}
 use Rattle.journal_model.specs.Ticks.{notices}
 use Rattle.journal_model.specs.Headline.{has_listing, forms_notice}
 use Rattle.journal_model.proofs.BodyAnswers.{IsBodyOf}
+use Rattle.journal_model.proofs.PlainSteps.{each_append}
 use Rattle.journal_model.proofs.Among.{Among}
 use Rattle.journal_model.proofs.FlightKeys.{flight_key, is_landing, key_same_all}
 use Rattle.journal_model.proofs.Standing.{is_turning, observers_same, Waits, flies_key}
-use Rattle.journal_model.proofs.AgainFacts.{AgainSent, behind_again}
+use Rattle.journal_model.proofs.AgainFacts.{AgainSent, AgainNoted, behind_again}
 
 -- the note forms a notice to a peer
 abbrev pub is_notice_to : Peer → Note → Bool
@@ -58,6 +59,7 @@ pub record TickSoFar (rows : List Row) (moment word : ℕ) (done : Effects) : Ty
   pub waits_on : (peer : Peer) → Waits peer (behind_again rows moment word) → Waits peer (noted (length rows) moment word done.notes (events rows))
   pub origins : AllByRecursion (λ (d : Peer × List ℕ). AgainSent rows moment d ⊎ FreshSent rows moment word d) done.sent
   pub stats : (o : Observer) → Among o (observers (behind_again rows moment word)) → Stat rows moment word o done
+  pub agains : AllByRecursion (AgainNoted rows moment) done.notes
 
 -- ---- notes that do nothing
 
@@ -71,15 +73,16 @@ or_right false b h = h
 
 -- where nothing is sent, and what is noted does nothing for flights and observers
 pub so_far_quiet : (rows : List Row) (moment word : ℕ) (done : Effects) (more : List Note) (drew : ℕ) → ((o : Observer) → list_any (is_forming_for (name_of o)) more ≡ false) → list_any is_landing more ≡ false
-    → list_any is_turning more ≡ false → ((peer : Peer) → list_any (is_notice_to peer) more ≡ false) → TickSoFar rows moment word done
+    → list_any is_turning more ≡ false → ((peer : Peer) → list_any (is_notice_to peer) more ≡ false) → AllByRecursion (AgainNoted rows moment) more → TickSoFar rows moment word done
     → TickSoFar rows moment word (record { sent = done.sent ++ []; notes = done.notes ++ more; drew = drew })
-so_far_quiet rows moment word done more drew forming landing turning notices it = record {
+so_far_quiet rows moment word done more drew forming landing turning notices agains it = record {
   stand = ap observers split ∙ (observers_same (length rows) moment word more Before turning ∙ it.stand);
   sends = subst (AllByRecursion (λ (d : Peer × List ℕ). (m : Message) → reading d.1 ≡ Ok m → has_listing m ≡ true → Waits d.0 After)) (sym (append-nil done.sent))
       (each_weak (λ d h m e listed. on d.0 (h m e listed)) done.sent it.sends);
   waits_on = λ peer w. on peer (it.waits_on peer w);
   origins = subst (AllByRecursion (λ (d : Peer × List ℕ). AgainSent rows moment d ⊎ FreshSent rows moment word d)) (sym (append-nil done.sent)) it.origins;
   stats = λ o stands. stat o (it.stats o stands);
+  agains = each_append (AgainNoted rows moment) done.notes more it.agains agains;
 }
   where
     Before : List Event
