@@ -38,4 +38,6 @@ pub mod AgainFacts
 pub mod TickNotices
 pub mod FreshNotices
 pub mod TickFolds
+pub mod KnownFlights
+pub mod TickCarries
 mod LimitExamples
