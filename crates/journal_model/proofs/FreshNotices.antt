@@ -80,6 +80,7 @@ so_far_noticed rows moment word done new drew it = record {
       (inr (record { observer = new.observer; stands = new.stands; of_peer = refl; body = new.notice; free = λ w. new.free (it.waits_on new.observer.peer w) }), tt);
   stats = λ o stands. stat o stands (it.stats o stands);
   agains = each_append (AgainNoted rows moment) done.notes (notes_of new) it.agains (tt, new.agains);
+  keeps = λ test h. list_any-append test done.notes (notes_of new) ∙ or_left (list_any test done.notes) (list_any test (notes_of new)) (it.keeps test h);
 }
   where
     x : Observer

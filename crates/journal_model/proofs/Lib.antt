@@ -40,4 +40,5 @@ pub mod FreshNotices
 pub mod TickFolds
 pub mod KnownFlights
 pub mod TickCarries
+pub mod TickRows
 mod LimitExamples

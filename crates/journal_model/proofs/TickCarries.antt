@@ -74,7 +74,7 @@ noted_here peer mid (n ∷ notes) here unused none =
 -- ---- who stands
 
 -- who stands behind the first part stood before it
-stood : (rows : List Row) (moment word : ℕ) (P : Observer → Type 0) → AllByRecursion P (observers (events rows)) → AllByRecursion P (observers (behind_again rows moment word))
+pub stood : (rows : List Row) (moment word : ℕ) (P : Observer → Type 0) → AllByRecursion P (observers (events rows)) → AllByRecursion P (observers (behind_again rows moment word))
 stood rows moment word P all = observers_all P (length rows) moment word (notices_again rows moment).notes (events rows) (each (notices_again rows moment).notes (again_none is_added (λ p t. refl) (λ p m. refl) rows moment)) all
   where
     is_added : Note → Bool

@@ -54,6 +54,7 @@ tick_begins rows moment word = record {
   origins = each_weak (λ d a. inl a) (notices_again rows moment).sent (again_sends rows moment);
   stats = λ o stands. as_before (again_key rows moment word o) (λ some. again_none (is_notice_to o.peer) (λ p t. refl) (λ p m. refl) rows moment);
   agains = again_notes rows moment;
+  keeps = λ test h. h;
 }
 
 -- an answer that is kept does nothing for observers

@@ -20,6 +20,7 @@ use Rattle.journal_model.specs.declared.rows.Row.{Row}
 use Rattle.journal_model.specs.Journal.{events, entries}
 use Rattle.journal_model.specs.Sending.{Effects}
 use Rattle.journal_model.specs.Ticks.{notices}
+use Rattle.journal_model.specs.Ticks.{notices_again}
 use Rattle.journal_model.specs.Headline.{has_listing, forms_notice}
 use Rattle.journal_model.proofs.BodyAnswers.{IsBodyOf}
 use Rattle.journal_model.proofs.PlainSteps.{each_append}
@@ -60,6 +61,7 @@ pub record TickSoFar (rows : List Row) (moment word : ℕ) (done : Effects) : Ty
   pub origins : AllByRecursion (λ (d : Peer × List ℕ). AgainSent rows moment d ⊎ FreshSent rows moment word d) done.sent
   pub stats : (o : Observer) → Among o (observers (behind_again rows moment word)) → Stat rows moment word o done
   pub agains : AllByRecursion (AgainNoted rows moment) done.notes
+  pub keeps : (test : Note → Bool) → list_any test (notices_again rows moment).notes ≡ true → list_any test done.notes ≡ true
 
 -- ---- notes that do nothing
 
@@ -83,6 +85,7 @@ so_far_quiet rows moment word done more drew forming landing turning notices aga
   origins = subst (AllByRecursion (λ (d : Peer × List ℕ). AgainSent rows moment d ⊎ FreshSent rows moment word d)) (sym (append-nil done.sent)) it.origins;
   stats = λ o stands. stat o (it.stats o stands);
   agains = each_append (AgainNoted rows moment) done.notes more it.agains agains;
+  keeps = λ test h. list_any-append test done.notes more ∙ or_left (list_any test done.notes) (list_any test more) (it.keeps test h);
 }
   where
     Before : List Event
