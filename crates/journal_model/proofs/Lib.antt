@@ -41,4 +41,5 @@ pub mod TickFolds
 pub mod KnownFlights
 pub mod TickCarries
 pub mod TickRows
+pub mod TickFlights
 mod LimitExamples

@@ -50,7 +50,7 @@ or_left true b h = refl
 or_left false b h = absurd (false≢true h)
 
 -- requests do nothing for observers
-requests_none : (test : Note → Bool) → ((peer : Peer) → test (note.Resent peer) ≡ false) → ((peer : Peer) → test (note.Ceased peer) ≡ false) → (notes : List Note) → are of_resent notes ≡ true → list_any test notes ≡ false
+pub requests_none : (test : Note → Bool) → ((peer : Peer) → test (note.Resent peer) ≡ false) → ((peer : Peer) → test (note.Ceased peer) ≡ false) → (notes : List Note) → are of_resent notes ≡ true → list_any test notes ≡ false
 requests_none test resent ceased notes h = none_of of_resent test never notes h
   where
     never : (n : Note) → of_resent n ≡ true → test n ≡ false
@@ -89,7 +89,7 @@ again_carried rows r t d a m e listed =
         (t.so_far.keeps (is_again_of a.observer.peer a.flight_is.mid) a.noted))
 
 -- the listing of a row that tells no entry
-as_row : (rows : List Row) (r : Row) (o : Observer) (octets : List ℕ) → entries (r ∷ rows) ≡ entries rows → IsNoticeOf rows r.moment.0 o octets
+pub as_row : (rows : List Row) (r : Row) (o : Observer) (octets : List ℕ) → entries (r ∷ rows) ≡ entries rows → IsNoticeOf rows r.moment.0 o octets
     → IsBodyOf o.token (listing o.query (entries (r ∷ rows)) r.moment.0) (tag (entries (r ∷ rows)) r.moment.0) octets
 as_row rows r o octets untold h = subst (λ history. IsBodyOf o.token (listing o.query history r.moment.0) (tag history r.moment.0) octets) (sym untold) h
 
