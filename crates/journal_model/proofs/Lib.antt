@@ -42,4 +42,5 @@ pub mod KnownFlights
 pub mod TickCarries
 pub mod TickRows
 pub mod TickFlights
+pub mod StepGives
 mod LimitExamples
