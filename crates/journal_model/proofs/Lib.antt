@@ -43,4 +43,5 @@ pub mod TickCarries
 pub mod TickRows
 pub mod TickFlights
 pub mod StepGives
+pub mod RowCarries
 mod LimitExamples

@@ -30,6 +30,7 @@ use Rattle.journal_model.specs.Writes.{write_effects}
 use Rattle.journal_model.specs.Commits.{commit_effects}
 use Rattle.journal_model.specs.Empties.{acknowledged, reset}
 use Rattle.journal_model.specs.Responses.{response_effects}
+use Rattle.journal_model.specs.Meantime.{is_heard}
 use Rattle.journal_model.specs.Rows.{served, refusal_answered, request_by, by_role, heard, looked, done, kept_body}
 use Rattle.journal_model.proofs.NoteKinds.{of_write, of_empty, of_commit, of_response, are, none_of}
 use Rattle.journal_model.proofs.StepNotes.{write_effects-notes, acknowledged-notes, reset-notes}
@@ -47,8 +48,8 @@ is_keeping _ = false
 -- what a step gives
 pub data Gives (rows : List Row) (moment : ℕ) (s : Step) (e : Effects) : Type 0 where
   plain : ArePlain e.sent → list_any is_keeping e.notes ≡ false → Gives rows moment s e
-  look : (m : Message) → reading s.datagram ≡ Ok m → e ≡ look_effects (entries rows) moment s m → Gives rows moment s e
-  lookup : (m : Message) → reading s.datagram ≡ Ok m → is_lookup (path_in m) ≡ true → e ≡ lookup_effects rows moment s m → Gives rows moment s e
+  look : (m : Message) → is_heard s.kind ≡ true → reading s.datagram ≡ Ok m → e ≡ look_effects (entries rows) moment s m → Gives rows moment s e
+  lookup : (m : Message) → is_heard s.kind ≡ true → reading s.datagram ≡ Ok m → is_lookup (path_in m) ≡ true → e ≡ lookup_effects rows moment s m → Gives rows moment s e
   keep : (m : Message) (body tag : List ℕ) → reading s.datagram ≡ Ok m → s.kind ≡ step.Keep body tag → e ≡ keep_effects s m body tag → Gives rows moment s e
 
 -- notes of a kind that keeps nothing
@@ -66,9 +67,9 @@ noted_nothing : (notes : List Note) → notes ≡ [] → list_any is_keeping not
 noted_nothing notes none = ap (list_any is_keeping) none
 
 -- a request that is heard
-request_gives : (rows : List Row) (moment : ℕ) (s : Step) (m : Message) → SettledPlain (events rows) → reading s.datagram ≡ Ok m → Gives rows moment s (request_by (refusal_by_request m) rows moment s m)
+request_gives : (rows : List Row) (moment : ℕ) (s : Step) (m : Message) → SettledPlain (events rows) → is_heard s.kind ≡ true → reading s.datagram ≡ Ok m → Gives rows moment s (request_by (refusal_by_request m) rows moment s m)
 unfolding served answering
-request_gives rows moment s m settled read = by (refusal_by_request m) refl
+request_gives rows moment s m settled hears read = by (refusal_by_request m) refl
   where
     noted : (k : Kind4) (bad : Option ℕ) (reply : Reply) → (refusal_answered k bad s m reply).notes ≡ []
     noted Non (Some number) reply = refl
@@ -81,9 +82,9 @@ request_gives rows moment s m settled read = by (refusal_by_request m) refl
     write = plain (write_plain (events rows) moment s m settled) (keeps_none of_write (λ p k b c. refl) (λ o. refl) (write_effects (events rows) moment s m).notes (write_effects-notes (events rows) moment s m))
 
     on : (p : Path) → path_in m ≡ p → Gives rows moment s (served p rows moment s m)
-    on path.Core is = look m read refl
-    on path.Res is = lookup m read (ap is_lookup is) refl
-    on path.Ep is = lookup m read (ap is_lookup is) refl
+    on path.Core is = look m hears read refl
+    on path.Res is = lookup m hears read (ap is_lookup is) refl
+    on path.Ep is = lookup m hears read (ap is_lookup is) refl
     on path.SimpleRd is = write
     on path.Rd is = write
     on (path.Location number) is = write
@@ -94,31 +95,31 @@ request_gives rows moment s m settled read = by (refusal_by_request m) refl
     by None e = on (path_in m) refl
 
 -- a message that is heard
-role_gives : (r : Role) (starved : Bool) (rows : List Row) (moment : ℕ) (s : Step) (m : Message) → SettledPlain (events rows) → reading s.datagram ≡ Ok m → Gives rows moment s (by_role r starved rows moment s m)
+role_gives : (r : Role) (starved : Bool) (rows : List Row) (moment : ℕ) (s : Step) (m : Message) → SettledPlain (events rows) → is_heard s.kind ≡ true → reading s.datagram ≡ Ok m → Gives rows moment s (by_role r starved rows moment s m)
 unfolding spelling header_spelling acknowledged reset answering
-role_gives role.Ping starved rows moment s m settled read = plain (record { no_content = refl; no_valid = refl }, tt) refl
-role_gives role.Acknowledgement starved rows moment s m settled read =
+role_gives role.Ping starved rows moment s m settled hears read = plain (record { no_content = refl; no_valid = refl }, tt) refl
+role_gives role.Acknowledgement starved rows moment s m settled hears read =
     plain tt (keeps_none of_empty (λ p k b c. refl) (λ o. refl) (acknowledged s.peer m.mid (events rows)).notes (acknowledged-notes s.peer m.mid (events rows)))
-role_gives role.Reset starved rows moment s m settled read =
+role_gives role.Reset starved rows moment s m settled hears read =
     plain tt (keeps_none of_empty (λ p k b c. refl) (λ o. refl) (reset s.peer m.mid (events rows)).notes (reset-notes s.peer m.mid (events rows)))
-role_gives role.Request true rows moment s m settled read = plain (starved_plain s m) refl
-role_gives role.Request false rows moment s m settled read = request_gives rows moment s m settled read
-role_gives role.Response true rows moment s m settled read = plain tt refl
-role_gives role.Response false rows moment s m settled read =
+role_gives role.Request true rows moment s m settled hears read = plain (starved_plain s m) refl
+role_gives role.Request false rows moment s m settled hears read = request_gives rows moment s m settled hears read
+role_gives role.Response true rows moment s m settled hears read = plain tt refl
+role_gives role.Response false rows moment s m settled hears read =
     plain (response_plain rows moment s m) (keeps_none of_response (λ p k b c. refl) (λ o. refl) (response_effects rows moment s m).notes (response_effects-notes rows moment s m))
-role_gives role.Ignored starved rows moment s m settled read = plain tt refl
+role_gives role.Ignored starved rows moment s m settled hears read = plain tt refl
 
 -- a datagram that is heard
-pub heard_gives : (starved : Bool) (rows : List Row) (moment : ℕ) (s : Step) (read : Result Message Unread) → SettledPlain (events rows) → reading s.datagram ≡ read → Gives rows moment s (heard starved rows moment s read)
-heard_gives starved rows moment s (Err fault) settled read = plain (unread_plain s fault) (noted_nothing _ (unread_notes s fault))
-heard_gives starved rows moment s (Ok m) settled read = role_gives (role_of m.kind m.code) starved rows moment s m settled read
+pub heard_gives : (starved : Bool) (rows : List Row) (moment : ℕ) (s : Step) (read : Result Message Unread) → SettledPlain (events rows) → is_heard s.kind ≡ true → reading s.datagram ≡ read → Gives rows moment s (heard starved rows moment s read)
+heard_gives starved rows moment s (Err fault) settled hears read = plain (unread_plain s fault) (noted_nothing _ (unread_notes s fault))
+heard_gives starved rows moment s (Ok m) settled hears read = role_gives (role_of m.kind m.code) starved rows moment s m settled hears read
 
 -- a datagram that is looked at
-pub looked_gives : (starved : Bool) (rows : List Row) (moment : ℕ) (s : Step) (read : Result Message Unread) → reading s.datagram ≡ read → Gives rows moment s (looked starved rows moment s read)
+pub looked_gives : (starved : Bool) (rows : List Row) (moment : ℕ) (s : Step) (read : Result Message Unread) → is_heard s.kind ≡ true → reading s.datagram ≡ read → Gives rows moment s (looked starved rows moment s read)
 unfolding answering
-looked_gives starved rows moment s (Err fault) read = plain tt refl
-looked_gives true rows moment s (Ok m) read = plain (starved_plain s m) refl
-looked_gives false rows moment s (Ok m) read = look m read refl
+looked_gives starved rows moment s (Err fault) hears read = plain tt refl
+looked_gives true rows moment s (Ok m) hears read = plain (starved_plain s m) refl
+looked_gives false rows moment s (Ok m) hears read = look m hears read refl
 
 -- a write that is done
 pub done_gives : (starved : Bool) (rows : List Row) (moment place : ℕ) (s : Step) (read : Result Message Unread) → Gives rows moment s (done starved rows moment place s read)

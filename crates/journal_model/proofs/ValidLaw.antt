@@ -86,7 +86,7 @@ unfolding is_look_datagram
 admitted_no_look rows s may admits = heard_no_look s.datagram (sym admits ∙ heard_by_hearing rows s may.begin (rw admits refl))
 
 -- and one that is looked at is one
-looked_a_look : (rows : List Row) (s : Step) → MayMake rows s → s.kind ≡ step.Look → is_look_reading (reading s.datagram) ≡ true
+pub looked_a_look : (rows : List Row) (s : Step) → MayMake rows s → s.kind ≡ step.Look → is_look_reading (reading s.datagram) ≡ true
 unfolding is_look_datagram
 looked_a_look rows s may looks = heard_a_look s.datagram (sym looks ∙ heard_by_hearing rows s may.begin (rw looks refl))
 
@@ -101,12 +101,12 @@ journal_sends (r ∷ before) (made {rows} {s} starved journal may) =
 -- ---- the law
 
 -- the request of a look
-record LooksAt (read : Result Message Unread) : Type 0 where
-  message : Message
-  read_is : read ≡ Ok message
-  looks : is_look_request message ≡ true
+pub record LooksAt (read : Result Message Unread) : Type 0 where
+  pub message : Message
+  pub read_is : read ≡ Ok message
+  pub looks : is_look_request message ≡ true
 
-a_look_reads : (read : Result Message Unread) → is_look_reading read ≡ true → LooksAt read
+pub a_look_reads : (read : Result Message Unread) → is_look_reading read ≡ true → LooksAt read
 a_look_reads (Err fault) h = absurd (false≢true h)
 a_look_reads (Ok m) h = by (role_of m.kind m.code) h
   where
