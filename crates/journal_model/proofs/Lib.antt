@@ -44,4 +44,7 @@ pub mod TickRows
 pub mod TickFlights
 pub mod StepGives
 pub mod RowCarries
+pub mod KeptRows
+pub mod KeepRows
+pub mod TickTold
 mod LimitExamples

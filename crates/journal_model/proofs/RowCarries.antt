@@ -72,21 +72,21 @@ plain_row rows r plain none = record {
 
 -- ---- rows of datagrams that are heard
 
-heard_former : (k : StepKind) (peer : Peer) (mid : ℕ) (here : Placed) → is_heard k ≡ true → former_at k peer mid here ≡ former_noted peer mid here.row.notes here
+pub heard_former : (k : StepKind) (peer : Peer) (mid : ℕ) (here : Placed) → is_heard k ≡ true → former_at k peer mid here ≡ former_noted peer mid here.row.notes here
 heard_former step.Admit peer mid here h = refl
 heard_former step.Look peer mid here h = refl
 heard_former (step.Commit place) peer mid here h = absurd (false≢true h)
 heard_former (step.Keep body current) peer mid here h = absurd (false≢true h)
 heard_former step.Tick peer mid here h = absurd (false≢true h)
 
-heard_query : (k : StepKind) (name : RequestName) (here : Placed) → is_heard k ≡ true → query_answered k name here ≡ query_read (reading here.row.step.datagram)
+pub heard_query : (k : StepKind) (name : RequestName) (here : Placed) → is_heard k ≡ true → query_answered k name here ≡ query_read (reading here.row.step.datagram)
 heard_query step.Admit name here h = refl
 heard_query step.Look name here h = refl
 heard_query (step.Commit place) name here h = absurd (false≢true h)
 heard_query (step.Keep body current) name here h = absurd (false≢true h)
 heard_query step.Tick name here h = absurd (false≢true h)
 
-heard_by : (k : StepKind) (here : Placed) → is_heard k ≡ true → former_by k here ≡ Some here
+pub heard_by : (k : StepKind) (here : Placed) → is_heard k ≡ true → former_by k here ≡ Some here
 heard_by step.Admit here h = refl
 heard_by step.Look here h = refl
 heard_by (step.Commit place) here h = absurd (false≢true h)
@@ -123,15 +123,15 @@ now_carried rows r m hears read untold none all = each r.sent all
     each [] h = tt
     each (d ∷ ds) h = (one d h.0, each ds h.1)
 
--- what such a row keeps
-told_noted : (rows : List Row) (r : Row) → is_heard r.step.kind ≡ true → entries (r ∷ rows) ≡ entries rows → (notes : List Note) → AreTold rows r.moment.0 notes → AllByRecursion (NoteAs (record { row = r; before = rows })) notes
-told_noted rows r hears untold [] h = tt
-told_noted rows r hears untold (n ∷ notes) h = (by n h.0, told_noted rows r hears untold notes h.1)
+-- what a row keeps that forms its own answers
+pub told_noted : (rows : List Row) (r : Row) → former_by r.step.kind (record { row = r; before = rows }) ≡ Some (record { row = r; before = rows }) → entries (r ∷ rows) ≡ entries rows → (notes : List Note) → AreTold rows r.moment.0 notes → AllByRecursion (NoteAs (record { row = r; before = rows })) notes
+told_noted rows r formed untold [] h = tt
+told_noted rows r formed untold (n ∷ notes) h = (by n h.0, told_noted rows r formed untold notes h.1)
   where
     by : (x : Note) → NoteTold (entries rows) r.moment.0 x → NoteAs (record { row = r; before = rows }) x
     by (note.Kept peer key body current) k = record {
       former = record { row = r; before = rows };
-      formed = heard_by r.step.kind (record { row = r; before = rows }) hears;
+      formed = formed;
       is_kept = subst (λ history. KeptAt history r.moment.0 key body current) (sym untold) k;
     }
     by (note.Watched o) k = k
