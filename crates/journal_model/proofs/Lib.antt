@@ -47,4 +47,5 @@ pub mod RowCarries
 pub mod KeptRows
 pub mod KeepRows
 pub mod TickTold
+pub mod AnswersAsFormed
 mod LimitExamples
