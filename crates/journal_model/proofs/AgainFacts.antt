@@ -1,5 +1,5 @@
 -- What a tick sends again: notices of observers that stand, and their peers are waited for from then on.
-use Rattle.std.proofs.Common.{◌≡◌, inl, inr, ℕ, ◌||◌, ◌==◌, Bool, true, false, List, [], ◌∷◌, length, Option, Some, None, refl, sym, ap, subst, ◌∙◌, nat_le, arith}
+use Rattle.std.proofs.Common.{◌≡◌, inl, inr, ℕ, ◌==◌, Bool, true, false, List, [], ◌∷◌, length, Option, Some, None, refl, sym, ap, subst, ◌∙◌, nat_le}
 use Rattle.std.specs.Prelude.{is_some}
 use Rattle.std.specs.List.{list_any, AllByRecursion}
 use Rattle.std.proofs.lemmas.Bool.{false≢true, and_from}
@@ -25,18 +25,7 @@ use Rattle.journal_model.proofs.TickSends.{each_of_sent}
 use Rattle.journal_model.proofs.Among.{Among, all_among, among_all}
 use Rattle.journal_model.proofs.FlightKeys.{flight_key, is_landing, key_same_all}
 use Rattle.journal_model.proofs.Standing.{stands_on, Waits, flies_key, IsAgain, again_stands}
-
--- a number equals itself
-eqb-refl : (n : ℕ) → (n == n) ≡ true
-eqb-refl n = grind arith
-
-or_left : (a b : Bool) → a ≡ true → (a || b) ≡ true
-or_left true b h = refl
-or_left false b h = absurd (false≢true h)
-
-or_right : (a b : Bool) → b ≡ true → (a || b) ≡ true
-or_right true b h = refl
-or_right false b h = h
+use Rattle.journal_model.proofs.Either.{or_left, or_right, eqb-refl}
 
 -- what is noted for one is noted for all
 each_of_any : {A : Type 0} (test : Note → Bool) (does : A → Effects) (x : A) (xs : List A) → Among x xs → list_any test (does x).notes ≡ true → list_any test (each_of does xs).notes ≡ true
@@ -100,13 +89,16 @@ again_sends rows moment =
 
         sent : (d : Option (Peer × List ℕ)) → sent_by (row_at f.formed.place rows) o.peer f.mid ≡ d → AllByRecursion (AgainSent rows moment) (sent_again d (note.Again o.peer f.mid)).sent
         sent None e = tt
-        sent (Some d) e = (record {
-          observer = o;
-          flight_is = f;
-          again = record { stands = stands; flies = flies; over = over; again = more };
-          found = e;
-          noted = each_of_any (is_again_of o.peer f.mid) (λ x. flight_again rows moment x (flight x (events rows))) o (observers (events rows)) stands noted_here;
-        }, tt)
+        sent (Some d) e = (
+          record {
+            observer = o;
+            flight_is = f;
+            again = record { stands = stands; flies = flies; over = over; again = more };
+            found = e;
+            noted = each_of_any (is_again_of o.peer f.mid) (λ x. flight_again rows moment x (flight x (events rows))) o (observers (events rows)) stands noted_here;
+          },
+          tt,
+        )
 
     flying : (o : Observer) → Among o (observers (events rows)) → (f : Option Flight) → flight o (events rows) ≡ f → AllByRecursion (AgainSent rows moment) (flight_again rows moment o f).sent
     flying o stands None flies = tt

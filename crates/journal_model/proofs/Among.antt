@@ -3,6 +3,11 @@ use Rattle.std.proofs.Common.{◌≡◌, ◌⊎◌, inl, inr, ◌||◌, Bool, tr
 use Rattle.std.specs.List.{list_any, AllByRecursion}
 use Rattle.std.proofs.lemmas.Bool.{false≢true}
 
+-- what follows for each
+pub each_weak : {X : Type 0} → {P Q : X → Type 0} → ((x : X) → P x → Q x) → (xs : List X) → AllByRecursion P xs → AllByRecursion Q xs
+each_weak h [] all = tt
+each_weak h (x ∷ xs) all = (h x all.0, each_weak h xs all.1)
+
 -- it is one of these
 abbrev pub Among : {X : Type 0} → X → List X → Type 0
 Among x [] = ⊥

@@ -1,7 +1,7 @@
 -- The row that an event stands in: the last one with a note of its kind; and what holds of all rows of a journal.
-use Rattle.std.proofs.Common.{◌≡◌, ◌⊎◌, inl, inr, ℕ, ◌<◌, ◌==◌, ◌||◌, Bool, true, false, List, [], ◌∷◌, ◌++◌, length, Option, Some, None, refl, sym, ap, subst, ◌∙◌, arith}
+use Rattle.std.proofs.Common.{◌≡◌, inl, inr, ℕ, ◌<◌, ◌||◌, Bool, true, false, List, [], ◌∷◌, ◌++◌, length, Option, Some, None, refl, sym, ap, subst, ◌∙◌, arith}
 use Rattle.std.specs.Prelude.{⊤, is_some}
-use Rattle.std.specs.List.{list_any, AllByRecursion}
+use Rattle.std.specs.List.{list_any}
 use Rattle.std.proofs.lemmas.Bool.{false≢true, ne_eqb}
 use Rattle.event_model.specs.declared.notes.Note.{Note}
 use Rattle.event_model.specs.Events.{Event, noted, last_event, or_else, last_said}
@@ -9,23 +9,10 @@ use Rattle.event_model.proofs.Noting.{event_at, last_event-before}
 use Rattle.journal_model.specs.declared.rows.Row.{Row}
 use Rattle.journal_model.specs.Journal.{events, row_at}
 use Rattle.journal_model.specs.Headline.{Within, Placed, last_row}
+use Rattle.journal_model.proofs.Either.{eqb-refl}
+use Rattle.journal_model.proofs.Among.{Among}
 
 -- ---- notes of a row
-
--- a note is one of these
-abbrev pub IsIn : Note → List Note → Type 0
-IsIn n [] = ⊥
-IsIn n (x ∷ xs) = (x ≡ n) ⊎ IsIn n xs
-
--- what holds of each holds of it
-pub each_in : (P : Note → Type 0) (n : Note) (notes : List Note) → AllByRecursion P notes → IsIn n notes → P n
-each_in P n [] all nothing = absurd nothing
-each_in P n (x ∷ notes) all (inl same) = subst P same all.0
-each_in P n (x ∷ notes) all (inr further) = each_in P n notes all.1 further
-
--- a number equals itself
-eqb-refl : (n : ℕ) → (n == n) ≡ true
-eqb-refl n = grind arith
 
 -- the first, where the second does not hold
 one_of : (b c : Bool) → (b || c) ≡ true → c ≡ false → b ≡ true
@@ -34,16 +21,16 @@ one_of false c h g = absurd (false≢true (sym g ∙ h))
 
 -- where a row notes something of a kind, the last event of the kind is one of its notes
 pub found_in : (test : Note → Bool) (place moment word : ℕ) (notes : List Note) (before : List Event) (e : Event) → list_any test notes ≡ true
-    → last_event test (noted place moment word notes before) ≡ Some e → IsIn e.note notes × (e.place ≡ place) × (test e.note ≡ true)
+    → last_event test (noted place moment word notes before) ≡ Some e → Among e.note notes × (e.place ≡ place) × (test e.note ≡ true)
 found_in test place moment word [] before e some found = absurd (false≢true some)
 found_in test place moment word (n ∷ notes) before e some found =
     by (list_any test notes) refl (λ h. found_in test place moment word notes (event_at place moment word n ∷ before) e h found)
   where
-    is_it : test n ≡ true → event_at place moment word n ≡ e → IsIn e.note (n ∷ notes) × (e.place ≡ place) × (test e.note ≡ true)
-    is_it good same = subst (λ (x : Event). IsIn x.note (n ∷ notes) × (x.place ≡ place) × (test x.note ≡ true)) same (inl refl, refl, good)
+    is_it : test n ≡ true → event_at place moment word n ≡ e → Among e.note (n ∷ notes) × (e.place ≡ place) × (test e.note ≡ true)
+    is_it good same = subst (λ (x : Event). Among x.note (n ∷ notes) × (x.place ≡ place) × (test x.note ≡ true)) same (inl refl, refl, good)
 
-    by : (b : Bool) → list_any test notes ≡ b → (list_any test notes ≡ true → IsIn e.note notes × (e.place ≡ place) × (test e.note ≡ true))
-        → IsIn e.note (n ∷ notes) × (e.place ≡ place) × (test e.note ≡ true)
+    by : (b : Bool) → list_any test notes ≡ b → (list_any test notes ≡ true → Among e.note notes × (e.place ≡ place) × (test e.note ≡ true))
+        → Among e.note (n ∷ notes) × (e.place ≡ place) × (test e.note ≡ true)
     by true more later = let h = later more in (inr h.0, h.1, h.2)
     by false none later =
         let good : test n ≡ true = one_of (test n) (list_any test notes) some none in
@@ -64,7 +51,7 @@ pub record RowOf (test : Note → Bool) (rows : List Row) (e : Event) : Type 0 w
   pub place : e.place ≡ length placed.before
   pub below : e.place < length rows
   pub at_place : row_at e.place rows ≡ Some placed.row
-  pub note : IsIn e.note placed.row.notes
+  pub note : Among e.note placed.row.notes
   pub kind : test e.note ≡ true
   pub last : last_row (λ r. list_any test r.notes) rows ≡ Some placed
 

@@ -12,10 +12,7 @@ use Rattle.event_model.specs.Observers.{name_of}
 use Rattle.event_model.specs.Flights.{is_forming_for, notice_mid, is_landing_of, is_again_of, Flight, flight_after, flight}
 use Rattle.event_model.proofs.SameLaws.{is_same_request-refl}
 use Rattle.event_model.proofs.Noting.{event_at}
-
-neither : (a b : Bool) → (a || b) ≡ false → (a ≡ false) × (b ≡ false)
-neither true b h = absurd (false≢true (sym h))
-neither false b h = (refl, h)
+use Rattle.journal_model.proofs.Either.{neither}
 
 -- the Message ID of a notice in flight, and the place of the row that formed it
 abbrev pub key_of : Flight → ℕ × ℕ

@@ -1,5 +1,5 @@
 -- One more notice of a tick: its peer was not waited for, and is from then on.
-use Rattle.std.proofs.Common.{◌≡◌, ◌⊎◌, inr, ℕ, ◌||◌, ◌&&◌, ◌==◌, Bool, true, false, List, [], ◌∷◌, ◌++◌, length, Some, Ok, refl, sym, ap, subst, ◌∙◌, arith}
+use Rattle.std.proofs.Common.{◌≡◌, ◌⊎◌, inr, ℕ, ◌&&◌, ◌==◌, Bool, true, false, List, [], ◌∷◌, ◌++◌, length, Some, Ok, refl, sym, ap, subst, ◌∙◌}
 use Rattle.std.specs.Prelude.{is_some}
 use Rattle.std.specs.List.{list_any, AllByRecursion}
 use Rattle.std.proofs.lemmas.Bool.{false≢true, and_from}
@@ -21,26 +21,12 @@ use Rattle.journal_model.specs.Journal.{events}
 use Rattle.journal_model.specs.Sending.{Effects}
 use Rattle.journal_model.specs.Headline.{has_listing, forms_notice}
 use Rattle.journal_model.proofs.PlainSteps.{each_append}
-use Rattle.journal_model.proofs.Among.{Among}
+use Rattle.journal_model.proofs.Among.{Among, each_weak}
 use Rattle.journal_model.proofs.FlightKeys.{flight_key, is_landing, key_same_all, key_formed}
 use Rattle.journal_model.proofs.Standing.{is_turning, observers_same, Waits, flies_key}
 use Rattle.journal_model.proofs.AgainFacts.{AgainSent, AgainNoted, behind_again}
 use Rattle.journal_model.proofs.TickNotices.{is_notice_to, IsNoticeOf, Stat, as_before, given, FreshSent, TickSoFar}
-
-eqb-refl : (n : ℕ) → (n == n) ≡ true
-eqb-refl n = grind arith
-
-or_left : (a b : Bool) → a ≡ true → (a || b) ≡ true
-or_left true b h = refl
-or_left false b h = absurd (false≢true h)
-
-or_right : (a b : Bool) → b ≡ true → (a || b) ≡ true
-or_right true b h = refl
-or_right false b h = h
-
-each_weak : {P Q : Peer × List ℕ → Type 0} → ((d : Peer × List ℕ) → P d → Q d) → (ds : List (Peer × List ℕ)) → AllByRecursion P ds → AllByRecursion Q ds
-each_weak h [] all = tt
-each_weak h (d ∷ ds) all = (h d all.0, each_weak h ds all.1)
+use Rattle.journal_model.proofs.Either.{or_left, or_right, eqb-refl}
 
 -- a new notice, with what is kept of it
 pub record NewNotice (rows : List Row) (moment word : ℕ) (done : Effects) : Type 0 where

@@ -27,10 +27,11 @@ use Rattle.journal_model.proofs.Observing.{entries-untold}
 use Rattle.journal_model.proofs.ReadAgain.{header_read}
 use Rattle.journal_model.proofs.BodyAnswers.{Bears, IsBodyOf, tag-length, bears_carries}
 use Rattle.journal_model.proofs.LookupSends.{AreListings, AreBodiesOf, tells_earlier, LookupGives, now, kept, lookup_gives}
-use Rattle.journal_model.proofs.EventRows.{AllRows, each_in, row_of, row_within, said_by}
+use Rattle.journal_model.proofs.EventRows.{AllRows, row_of, row_within, said_by}
 use Rattle.journal_model.proofs.Asking.{asks_once, lookup_fits, KeptAt, AreTold, lookup_told_so}
 use Rattle.journal_model.proofs.TickCarries.{Carried}
 use Rattle.journal_model.proofs.RowCarries.{KeptBy, NoteAs, RowCarries, heard_former, heard_query, heard_by, now_carried, told_noted}
+use Rattle.journal_model.proofs.Among.{all_among}
 
 -- ---- kept answers
 
@@ -68,7 +69,7 @@ pub kept_from : (rows : List Row) (moment : ℕ) (name : RequestName) (answer : 
 kept_from rows moment name answer all e =
     let found = said_by (answer_kept name) (events rows) answer (was_kept moment name (events rows) answer e) in
     let it = row_of (λ n. is_some (answer_kept name n)) rows found.0 found.1 in
-    let noted = each_in (NoteAs it.placed) found.0.note it.placed.row.notes (row_within RowCarries rows it.placed.before it.placed.row all it.within).noted it.note in
+    let noted = all_among (NoteAs it.placed) found.0.note it.placed.row.notes (row_within RowCarries rows it.placed.before it.placed.row all it.within).noted it.note in
     let by = kept_note it.placed name answer found.0.note noted found.2 in
     record {
       former = by.former;

@@ -1,5 +1,5 @@
 -- What is known of each notice in flight: the row that formed it, and that it bears the listing there.
-use Rattle.std.proofs.Common.{◌≡◌, ℕ, ◌<◌, ◌||◌, Bool, true, false, List, [], ◌∷◌, length, Some, None, refl, sym, ◌∙◌, arith}
+use Rattle.std.proofs.Common.{◌≡◌, ℕ, ◌<◌, Bool, true, false, List, [], ◌∷◌, length, Some, None, refl, sym, ◌∙◌, arith}
 use Rattle.std.specs.List.{list_any, AllByRecursion}
 use Rattle.std.proofs.lemmas.Bool.{false≢true, ne_eqb}
 use Rattle.rd_base.specs.declared.peers.Peer.{Peer}
@@ -17,9 +17,11 @@ use Rattle.journal_model.specs.declared.rows.Row.{Row}
 use Rattle.journal_model.specs.Journal.{events, entries, row_at}
 use Rattle.journal_model.specs.Headline.{Placed, last_row, forms_notice, former_of_notice}
 use Rattle.journal_model.proofs.BodyAnswers.{IsBodyOf}
-use Rattle.journal_model.proofs.EventRows.{each_in, found_in}
+use Rattle.journal_model.proofs.EventRows.{found_in}
 use Rattle.journal_model.proofs.Asking.{OfWatched, observers_all}
 use Rattle.journal_model.proofs.FlightKeys.{flight_key, key_before_all, is_notice, key_none}
+use Rattle.journal_model.proofs.Either.{neither}
+use Rattle.journal_model.proofs.Among.{all_among}
 
 -- the row that formed the notice to an observer under a Message ID, at a place
 pub record NoticeOf (rows : List Row) (o : Observer) (mid place : ℕ) : Type 0 where
@@ -48,10 +50,6 @@ notice_of_row rows r o mid place none it = record {
   sent = it.sent;
 }
 
-neither : (a b : Bool) → (a || b) ≡ false → (a ≡ false) × (b ≡ false)
-neither true b h = absurd (false≢true (sym h))
-neither false b h = (refl, h)
-
 -- notes that form no notice form none to a peer
 no_notice_to : (peer : Peer) (mid : ℕ) (notes : List Note) → list_any is_notice notes ≡ false → list_any (forms_notice peer mid) notes ≡ false
 no_notice_to peer mid [] none = refl
@@ -75,10 +73,10 @@ none_in_flight : (rows : List Row) (r : Row) (o : Observer) → list_any is_noti
 unfolding events
 none_in_flight rows r o none forms =
     let found : Found (is_forming_for (name_of o)) (noted (length rows) r.moment.0 r.step.word r.notes (events rows)) (length rows) r.moment.0 =
-        last_event-here (is_forming_for (name_of o)) (length rows) r.moment.0 r.step.word r.notes (events rows) forms in
+    last_event-here (is_forming_for (name_of o)) (length rows) r.moment.0 r.step.word r.notes (events rows) forms in
     let it = found_in (is_forming_for (name_of o)) (length rows) r.moment.0 r.step.word r.notes (events rows) found.event forms found.last in
     key_none o (noted (length rows) r.moment.0 r.step.word r.notes (events rows)) found.event found.last
-    (each_in (λ n. is_notice n ≡ false) found.event.note r.notes (each_no r.notes none) it.0)
+    (all_among (λ n. is_notice n ≡ false) found.event.note r.notes (each_no r.notes none) it.0)
 
 -- behind a row that forms no notice, and whatever observer it adds is formed for
 pub flights_row : (rows : List Row) (r : Row) → list_any is_notice r.notes ≡ false → AllByRecursion (OfWatched (λ o. list_any (is_forming_for (name_of o)) r.notes ≡ true)) r.notes → FlightsKnown rows → FlightsKnown (r ∷ rows)

@@ -19,6 +19,7 @@ pub mod Knowing
 pub mod Observing
 pub mod TickKnowing
 pub mod ObserversKnow
+pub mod Either
 pub mod ReadAgain
 pub mod BodyAnswers
 pub mod PlainSteps
@@ -48,4 +49,5 @@ pub mod KeptRows
 pub mod KeepRows
 pub mod TickTold
 pub mod AnswersAsFormed
+pub mod WholeHeadline
 mod LimitExamples

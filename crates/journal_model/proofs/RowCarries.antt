@@ -1,5 +1,5 @@
 -- A row that is no tick: what it sends was formed as the headline says, and so was what it keeps.
-use Rattle.std.proofs.Common.{◌≡◌, ℕ, ◌||◌, Bool, true, false, List, [], ◌∷◌, Some, Ok, refl, sym, ap, subst, ◌∙◌}
+use Rattle.std.proofs.Common.{◌≡◌, ℕ, true, false, List, [], ◌∷◌, Some, Ok, refl, sym, ap, subst, ◌∙◌}
 use Rattle.std.specs.List.{list_any, AllByRecursion}
 use Rattle.std.proofs.lemmas.Bool.{false≢true}
 use Rattle.rd_base.specs.declared.peers.Peer.{Peer}
@@ -28,6 +28,7 @@ use Rattle.journal_model.proofs.Asking.{IsAsking, KeptAt, NoteTold, AreTold}
 use Rattle.journal_model.proofs.TickCarries.{Carried}
 use Rattle.journal_model.proofs.TickRows.{plain_bodies}
 use Rattle.journal_model.proofs.StepGives.{is_keeping}
+use Rattle.journal_model.proofs.Either.{neither}
 
 -- an answer that is kept at a row: the listing of the query of its key, at the row that formed it
 pub record KeptBy (here : Placed) (key body current : List ℕ) : Type 0 where
@@ -47,10 +48,6 @@ pub record RowCarries (before : List Row) (r : Row) : Type 0 where
   pub noted : AllByRecursion (NoteAs (record { row = r; before = before })) r.notes
 
 -- ---- plain rows
-
-neither : (a b : Bool) → (a || b) ≡ false → (a ≡ false) × (b ≡ false)
-neither true b h = absurd (false≢true (sym h))
-neither false b h = (refl, h)
 
 -- what keeps nothing
 keeps_nothing : (here : Placed) (notes : List Note) → list_any is_keeping notes ≡ false → AllByRecursion (NoteAs here) notes

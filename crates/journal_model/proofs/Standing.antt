@@ -1,5 +1,5 @@
 -- Who stands behind the first part of a tick, and whom it waits for: notices that are sent again keep their observers.
-use Rattle.std.proofs.Common.{◌≡◌, ℕ, ◌||◌, ◌&&◌, Bool, true, false, not, List, [], ◌∷◌, ◌++◌, length, filter, Option, Some, None, option_map, refl, sym, ap, subst, ◌∙◌, append-nil, nat_le}
+use Rattle.std.proofs.Common.{◌≡◌, ℕ, ◌&&◌, Bool, true, false, not, List, [], ◌∷◌, ◌++◌, length, filter, Option, Some, None, option_map, refl, sym, ap, subst, ◌∙◌, append-nil, nat_le}
 use Rattle.std.specs.Prelude.{is_some}
 use Rattle.std.specs.List.{list_any, AllByRecursion}
 use Rattle.std.proofs.lemmas.Bool.{false≢true, and_parts, and_from}
@@ -20,6 +20,7 @@ use Rattle.journal_model.specs.Journal.{events, row_at}
 use Rattle.journal_model.specs.Ticks.{sent_by, sent_again, each_of, notice_again, flight_again, notices_again}
 use Rattle.journal_model.proofs.Among.{Among, any_among, among_any, among_front, among_filter}
 use Rattle.journal_model.proofs.FlightKeys.{key_of, flight_key}
+use Rattle.journal_model.proofs.Either.{neither}
 
 -- ---- who stands
 
@@ -41,10 +42,6 @@ none_added _ h = refl
 each_so : {X : Type 0} (P : X → Type 0) → ((x : X) → P x) → (xs : List X) → AllByRecursion P xs
 each_so P h [] = tt
 each_so P h (x ∷ xs) = (h x, each_so P h xs)
-
-neither : (a b : Bool) → (a || b) ≡ false → (a ≡ false) × (b ≡ false)
-neither true b h = absurd (false≢true (sym h))
-neither false b h = (refl, h)
 
 -- where none is added or removed, the same stand
 pub observers_same : (place moment word : ℕ) (notes : List Note) (before : List Event) → list_any is_turning notes ≡ false → observers (noted place moment word notes before) ≡ observers before

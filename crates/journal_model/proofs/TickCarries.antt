@@ -23,6 +23,7 @@ use Rattle.journal_model.proofs.BodyAnswers.{Bears, bears_carries}
 use Rattle.journal_model.proofs.Among.{Among, all_among, among_all, find_only}
 use Rattle.journal_model.proofs.Asking.{OfWatched, observers_all}
 use Rattle.journal_model.proofs.AgainFacts.{behind_again, again_none}
+use Rattle.journal_model.proofs.Either.{neither}
 
 -- whatever listing a datagram of a row is read to have was formed as the headline says
 abbrev pub Carried : Placed → Peer × List ℕ → Type 0
@@ -34,10 +35,6 @@ Carried here d = (m : Message) → reading d.1 ≡ Ok m → has_listing m ≡ tr
 abbrev pub is_used : Note → Bool
 is_used (note.Used peer key) = true
 is_used _ = false
-
-neither : (a b : Bool) → (a || b) ≡ false → (a ≡ false) × (b ≡ false)
-neither true b h = absurd (false≢true (sym h))
-neither false b h = (refl, h)
 
 -- where the notice is noted to be sent again, it is the one that was formed last
 pub noted_again : (peer : Peer) (mid : ℕ) (notes : List Note) (here : Placed) → list_any is_used notes ≡ false → list_any (is_again_of peer mid) notes ≡ true

@@ -1,8 +1,7 @@
 -- Behind a row of a tick, the notices in flight are known.
-use Rattle.std.proofs.Common.{◌≡◌, ℕ, ◌||◌, ◌==◌, Bool, true, false, List, [], ◌∷◌, length, Option, Some, None, refl, sym, ap, subst, ◌∙◌, arith}
+use Rattle.std.proofs.Common.{◌≡◌, ℕ, true, false, List, [], ◌∷◌, length, Option, Some, None, refl, sym, ap, subst, ◌∙◌, arith}
 use Rattle.std.specs.Prelude.{is_some}
 use Rattle.std.specs.List.{list_any, AllByRecursion}
-use Rattle.std.proofs.lemmas.Bool.{false≢true}
 use Rattle.std.proofs.lemmas.List.Folds.{list_any-append}
 use Rattle.std.proofs.lemmas.Option.{same_Some}
 use Rattle.rd_base.specs.declared.peers.Peer.{Peer}
@@ -28,17 +27,7 @@ use Rattle.journal_model.proofs.TickNotices.{is_notice_to, IsNoticeOf, Stat, as_
 use Rattle.journal_model.proofs.KnownFlights.{NoticeOf, FlightKnown, FlightsKnown, notice_of_row}
 use Rattle.journal_model.proofs.TickCarries.{stood}
 use Rattle.journal_model.proofs.TickRows.{TickRow, requests_none, plain_bodies, as_row}
-
-eqb-refl : (n : ℕ) → (n == n) ≡ true
-eqb-refl n = grind arith
-
-or_left : (a b : Bool) → a ≡ true → (a || b) ≡ true
-or_left true b h = refl
-or_left false b h = absurd (false≢true h)
-
-neither : (a b : Bool) → (a || b) ≡ false → (a ≡ false) × (b ≡ false)
-neither true b h = absurd (false≢true (sym h))
-neither false b h = (refl, h)
+use Rattle.journal_model.proofs.Either.{neither, or_left, eqb-refl}
 
 -- where no notice goes to a peer, none goes to it with a Message ID
 none_with : (peer : Peer) (mid : ℕ) (notes : List Note) → list_any (is_notice_to peer) notes ≡ false → list_any (forms_notice peer mid) notes ≡ false

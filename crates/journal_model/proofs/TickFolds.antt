@@ -23,16 +23,12 @@ use Rattle.journal_model.specs.Bodies.{is_long}
 use Rattle.journal_model.specs.Ticks.{max_notices, first_block, block_told, listing_for, is_given, is_looked_at, events_with, ticking, noticed_unless, noticed_if, notice_next, notices_again, notices}
 use Rattle.journal_model.proofs.BodyAnswers.{tag-length, body_bears}
 use Rattle.journal_model.proofs.TickSends.{sent_by_found}
-use Rattle.journal_model.proofs.Among.{Among, all_among, among_all}
+use Rattle.journal_model.proofs.Among.{Among, all_among, among_all, each_weak}
 use Rattle.journal_model.proofs.FlightKeys.{is_landing}
 use Rattle.journal_model.proofs.Standing.{is_turning, Waits, waited}
 use Rattle.journal_model.proofs.AgainFacts.{AgainSent, AgainNoted, again_notes, again_sends, again_none, behind_again, again_key, again_waits}
 use Rattle.journal_model.proofs.TickNotices.{is_notice_to, as_before, TickSoFar, so_far_quiet}
 use Rattle.journal_model.proofs.FreshNotices.{NewNotice, so_far_noticed}
-
-each_weak : {P Q : Peer × List ℕ → Type 0} → ((d : Peer × List ℕ) → P d → Q d) → (ds : List (Peer × List ℕ)) → AllByRecursion P ds → AllByRecursion Q ds
-each_weak h [] all = tt
-each_weak h (d ∷ ds) all = (h d all.0, each_weak h ds all.1)
 
 -- the peer of what is sent again
 pub again_peer : (rows : List Row) (moment : ℕ) (d : Peer × List ℕ) → (a : AgainSent rows moment d) → d.0 ≡ a.observer.peer

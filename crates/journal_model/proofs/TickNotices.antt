@@ -1,8 +1,7 @@
 -- What a tick forms: at most one notice for a peer, and none while one is in flight to it.
-use Rattle.std.proofs.Common.{◌≡◌, ◌⊎◌, ℕ, ◌||◌, ◌&&◌, Bool, true, false, List, [], ◌∷◌, ◌++◌, length, Some, Ok, refl, sym, ap, subst, ◌∙◌, append-nil}
+use Rattle.std.proofs.Common.{◌≡◌, ◌⊎◌, ℕ, ◌&&◌, Bool, true, false, List, [], ◌∷◌, ◌++◌, length, Some, Ok, refl, sym, ap, subst, ◌∙◌, append-nil}
 use Rattle.std.specs.Prelude.{is_some}
 use Rattle.std.specs.List.{list_any, AllByRecursion}
-use Rattle.std.proofs.lemmas.Bool.{false≢true}
 use Rattle.std.proofs.lemmas.List.Folds.{list_any-append}
 use Rattle.rd_base.specs.declared.peers.Peer.{Peer}
 use Rattle.message_model.specs.Message.{Message}
@@ -28,6 +27,7 @@ use Rattle.journal_model.proofs.Among.{Among}
 use Rattle.journal_model.proofs.FlightKeys.{flight_key, is_landing, key_same_all}
 use Rattle.journal_model.proofs.Standing.{is_turning, observers_same, Waits, flies_key}
 use Rattle.journal_model.proofs.AgainFacts.{AgainSent, AgainNoted, behind_again}
+use Rattle.journal_model.proofs.Either.{or_left}
 
 -- the note forms a notice to a peer
 abbrev pub is_notice_to : Peer → Note → Bool
@@ -64,14 +64,6 @@ pub record TickSoFar (rows : List Row) (moment word : ℕ) (done : Effects) : Ty
   pub keeps : (test : Note → Bool) → list_any test (notices_again rows moment).notes ≡ true → list_any test done.notes ≡ true
 
 -- ---- notes that do nothing
-
-or_left : (a b : Bool) → a ≡ true → (a || b) ≡ true
-or_left true b h = refl
-or_left false b h = absurd (false≢true h)
-
-or_right : (a b : Bool) → b ≡ true → (a || b) ≡ true
-or_right true b h = refl
-or_right false b h = h
 
 -- where nothing is sent, and what is noted does nothing for flights and observers
 pub so_far_quiet : (rows : List Row) (moment word : ℕ) (done : Effects) (more : List Note) (drew : ℕ) → ((o : Observer) → list_any (is_forming_for (name_of o)) more ≡ false) → list_any is_landing more ≡ false

@@ -1,5 +1,5 @@
 -- A row of a tick: what it sends was formed as the headline says, and the notices in flight behind it are known.
-use Rattle.std.proofs.Common.{◌≡◌, ◌⊎◌, inl, inr, ℕ, ◌||◌, ◌&&◌, ◌==◌, Bool, true, false, List, [], ◌∷◌, ◌++◌, Some, option_map, refl, sym, ap, subst, ◌∙◌}
+use Rattle.std.proofs.Common.{◌≡◌, ◌⊎◌, inl, inr, ℕ, ◌&&◌, ◌==◌, Bool, true, false, List, [], ◌∷◌, ◌++◌, Some, option_map, refl, sym, ap, subst, ◌∙◌}
 use Rattle.std.specs.List.{list_any, AllByRecursion}
 use Rattle.std.proofs.lemmas.Bool.{false≢true}
 use Rattle.std.proofs.lemmas.List.Folds.{list_any-append}
@@ -30,6 +30,7 @@ use Rattle.journal_model.proofs.TickNotices.{IsNoticeOf, FreshSent, TickSoFar}
 use Rattle.journal_model.proofs.TickFolds.{again_peer}
 use Rattle.journal_model.proofs.KnownFlights.{NoticeOf, FlightKnown, FlightsKnown}
 use Rattle.journal_model.proofs.TickCarries.{Carried, is_used, noted_again, noted_here, stood_before, observer_formed}
+use Rattle.journal_model.proofs.Either.{or_left}
 
 -- a row of a tick: notices, and then requests of fetches that are sent again
 pub record TickRow (rows : List Row) (r : Row) : Type 0 where
@@ -44,10 +45,6 @@ pub record TickRow (rows : List Row) (r : Row) : Type 0 where
   pub untold : entries (r ∷ rows) ≡ entries rows
   pub unused : list_any is_used r.notes ≡ false
   pub known : FlightsKnown rows
-
-or_left : (a b : Bool) → a ≡ true → (a || b) ≡ true
-or_left true b h = refl
-or_left false b h = absurd (false≢true h)
 
 -- requests do nothing for observers
 pub requests_none : (test : Note → Bool) → ((peer : Peer) → test (note.Resent peer) ≡ false) → ((peer : Peer) → test (note.Ceased peer) ≡ false) → (notes : List Note) → are of_resent notes ≡ true → list_any test notes ≡ false

@@ -1,5 +1,5 @@
 -- What a tick keeps is the listing of an observer's query under its key; and what other rows form for observers is no notice.
-use Rattle.std.proofs.Common.{◌≡◌, ℕ, ◌||◌, Bool, true, false, cond, List, [], ◌∷◌, fold, None, refl, sym, subst, ◌∙◌}
+use Rattle.std.proofs.Common.{◌≡◌, ℕ, Bool, true, false, cond, List, [], ◌∷◌, fold, None, refl, sym, subst, ◌∙◌}
 use Rattle.std.specs.List.{list_any, AllByRecursion}
 use Rattle.std.proofs.lemmas.Bool.{false≢true, and_parts}
 use Rattle.std.proofs.lemmas.List.Folds.{list_any-append}
@@ -25,6 +25,7 @@ use Rattle.journal_model.proofs.PlainSteps.{each_append}
 use Rattle.journal_model.proofs.Asking.{IsAsking, NoteTold, AreTold, OfWatched}
 use Rattle.journal_model.proofs.FlightKeys.{is_notice}
 use Rattle.journal_model.proofs.AgainFacts.{behind_again}
+use Rattle.journal_model.proofs.Either.{neither, or_right}
 
 -- notes of a kind that keeps nothing and adds nobody
 kind_told : (kind : Note → Bool) → ((n : Note) → kind n ≡ true → (rows : List Row) (moment : ℕ) → NoteTold (entries rows) moment n) → (rows : List Row) (moment : ℕ) (notes : List Note) → are kind notes ≡ true → AreTold rows moment notes
@@ -80,14 +81,6 @@ tick_told_so false rows moment s asking =
 
 -- ---- other rows
 
-or_right : (a b : Bool) → b ≡ true → (a || b) ≡ true
-or_right true b h = refl
-or_right false b h = h
-
-neither : (a b : Bool) → (a || b) ≡ false → (a ≡ false) × (b ≡ false)
-neither true b h = absurd (false≢true (sym h))
-neither false b h = (refl, h)
-
 -- notes that do nothing for observers
 observing_none : (P : Observer → Type 0) (notes : List Note) → list_any is_observing notes ≡ false → (list_any is_notice notes ≡ false) × AllByRecursion (OfWatched P) notes
 observing_none P [] none = (refl, tt)
@@ -113,9 +106,11 @@ shows_first rows moment notes (quiet h) =
     record { none = it.0; added = it.1 }
 shows_first rows moment notes (adds o front back body is before after listed silent) = subst FormsFirst (sym is) (record {
   none = list_any-append is_notice front (note.Watched o ∷ note.Formed o.peer o.token body None ∷ back) ∙ rw (first.0, last.0) refl;
-  added = each_append (OfWatched P) front (note.Watched o ∷ note.Formed o.peer o.token body None ∷ back) first.1
-      (list_any-append (is_forming_for (name_of o)) front (note.Watched o ∷ note.Formed o.peer o.token body None ∷ back)
-      ∙ or_right (list_any (is_forming_for (name_of o)) front) _ (rw (is_same_request-refl (name_of o)) refl), (tt, last.1));
+  added = each_append (OfWatched P) front (note.Watched o ∷ note.Formed o.peer o.token body None ∷ back) first.1 (
+    list_any-append (is_forming_for (name_of o)) front (note.Watched o ∷ note.Formed o.peer o.token body None ∷ back)
+        ∙ or_right (list_any (is_forming_for (name_of o)) front) _ (rw (is_same_request-refl (name_of o)) refl),
+    (tt, last.1),
+  );
 })
   where
     P : Observer → Type 0

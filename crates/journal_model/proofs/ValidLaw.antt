@@ -29,9 +29,10 @@ use Rattle.journal_model.proofs.JournalLaws.{Made, each_row}
 use Rattle.journal_model.proofs.Jobs.{heard_by_hearing, heard_no_look, heard_a_look}
 use Rattle.journal_model.proofs.PlainSteps.{IsPlain, ArePlain, SettledPlain}
 use Rattle.journal_model.proofs.ValidSends.{NoneValid, AreCalm, look_valid, looks_either}
-use Rattle.journal_model.proofs.EventRows.{AllRows, each_in, RowOf, row_of, row_within, said_by}
+use Rattle.journal_model.proofs.EventRows.{AllRows, RowOf, row_of, row_within, said_by}
 use Rattle.journal_model.proofs.TickSends.{AskedPlain}
 use Rattle.journal_model.proofs.RowSends.{NoteFact, Before, StepSends, effects_send}
+use Rattle.journal_model.proofs.Among.{all_among}
 
 -- ---- all rows of a journal
 
@@ -54,7 +55,7 @@ unfolding settled
 before_all rows all = record { settled = settled_plain; asked = asked_plain; calm = λ place r at. calm_in rows place r all at }
   where
     fact : (test : Note → Bool) (e : Event) → (it : RowOf test rows e) → NoteFact it.placed.row.sent e.note
-    fact test e it = each_in (NoteFact it.placed.row.sent) e.note it.placed.row.notes (row_within RowSends rows it.placed.before it.placed.row all it.within).facts it.note
+    fact test e it = all_among (NoteFact it.placed.row.sent) e.note it.placed.row.notes (row_within RowSends rows it.placed.before it.placed.row all it.within).facts it.note
 
     settles : (place : ℕ) (octets : List ℕ) (sent : List (Peer × List ℕ)) (n : Note) → NoteFact sent n → answer_noted place n ≡ Some octets → IsPlain octets
     settles place octets sent (note.Settled p reply) h said = by (p == place) said
