@@ -1,7 +1,6 @@
 -- The elements of a list.
 use Rattle.std.proofs.Common.{◌≡◌, ◌⊎◌, inl, inr, ◌||◌, Bool, true, false, cond, List, [], ◌∷◌, ◌++◌, filter, find, Some, refl, sym, ap, subst}
 use Rattle.std.specs.List.{list_any, AllByRecursion}
-use Rattle.std.proofs.lemmas.Bool.{false≢true}
 
 -- what follows for each
 pub each_weak : {X : Type 0} → {P Q : X → Type 0} → ((x : X) → P x → Q x) → (xs : List X) → AllByRecursion P xs → AllByRecursion Q xs
@@ -33,14 +32,6 @@ any_among test x (y ∷ ys) (inr further) good = by (test y) (any_among test x y
     by : (b : Bool) → list_any test ys ≡ true → (b || list_any test ys) ≡ true
     by true h = refl
     by false h = h
-
-pub among_any : {X : Type 0} (test : X → Bool) (xs : List X) → list_any test xs ≡ true → (x : X) × Among x xs × (test x ≡ true)
-among_any test [] h = absurd (false≢true h)
-among_any {X} test (y ∷ ys) h = by (test y) refl h (λ g. among_any test ys g)
-  where
-    by : (b : Bool) → test y ≡ b → (b || list_any test ys) ≡ true → (list_any test ys ≡ true → (x : X) × Among x ys × (test x ≡ true)) → (x : X) × Among x (y ∷ ys) × (test x ≡ true)
-    by true good g more = (y, inl refl, good)
-    by false bad g more = let it = more g in (it.0, inr it.1, it.2)
 
 -- in lists one after the other
 pub among_front : {X : Type 0} (x : X) (xs ys : List X) → Among x xs → Among x (xs ++ ys)

@@ -132,9 +132,6 @@ row_step rows s starved journal may all = by s.kind refl
     past : Before rows
     past = before_all rows (journal_sends rows journal)
 
-    r : Row
-    r = row rows s starved
-
     sent_of : (k : StepKind) → s.kind ≡ k → (row rows s starved).sent ≡ (effects k starved rows (moment_of rows s) s).sent
     sent_of k is = ap (λ x. (effects x starved rows (moment_of rows s) s).sent) is
 

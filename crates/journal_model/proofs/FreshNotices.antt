@@ -69,9 +69,6 @@ so_far_noticed rows moment word done new drew it = record {
   keeps = λ test h. list_any-append test done.notes (notes_of new) ∙ or_left (list_any test done.notes) (list_any test (notes_of new)) (it.keeps test h);
 }
   where
-    x : Observer
-    x = new.observer
-
     Before : List Event
     Before = noted (length rows) moment word done.notes (events rows)
 

@@ -39,9 +39,6 @@ pub look_lists : (history : List Entry) (moment : ℕ) (s : Step) (m : Message) 
 unfolding look_effects answering spelling header_spelling
 look_lists history moment s m small = by (is_discovery (path_in m))
   where
-    body : List ℕ
-    body = listing (query_of m) history moment
-
     held : (b : Bool) → AreListings m history moment (unless_held b s m (tag history moment) (listing (query_of m) history moment)).sent
     held true = tt
     held false = (body_bears (answer_kind m.kind) (answer_mid s m m.kind) m.token (tag history moment) None (asked_block m) (listing (query_of m) history moment) small (tag-length history moment), tt)
@@ -75,9 +72,6 @@ pub lookup_gives : (rows : List Row) (moment : ℕ) (s : Step) (m : Message) →
 unfolding lookup_effects later_block observed unobserved answering
 lookup_gives rows moment s m small = by (is_later_block m)
   where
-    body : List ℕ
-    body = listing (query_of m) (entries rows) moment
-
     now_block : (part : Option (List ℕ × Bool)) → block_of (listing (query_of m) (entries rows) moment) (number_of (asked_block m)) (szx_of (asked_block m)) ≡ part
         → LookupGives rows moment s m (block_now s m (listing_now rows moment m) part)
     now_block None cut = now refl

@@ -2,7 +2,7 @@
 use Rattle.std.proofs.Common.{◌≡◌, ℕ, ◌&&◌, Bool, true, false, not, List, [], ◌∷◌, ◌++◌, length, filter, Option, Some, None, option_map, refl, sym, ap, subst, ◌∙◌, append-nil, nat_le}
 use Rattle.std.specs.Prelude.{is_some}
 use Rattle.std.specs.List.{list_any, AllByRecursion}
-use Rattle.std.proofs.lemmas.Bool.{false≢true, and_parts, and_from}
+use Rattle.std.proofs.lemmas.Bool.{false≢true, and_from}
 use Rattle.std.proofs.lemmas.List.Folds.{list_any-append}
 use Rattle.rd_base.specs.declared.peers.Peer.{Peer}
 use Rattle.history_model.proofs.Lists.{filter_all}
@@ -18,7 +18,7 @@ use Rattle.event_model.proofs.ObserverLaws.{Only}
 use Rattle.journal_model.specs.declared.rows.Row.{Row}
 use Rattle.journal_model.specs.Journal.{events, row_at}
 use Rattle.journal_model.specs.Ticks.{sent_by, sent_again, each_of, notice_again, flight_again, notices_again}
-use Rattle.journal_model.proofs.Among.{Among, any_among, among_any, among_front, among_filter}
+use Rattle.journal_model.proofs.Among.{Among, any_among, among_front, among_filter}
 use Rattle.journal_model.proofs.FlightKeys.{key_of, flight_key}
 use Rattle.journal_model.proofs.Either.{neither}
 
@@ -77,13 +77,6 @@ pub record Waits (peer : Peer) (past : List Event) : Type 0 where
 pub waited : (peer : Peer) (past : List Event) → Waits peer past → is_waited_for peer past ≡ true
 unfolding is_waited_for
 waited peer past w = any_among (λ o. is_same_peer o.peer peer && is_some (flight o past)) w.observer (observers past) w.stands (and_from (is_same_peer w.observer.peer peer) (is_some (flight w.observer past)) w.of_peer w.flies)
-
-pub waits : (peer : Peer) (past : List Event) → is_waited_for peer past ≡ true → Waits peer past
-unfolding is_waited_for
-waits peer past h =
-    let it = among_any (λ o. is_same_peer o.peer peer && is_some (flight o past)) (observers past) h in
-    let both = and_parts (is_same_peer it.0.peer peer) (is_some (flight it.0 past)) it.2 in
-    record { observer = it.0; stands = it.1; of_peer = both.0; flies = both.1 }
 
 -- a flight, and its key
 pub flies_key : (o : Observer) (past : List Event) → is_some (flight o past) ≡ is_some (flight_key o past)

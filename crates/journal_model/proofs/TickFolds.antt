@@ -68,9 +68,6 @@ tick_step : (rows : List Row) (moment : ℕ) (s : Step) (x : Observer) (done : E
     → TickSoFar rows moment s.word done → TickSoFar rows moment s.word (notice_next (ticking rows moment s) done x)
 tick_step rows moment s x done stands small it = looked (is_looked_at (ticking rows moment s) done x) refl
   where
-    body : List ℕ
-    body = listing x.query (entries rows) moment
-
     not_waited : is_looked_at (ticking rows moment s) done x ≡ true → Waits x.peer (events_with (ticking rows moment s) done) → ⊥
     not_waited e w =
         let both = and_parts (not (nat_le max_notices done.drew) && is_due x (events_with (ticking rows moment s) done) (ticking rows moment s).turns) (not (is_waited_for x.peer (events_with (ticking rows moment s) done))) e in
