@@ -57,6 +57,7 @@ pub record AgainOf (rows : List Row) (moment : ℕ) (peer : Peer) : Type 0 where
   pub again : IsAgain rows moment observer flight_is
   pub of_peer : observer.peer ≡ peer
 
+-- so it is of each such note
 abbrev pub AgainNoted : List Row → ℕ → Note → Type 0
 AgainNoted rows moment (note.Again peer mid) = AgainOf rows moment peer
 AgainNoted rows moment _ = Unit {0}

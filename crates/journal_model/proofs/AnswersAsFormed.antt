@@ -116,6 +116,7 @@ tick_of rows r starved past all tick sent notes = by starved sent notes
     by true s n = with_parts (notices_again rows r.moment.0) (tick_begins rows r.moment.0 r.step.word) s n
     by false s n = with_parts (notices (ticking rows r.moment.0 r.step) (notices_again rows r.moment.0)) (tick_notifies rows r.moment.0 r.step small) s n
 
+-- what is known is known with a row of a tick
 tick_step : (rows : List Row) (r : Row) (starved : Bool) → Before rows → CarriesAll rows → r.step.kind ≡ step.Tick → r.sent ≡ (tick_effects starved rows r.moment.0 r.step).sent
     → r.notes ≡ (tick_effects starved rows r.moment.0 r.step).notes → CarriesAll (r ∷ rows)
 tick_step rows r starved past all tick sent notes =

@@ -50,6 +50,7 @@ lookup_fits path.Res e = tt
 lookup_fits path.Ep e = tt
 lookup_fits path.Other e = tt
 
+-- so has whatever is looked at
 pub look_fits : (m : Message) → only_looks m ≡ true → FitsKey (path_in m)
 look_fits m h = by (path_in m) h
   where
@@ -88,11 +89,13 @@ NoteTold history moment (note.Kept peer key body current) = KeptAt history momen
 NoteTold history moment (note.Watched o) = IsAsking o
 NoteTold history moment _ = Unit {0}
 
+-- all notes of a row
 abbrev pub AreTold : List Row → ℕ → List Note → Type 0
 AreTold rows moment notes = AllByRecursion (NoteTold (entries rows) moment) notes
 
 -- ---- lookups
 
+-- so it is of the notes of a lookup
 pub lookup_told_so : (rows : List Row) (moment : ℕ) (s : Step) (m : Message) → is_lookup (path_in m) ≡ true → length m.token ≤ longest_token → AreTold rows moment (lookup_effects rows moment s m).notes
 unfolding lookup_effects later_block observed unobserved answering
 lookup_told_so rows moment s m lookup small = by (is_later_block m)

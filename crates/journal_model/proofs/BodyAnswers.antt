@@ -43,6 +43,7 @@ uint_bytes-length n = by (eqb n 0) (ltb n 256) (ltb n 65536)
     by false false true = omega arith
     by false false false = omega arith
 
+-- and so is a block
 block_value-length : (b : Block) → length (block_value b) ≤ 3
 unfolding block_value
 block_value-length b = uint_bytes-length _
@@ -76,6 +77,7 @@ options_in_order tag observe block short = by tag observe block short
 abbrev NoneOf : ℕ → List Opt → Type 0
 NoneOf number options = AllByRecursion (λ (o : Opt). (o.0 == number) ≡ false) options
 
+-- nor has one where it stands
 placed_none : (number : ℕ) (options : List Opt) → NoneOf number options → AllByRecursion (λ (p : Placed). (p.1.0 == number) ≡ false) (placed_options options)
 unfolding placed_options
 placed_none number [] none = tt
@@ -92,6 +94,7 @@ none_picked number (p ∷ places) none = by (is_recognized_there p) (none_picked
     by true rest = rw none.0 rest
     by false rest = rest
 
+-- so there is no value of the number
 values_none : (number : ℕ) (options : List Opt) → NoneOf number options → values number options ≡ []
 unfolding values recognized_options
 values_none number options none = none_picked number (placed_options options) (placed_none number options none)
@@ -117,6 +120,7 @@ others_none (Some n) (Some b) = (refl, (refl, (refl, tt)))
 abbrev part_of : Option (List ℕ) → Option ℕ → Option Block → List ℕ × Bool → Reply
 part_of tag observe asked part = part_reply tag observe asked (Some part)
 
+-- an answer with a part of a body is read as it was written
 part_again : (kind : Kind4) (mid : ℕ) (token : List ℕ) (tag : Option (List ℕ)) (observe : Option ℕ) (asked : Option Block) (part : List ℕ × Bool) → length token ≤ longest_token → IsShortTag tag
     → reading (spelling (with_reply kind mid token (part_of tag observe asked part))) ≡ Ok (with_reply kind mid token (part_of tag observe asked part))
 part_again kind mid token tag observe asked part small short =
@@ -128,6 +132,7 @@ tagged : (kind : Kind4) (mid : ℕ) (token tag : List ℕ) (observe : Option ℕ
     → etags_in (with_reply kind mid token (part_of (Some tag) observe asked part)) ≡ tag ∷ []
 tagged kind mid token tag observe asked part short = values_tag tag _ short (others_none observe (told_block asked part.1))
 
+-- it has none where it was given none
 untagged : (kind : Kind4) (mid : ℕ) (token : List ℕ) (observe : Option ℕ) (asked : Option Block) (part : List ℕ × Bool)
     → etags_in (with_reply kind mid token (part_of None observe asked part)) ≡ []
 untagged kind mid token observe asked part = values_none table.etag _ (others_none observe (told_block asked part.1))
@@ -178,6 +183,7 @@ part_bears kind mid token tag observe asked body number szx (Some part) small sh
     subst (λ (n : Message). Bears token body tag n) same
     (record { token_is = refl; number = number; szx = szx; more = part.1; block = cut; tagged = tagged kind mid token tag observe asked part short })
 
+-- so does an answer with the block that is asked for
 pub body_bears : (kind : Kind4) (mid : ℕ) (token tag : List ℕ) (observe : Option ℕ) (asked : Option Block) (body : List ℕ) → length token ≤ longest_token → length tag ≡ 8
     → IsBodyOf token body tag (spelling (with_reply kind mid token (body_reply (Some tag) observe asked body)))
 unfolding body_reply

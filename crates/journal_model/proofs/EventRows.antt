@@ -55,6 +55,7 @@ pub record RowOf (test : Note → Bool) (rows : List Row) (e : Event) : Type 0 w
   pub kind : test e.note ≡ true
   pub last : last_row (λ r. list_any test r.notes) rows ≡ Some placed
 
+-- so it is of each last event of a kind
 pub row_of : (test : Note → Bool) (rows : List Row) (e : Event) → last_event test (events rows) ≡ Some e → RowOf test rows e
 unfolding events row_at last_row
 row_of test [] e found = absurd (let no : None ≡ Some e = found in cc)

@@ -18,6 +18,7 @@ use Rattle.journal_model.proofs.Either.{neither}
 abbrev pub key_of : Flight → ℕ × ℕ
 key_of f = (f.mid, f.formed.place)
 
+-- that of the notice in flight to an observer, where there is one
 abbrev pub flight_key : Observer → List Event → Option (ℕ × ℕ)
 flight_key o events = option_map key_of (flight o events)
 
@@ -52,6 +53,7 @@ abbrev pub is_landing : Note → Bool
 is_landing (note.Landed peer mid) = true
 is_landing _ = false
 
+-- else it acknowledges none of them
 not_landing : (peer : Peer) (mid : ℕ) (n : Note) → is_landing n ≡ false → is_landing_of peer mid n ≡ false
 not_landing peer mid (note.Landed p m) h = absurd (false≢true (sym h))
 not_landing peer mid _ h = refl

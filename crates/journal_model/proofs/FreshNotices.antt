@@ -49,6 +49,7 @@ pub record NewNotice (rows : List Row) (moment word : ℕ) (done : Effects) : Ty
 abbrev pub notes_of : {rows : List Row} → {moment word : ℕ} → {done : Effects} → NewNotice rows moment word done → List Note
 notes_of new = note.Formed new.observer.peer new.observer.token new.body (Some new.mid) ∷ new.kept
 
+-- what a tick did so far, with it
 abbrev pub with_notice : {rows : List Row} → {moment word : ℕ} → {done : Effects} → NewNotice rows moment word done → ℕ → Effects
 with_notice {done = done} new drew = record {
   sent = done.sent ++ (new.observer.peer, new.octets) ∷ [];
@@ -56,6 +57,7 @@ with_notice {done = done} new drew = record {
   drew = drew;
 }
 
+-- all that is known so far is known with it
 pub so_far_noticed : (rows : List Row) (moment word : ℕ) (done : Effects) (new : NewNotice rows moment word done) (drew : ℕ) → TickSoFar rows moment word done → TickSoFar rows moment word (with_notice new drew)
 so_far_noticed rows moment word done new drew it = record {
   stand = ap observers split ∙ (observers_same (length rows) moment word (notes_of new) Before turning ∙ it.stand);

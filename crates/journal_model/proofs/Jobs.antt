@@ -30,12 +30,14 @@ pub record Keeping (r : Row) (before : List Row) (job : Job) : Type 0 where
   pub kind : job.kind ≡ keep_kind (reading r.step.datagram) before r.moment.0
   pub datagram : job.datagram ≡ r.step.datagram
 
+-- so it is of the job that a look leaves
 keep_keeps : (sent : List (Peer × List ℕ)) (r : Row) (before : List Row) (job : Job) → keep_job sent r before ≡ Some job → Keeping r before job
 keep_keeps [] r before job e =
     let same : record { kind = keep_kind (reading r.step.datagram) before r.moment.0; peer = r.step.peer; datagram = r.step.datagram } ≡ job = cc in
     subst (λ (j : Job). Keeping r before j) same (record { kind = refl; datagram = refl })
 keep_keeps (d ∷ sent) r before job e = absurd (let h : None ≡ Some job = e in cc)
 
+-- it is of no datagram that is yet to be heard
 keep_not_heard : (read : Result Message Unread) (before : List Row) (moment : ℕ) → is_heard (keep_kind read before moment) ≡ false
 keep_not_heard (Err fault) before moment = refl
 keep_not_heard (Ok m) before moment = refl
@@ -63,6 +65,7 @@ heard_by_hearing rows s (hears none heard) e = heard
 heard_by_hearing rows s (goes holds) e = absurd (false≢true (sym (job_not_heard s.worker rows (record { kind = s.kind; peer = s.peer; datagram = s.datagram }) holds) ∙ e))
 heard_by_hearing rows s (ticks tick) e = absurd (false≢true (sym (ap is_heard tick) ∙ e))
 
+-- one that is admitted is no look
 pub heard_no_look : (datagram : List ℕ) → step.Admit ≡ hearing datagram → is_look_datagram datagram ≡ false
 heard_no_look datagram e = by (is_look_datagram datagram) e
   where
@@ -70,6 +73,7 @@ heard_no_look datagram e = by (is_look_datagram datagram) e
     by true h = absurd (let no : step.Admit ≡ step.Look = h in cc)
     by false h = refl
 
+-- and one that is looked at is one
 pub heard_a_look : (datagram : List ℕ) → step.Look ≡ hearing datagram → is_look_datagram datagram ≡ true
 heard_a_look datagram e = by (is_look_datagram datagram) e
   where
@@ -87,6 +91,7 @@ pub record KeepsOf (rows : List Row) (worker : ℕ) (job : Job) : Type 0 where
   pub is_one : look.row.step.kind ≡ step.Look
   pub keeps : Keeping look.row look.before job
 
+-- so it is of each job to keep a body
 pub keeps_of : (worker : ℕ) (rows : List Row) (job : Job) (body tag : List ℕ) → job_of worker rows ≡ Some job → job.kind ≡ step.Keep body tag → KeepsOf rows worker job
 unfolding job_of last_row
 keeps_of worker [] job body tag e keep = absurd (let h : None ≡ Some job = e in cc)

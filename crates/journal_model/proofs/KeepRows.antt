@@ -52,6 +52,7 @@ look_only : (m : Message) → is_look_request m ≡ true → only_looks m ≡ tr
 unfolding is_look_request
 look_only m h = (and_parts (is_none (refusal_by_request m)) (only_looks m) h).1
 
+-- one message is read of a datagram
 ok_is : (m n : Message) → ◌≡◌ {A = Result Message Unread} (Ok m) (Ok n) → m ≡ n
 ok_is m n e = cc
 
@@ -67,6 +68,7 @@ record LookRow (before : List Row) (r : Row) : Type 0 where
   silent : r.notes ≡ []
   looks : is_look_reading (reading r.step.datagram) ≡ true
 
+-- so it is of each row of a look
 row_of_look : (before : List Row) (r : Row) → Made before r → r.step.kind ≡ step.Look → LookRow before r
 unfolding row effects
 row_of_look before r it is =
@@ -86,6 +88,7 @@ keep_job_of rows s body current (hears none heard) kind = absurd (by (is_look_da
 keep_job_of rows s body current (goes holds) kind = holds
 keep_job_of rows s body current (ticks tick) kind = absurd (let h : step.Tick ≡ step.Keep body current = sym tick ∙ kind in cc)
 
+-- so it is of each keep
 keep_of : (rows : List Row) (s : Step) (m : Message) (body current : List ℕ) → IsJournal rows → MayBegin rows s → s.kind ≡ step.Keep body current → reading s.datagram ≡ Ok m → KeepOf rows s.worker m body current
 keep_of rows s m body current journal may kind read = record {
   look = held.look;
@@ -125,6 +128,7 @@ keep_of rows s m body current journal may kind read = record {
     only = let same : looks_at.message ≡ m = ok_is looks_at.message m (sym looks_at.read_is ∙ same_read) in
         subst (λ x. only_looks x ≡ true) same (look_only looks_at.message looks_at.looks)
 
+-- any row of a keep
 pub keep_row : (rows : List Row) (r : Row) (m : Message) (body current : List ℕ) → IsJournal rows → MayBegin rows r.step → r.step.kind ≡ step.Keep body current → reading r.step.datagram ≡ Ok m
     → r.sent ≡ (keep_effects r.step m body current).sent → r.notes ≡ (keep_effects r.step m body current).notes → RowCarries rows r
 keep_row rows r m body current journal may kind read sent notes = record {

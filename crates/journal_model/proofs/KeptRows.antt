@@ -65,6 +65,7 @@ pub record KeptFrom (rows : List Row) (name : RequestName) (answer : Answer) : T
   pub formed : former_of_kept name rows ≡ Some former
   pub is_kept : KeptAt (entries (former.row ∷ former.before)) former.row.moment.0 name.1 answer.body answer.tag
 
+-- so it is of each kept answer that lives
 pub kept_from : (rows : List Row) (moment : ℕ) (name : RequestName) (answer : Answer) → AllRows RowCarries rows → kept_answer moment name (events rows) ≡ Some answer → KeptFrom rows name answer
 kept_from rows moment name answer all e =
     let found = said_by (answer_kept name) (events rows) answer (was_kept moment name (events rows) answer e) in
@@ -104,6 +105,7 @@ used_carried rows r m answer heard read lookup notes from all = each r.sent all
     each [] h = tt
     each (d ∷ ds) h = (one d h.0, each ds h.1)
 
+-- any row of a lookup
 pub lookup_row : (rows : List Row) (r : Row) (m : Message) → AllRows RowCarries rows → is_heard r.step.kind ≡ true → reading r.step.datagram ≡ Ok m → is_lookup (path_in m) ≡ true
     → r.sent ≡ (lookup_effects rows r.moment.0 r.step m).sent → r.notes ≡ (lookup_effects rows r.moment.0 r.step m).notes → RowCarries rows r
 lookup_row rows r m all heard read lookup sent notes = record {

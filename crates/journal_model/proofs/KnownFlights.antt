@@ -36,6 +36,7 @@ pub record NoticeOf (rows : List Row) (o : Observer) (mid place : ℕ) : Type 0 
 abbrev pub FlightKnown : List Row → Observer → Type 0
 FlightKnown rows o = (mid place : ℕ) → flight_key o (events rows) ≡ Some (mid, place) → NoticeOf rows o mid place
 
+-- and to all that stand
 abbrev pub FlightsKnown : List Row → Type 0
 FlightsKnown rows = AllByRecursion (FlightKnown rows) (observers (events rows))
 
@@ -62,6 +63,7 @@ no_notice_to peer mid (n ∷ notes) none =
     by (note.Formed p token body (Some m)) h = absurd (false≢true (sym h))
     by _ h = refl
 
+-- each of them forms none
 each_no : (notes : List Note) → list_any is_notice notes ≡ false → AllByRecursion (λ n. is_notice n ≡ false) notes
 each_no [] none = tt
 each_no (n ∷ notes) none =

@@ -68,6 +68,7 @@ pub data LookupGives (rows : List Row) (moment : ℕ) (s : Step) (m : Message) (
   kept : (answer : Answer) → kept_answer moment (s.peer, key_in m) (events rows) ≡ Some answer → e.notes ≡ note.Used s.peer (key_in m) ∷ []
       → (length answer.tag ≡ 8 → AreBodiesOf m.token answer.body answer.tag e.sent) → LookupGives rows moment s m e
 
+-- so it is of each lookup that the journal takes part in
 pub lookup_gives : (rows : List Row) (moment : ℕ) (s : Step) (m : Message) → length m.token ≤ longest_token → LookupGives rows moment s m (lookup_effects rows moment s m)
 unfolding lookup_effects later_block observed unobserved answering
 lookup_gives rows moment s m small = by (is_later_block m)

@@ -58,6 +58,7 @@ pub plain_spelled : (m : Message) → IsPlainCode m.code → IsPlain (spelling m
 unfolding spelling header_spelling
 plain_spelled m plain = plain
 
+-- an answer with such a code
 pub plain_answering : (s : Step) (m : Message) (reply : Reply) (notes : List Note) → IsPlainCode reply.code → ArePlain (answering s m reply notes).sent
 unfolding answering
 plain_answering s m reply notes plain = (plain_spelled (answer s m reply) plain, tt)
@@ -74,6 +75,7 @@ abbrev PlainIf : Option Reply → Type 0
 PlainIf None = Unit {0}
 PlainIf (Some reply) = IsPlainCode reply.code
 
+-- the refusal that a request alone decides
 refusal_PlainIf : (m : Message) → PlainIf (refusal_by_request m)
 unfolding refusal_by_request
 refusal_PlainIf m = by (refusal_of m)
@@ -100,6 +102,7 @@ refusal_PlainIf m = by (refusal_of m)
 pub refusal_plain : (m : Message) (reply : Reply) → refusal_by_request m ≡ Some reply → IsPlainCode reply.code
 refusal_plain m reply e = subst PlainIf e (refusal_PlainIf m)
 
+-- and the answer to it
 pub refused_plain : (kind : Kind4) (bad : Option ℕ) (s : Step) (m : Message) (reply : Reply) → IsPlainCode reply.code → ArePlain (refusal_answered kind bad s m reply).sent
 refused_plain Non (Some number) s m reply plain = tt
 refused_plain Non None s m reply plain = plain_answering s m reply [] plain
@@ -107,6 +110,7 @@ refused_plain Con bad s m reply plain = plain_answering s m reply [] plain
 refused_plain Ack bad s m reply plain = plain_answering s m reply [] plain
 refused_plain Rst bad s m reply plain = plain_answering s m reply [] plain
 
+-- 5.00 for want of memory
 pub starved_plain : (s : Step) (m : Message) → ArePlain (without_memory s m).sent
 starved_plain s m = plain_answering s m (bare codes_of.internal_server_error) [] (record { no_content = refl; no_valid = refl })
 
@@ -126,6 +130,7 @@ unread_plain s (unread.Format Rst mid) = tt
 abbrev pub SettledPlain : List Event → Type 0
 SettledPlain events = (place : ℕ) (octets : List ℕ) → settled place events ≡ Some octets → IsPlain octets
 
+-- a write as it is heard: a repeat, one too many, or one that is admitted
 pub write_plain : (events : List Event) (moment : ℕ) (s : Step) (m : Message) → SettledPlain events → ArePlain (write_effects events moment s m).sent
 unfolding write_effects
 write_plain events moment s m before = by (repeated moment s.peer m.mid events)
@@ -158,6 +163,7 @@ change_plain history entry done plain = by (change_refusal 0 history entry)
     by (Some why) = refused why
     by None = plain
 
+-- a registration of a whole body
 registration_plain : (history : List Entry) (moment : ℕ) (s : Step) (params : RegParams) (body : List ℕ) (further : List Opt) (notes : List Note)
     → IsPlainCode (registration history moment s params body further notes).reply.code
 unfolding registration
@@ -169,6 +175,7 @@ registration_plain history moment s params body further notes = by (body_read bo
         let entry : Entry = entry_by moment s (change.Register params links) in
         change_plain history entry (record { reply = created_at (number_behind params.name moment (history ++ entry ∷ [])) further; notes = notes }) (record { no_content = refl; no_valid = refl })
 
+-- a registration, whole or a block of one
 pub registering_plain : (rows : List Row) (moment : ℕ) (s : Step) (m : Message) → IsPlainCode (registering rows moment s m).reply.code
 unfolding registering block_uploaded
 registering_plain rows moment s m = by (sent_block m)

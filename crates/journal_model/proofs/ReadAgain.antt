@@ -60,12 +60,14 @@ pub record IsReadable (m : Message) : Type 0 where
   pub token : length m.token ≤ longest_token
   pub options : AreInOrder 0 m.options
 
+-- a type has two bits
 kind_number-lt : (kind : Kind4) → kind_number kind < 4
 kind_number-lt Con = omega arith
 kind_number-lt Non = omega arith
 kind_number-lt Ack = omega arith
 kind_number-lt Rst = omega arith
 
+-- the header of a message is read again
 header_in_order : (m : Message) (rest : List ℕ) → length m.token ≤ 8 → header_at (header_spelling m ++ rest) ≡ Ok (header_in m, rest)
 unfolding header_at header_spelling
 header_in_order m rest short =
@@ -76,6 +78,7 @@ header_in_order m rest short =
     let mid : m.mid / 256 * 256 + m.mid % 256 ≡ m.mid = omega arith in
     rw (first, kind, size, mid, kind_of-kind_number m.kind) refl
 
+-- and what stands behind it
 body_in_order : (m : Message) → IsReadable m → body_at (header_in m) (body_spelling m) ≡ Some m
 unfolding body_at
 body_in_order m fits =
@@ -99,14 +102,17 @@ pub record HeaderRead (octets : List ℕ) (m : Message) : Type 0 where
   pub mid_is : m.mid ≡ high * 256 + low
   pub token : length m.token ≤ 8
 
+-- a message that was read was no format error
 format_ok : (header : Header) (o : Option Message) (m : Message) → or_format header o ≡ Ok m → o ≡ Some m
 format_ok header None m e = absurd cc
 format_ok header (Some n) m e = cc
 
+-- it was read behind a header
 with_ok : (r : Result (Header × List ℕ) Unread) (m : Message) → with_body r ≡ Ok m → (x : Header × List ℕ) × (r ≡ Ok x) × (body_at x.0 x.1 ≡ Some m)
 with_ok (Ok x) m e = (x, refl, format_ok x.0 (body_at x.0 x.1) m e)
 with_ok (Err fault) m e = absurd cc
 
+-- so many octets were taken
 bytes_length : (n : ℕ) (bytes : List ℕ) (x : List ℕ × List ℕ) → bytes_at n bytes ≡ Some x → length x.0 ≡ n
 bytes_length n bytes x e =
     let p = passed (ltb (length bytes) n) (Some (take n bytes, drop n bytes)) x e in
@@ -119,9 +125,11 @@ record BodyRead (header : Header) (m : Message) : Type 0 where
   mid : m.mid ≡ header.mid
   token : length m.token ≤ 8
 
+-- the second of three faults is none
 good_token : (a b c : Bool) → (a || b || c) ≡ false → b ≡ false
 good_token a b c e = grind arith
 
+-- what was read behind a header has its code, its Message ID, and a token that is short enough
 body_read : (header : Header) (bytes : List ℕ) (m : Message) → body_at header bytes ≡ Some m → BodyRead header m
 unfolding body_at
 body_read header bytes m e =

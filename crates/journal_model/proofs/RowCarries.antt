@@ -61,6 +61,7 @@ keeps_nothing here (n ∷ notes) none =
     by (note.Watched o) h = absurd (false≢true (sym h))
     by _ h = tt
 
+-- so it is of a row of plain messages
 pub plain_row : (rows : List Row) (r : Row) → ArePlain r.sent → list_any is_keeping r.notes ≡ false → RowCarries rows r
 plain_row rows r plain none = record {
   carried = plain_bodies (Carried (record { row = r; before = rows })) (λ d p m e listed. absurd (false≢true (sym (other_code d.1 p.no_content m e) ∙ listed))) r.sent plain;
@@ -69,6 +70,7 @@ plain_row rows r plain none = record {
 
 -- ---- rows of datagrams that are heard
 
+-- the former is told by the notes
 pub heard_former : (k : StepKind) (peer : Peer) (mid : ℕ) (here : Placed) → is_heard k ≡ true → former_at k peer mid here ≡ former_noted peer mid here.row.notes here
 heard_former step.Admit peer mid here h = refl
 heard_former step.Look peer mid here h = refl
@@ -76,6 +78,7 @@ heard_former (step.Commit place) peer mid here h = absurd (false≢true h)
 heard_former (step.Keep body current) peer mid here h = absurd (false≢true h)
 heard_former step.Tick peer mid here h = absurd (false≢true h)
 
+-- the query is that of the request
 pub heard_query : (k : StepKind) (name : RequestName) (here : Placed) → is_heard k ≡ true → query_answered k name here ≡ query_read (reading here.row.step.datagram)
 heard_query step.Admit name here h = refl
 heard_query step.Look name here h = refl
@@ -83,6 +86,7 @@ heard_query (step.Commit place) name here h = absurd (false≢true h)
 heard_query (step.Keep body current) name here h = absurd (false≢true h)
 heard_query step.Tick name here h = absurd (false≢true h)
 
+-- and what is kept is formed by the row itself
 pub heard_by : (k : StepKind) (here : Placed) → is_heard k ≡ true → former_by k here ≡ Some here
 heard_by step.Admit here h = refl
 heard_by step.Look here h = refl

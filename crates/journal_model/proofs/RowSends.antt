@@ -175,9 +175,11 @@ pub record StepSends (kind : StepKind) (sent : List (Peer × List ℕ)) (notes :
   pub others : is_look kind ≡ false → NoneValid sent
   pub facts : AllByRecursion (NoteFact sent) notes
 
+-- where it is no look that sends 2.03
 of_sends : (kind : StepKind) (sent : List (Peer × List ℕ)) (notes : List Note) → Sends sent notes → StepSends kind sent notes
 of_sends kind sent notes h = record { calm = none_calm sent h.none_valid; others = λ _. h.none_valid; facts = h.facts }
 
+-- so it is of any step
 pub effects_send : (kind : StepKind) (starved : Bool) (rows : List Row) (moment : ℕ) (s : Step) → Before rows → (kind ≡ step.Admit → is_look_reading (reading s.datagram) ≡ false)
     → StepSends kind (effects kind starved rows moment s).sent (effects kind starved rows moment s).notes
 unfolding effects answering

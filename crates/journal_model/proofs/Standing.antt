@@ -30,15 +30,18 @@ is_turning (note.Watched o) = true
 is_turning (note.Unwatched peer token) = true
 is_turning _ = false
 
+-- else it ends nobody
 none_ends : (n : Note) → is_turning n ≡ false → (o : Observer) → not (is_end_of n (name_of o)) ≡ true
 none_ends (note.Watched x) h o = absurd (false≢true (sym h))
 none_ends (note.Unwatched peer token) h o = absurd (false≢true (sym h))
 none_ends _ h o = refl
 
+-- and adds nobody
 none_added : (n : Note) → is_turning n ≡ false → watched_by n ≡ []
 none_added (note.Watched x) h = absurd (false≢true (sym h))
 none_added _ h = refl
 
+-- what holds of all holds of each
 each_so : {X : Type 0} (P : X → Type 0) → ((x : X) → P x) → (xs : List X) → AllByRecursion P xs
 each_so P h [] = tt
 each_so P h (x ∷ xs) = (h x, each_so P h xs)
@@ -74,6 +77,7 @@ pub record Waits (peer : Peer) (past : List Event) : Type 0 where
   pub of_peer : is_same_peer observer.peer peer ≡ true
   pub flies : is_some (flight observer past) ≡ true
 
+-- then the peer is waited for
 pub waited : (peer : Peer) (past : List Event) → Waits peer past → is_waited_for peer past ≡ true
 unfolding is_waited_for
 waited peer past w = any_among (λ o. is_same_peer o.peer peer && is_some (flight o past)) w.observer (observers past) w.stands (and_from (is_same_peer w.observer.peer peer) (is_some (flight w.observer past)) w.of_peer w.flies)

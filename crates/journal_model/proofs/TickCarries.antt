@@ -86,6 +86,7 @@ stood rows moment word P all = observers_all P (length rows) moment word (notice
     each [] h = tt
     each (n ∷ notes) h = (one n (neither (is_added n) (list_any is_added notes) h).0, each notes (neither (is_added n) (list_any is_added notes) h).1)
 
+-- so an observer that stands stood before
 pub stood_before : (rows : List Row) (moment word : ℕ) (o : Observer) → Among o (observers (behind_again rows moment word)) → Among o (observers (events rows))
 stood_before rows moment word o stands =
     all_among (λ x. Among x (observers (events rows))) o (observers (behind_again rows moment word))

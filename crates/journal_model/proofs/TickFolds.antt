@@ -59,6 +59,7 @@ kept_does : (test : Note → Bool) → ((peer : Peer) (key body current : List �
 kept_does test never true peer key body current = rw (never peer key body current) refl
 kept_does test never false peer key body current = refl
 
+-- and tells of nothing that is sent again
 kept_again : (rows : List Row) (moment : ℕ) (b : Bool) (peer : Peer) (key body current : List ℕ) → AllByRecursion (AgainNoted rows moment) (cond b (note.Kept peer key body current ∷ []) [])
 kept_again rows moment true peer key body current = (tt, tt)
 kept_again rows moment false peer key body current = tt

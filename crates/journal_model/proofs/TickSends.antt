@@ -40,6 +40,7 @@ pub record FoundSent (P : Peer × List ℕ → Type 0) (peer : Peer) (mid : ℕ)
   pub to_peer : is_same_peer d.0 peer ≡ true
   pub confirmable : is_confirmable_with mid d.1 ≡ true
 
+-- so it is of whatever is found
 pub sent_by_found : (P : Peer × List ℕ → Type 0) (at : Option Row) (peer : Peer) (mid : ℕ) (d : Peer × List ℕ) → ((r : Row) → at ≡ Some r → AllByRecursion P r.sent)
     → sent_by at peer mid ≡ Some d → FoundSent P peer mid d
 sent_by_found P None peer mid d all found = absurd (let no : None ≡ Some d = found in cc)
@@ -56,6 +57,7 @@ confirmable_of mid (a ∷ b ∷ []) h = absurd (false≢true h)
 confirmable_of mid (a ∷ b ∷ c ∷ []) h = absurd (false≢true h)
 confirmable_of mid (a ∷ b ∷ c ∷ d ∷ rest) h = (and_parts (a / 16 == 4) (c * 256 + d == mid) h).0
 
+-- and so is it read
 pub mid_of_confirmable : (mid : ℕ) (octets : List ℕ) (m : Message) → is_confirmable_with mid octets ≡ true → reading octets ≡ Ok m → m.mid ≡ mid
 mid_of_confirmable mid octets m h e =
     let it = header_read octets m e in
@@ -67,6 +69,7 @@ pub each_of_sent : {A : Type 0} (P : Peer × List ℕ → Type 0) (does : A → 
 each_of_sent P does [] all = tt
 each_of_sent P does (x ∷ xs) all = each_append P (does x).sent (each_of does xs).sent all.0 (each_of_sent P does xs all.1)
 
+-- whatever is found is sent
 pub again_sent : (P : Peer × List ℕ → Type 0) (d : Option (Peer × List ℕ)) (n : Note) → ((x : Peer × List ℕ) → d ≡ Some x → P x) → AllByRecursion P (sent_again d n).sent
 again_sent P None n h = tt
 again_sent P (Some d) n h = (h d refl, tt)
@@ -77,6 +80,7 @@ again_sent P (Some d) n h = (h d refl, tt)
 abbrev pub AskedPlain : List Row → Type 0
 AskedPlain rows = (peer : Peer) (e : Event) (request : Request) (r : Row) → last_request peer (events rows) ≡ Some e → request_noted e.note ≡ Some request → row_at e.place rows ≡ Some r → ArePlain r.sent
 
+-- so what is sent again of them is neither 2.05 nor 2.03
 pub requests_plain : (rows : List Row) (moment : ℕ) → AskedPlain rows → ArePlain (requests_again rows moment).sent
 unfolding requests_again
 requests_plain rows moment asked =
@@ -105,6 +109,7 @@ requests_plain rows moment asked =
 abbrev pub CalmAt : List Row → Type 0
 CalmAt rows = (place : ℕ) (r : Row) → row_at place rows ≡ Some r → AreCalm r.sent
 
+-- so no notice that is sent again has this code
 again_not_valid : (rows : List Row) (moment : ℕ) → CalmAt rows → NoneValid (notices_again rows moment).sent
 unfolding notices_again
 again_not_valid rows moment calm =
@@ -126,6 +131,7 @@ again_not_valid rows moment calm =
     each [] = tt
     each (o ∷ standing) = (flying o (flight o (events rows)), each standing)
 
+-- nor has a new one
 notices_not_valid : (t : Ticking) (done : Effects) → NoneValid done.sent → NoneValid (notices t done).sent
 unfolding notices spelling header_spelling
 notices_not_valid t done h = folded (observers (events_with t done)) done h
@@ -144,6 +150,7 @@ notices_not_valid t done h = folded (observers (events_with t done)) done h
         folded standing (notice_next t so_far o)
         (each_append (λ (d : Peer × List ℕ). NotValid d.1) so_far.sent (noticed_if (is_looked_at t so_far o) t so_far o).sent k (looked (is_looked_at t so_far o) so_far o))
 
+-- nor has what is neither 2.05 nor 2.03
 pub plain_not_valid : (sent : List (Peer × List ℕ)) → ArePlain sent → NoneValid sent
 plain_not_valid [] h = tt
 plain_not_valid (d ∷ sent) h = (h.0.no_valid, plain_not_valid sent h.1)

@@ -32,6 +32,7 @@ kind_told : (kind : Note → Bool) → ((n : Note) → kind n ≡ true → (rows
 kind_told kind h rows moment [] fits = tt
 kind_told kind h rows moment (n ∷ notes) fits = (h n (and_parts (kind n) (are kind notes) fits).0 rows moment, kind_told kind h rows moment notes (and_parts (kind n) (are kind notes) fits).1)
 
+-- what is sent again
 again_told : (rows : List Row) (moment : ℕ) → AreTold rows moment (notices_again rows moment).notes
 again_told rows moment = kind_told of_again by rows moment (notices_again rows moment).notes (notices_again-notes rows moment)
   where
@@ -40,6 +41,7 @@ again_told rows moment = kind_told of_again by rows moment (notices_again rows m
     by (note.Watched o) h some at = absurd (false≢true h)
     by _ h some at = tt
 
+-- and requests of fetches
 requests_told : (rows : List Row) (moment : ℕ) → AreTold rows moment (requests_again rows moment).notes
 requests_told rows moment = kind_told of_resent by rows moment (requests_again rows moment).notes (requests_again-notes rows moment)
   where
@@ -100,6 +102,7 @@ pub record FormsFirst (notes : List Note) : Type 0 where
   pub none : list_any is_notice notes ≡ false
   pub added : AllByRecursion (OfWatched (λ o. list_any (is_forming_for (name_of o)) notes ≡ true)) notes
 
+-- so it is of each row that is no tick
 pub shows_first : (rows : List Row) (moment : ℕ) (notes : List Note) → Shows rows moment notes → FormsFirst notes
 shows_first rows moment notes (quiet h) =
     let it = observing_none (λ o. list_any (is_forming_for (name_of o)) notes ≡ true) notes h in

@@ -36,6 +36,7 @@ use Rattle.journal_model.proofs.Among.{all_among}
 
 -- ---- all rows of a journal
 
+-- what each row sends
 abbrev pub RowSends : List Row → Row → Type 0
 RowSends before r = StepSends r.step.kind r.sent r.notes
 
@@ -107,6 +108,7 @@ pub record LooksAt (read : Result Message Unread) : Type 0 where
   pub read_is : read ≡ Ok message
   pub looks : is_look_request message ≡ true
 
+-- there is one where the datagram is that of a look
 pub a_look_reads : (read : Result Message Unread) → is_look_reading read ≡ true → LooksAt read
 a_look_reads (Err fault) h = absurd (false≢true h)
 a_look_reads (Ok m) h = by (role_of m.kind m.code) h

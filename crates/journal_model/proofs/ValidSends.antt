@@ -46,6 +46,7 @@ is_confirmable (first ∷ others) = first / 16 == 4
 abbrev pub AreCalm : List (Peer × List ℕ) → Type 0
 AreCalm sent = AllByRecursion (λ (d : Peer × List ℕ). is_confirmable d.1 ≡ true → NotValid d.1) sent
 
+-- it is so where nothing has this code
 pub none_calm : (sent : List (Peer × List ℕ)) → NoneValid sent → AreCalm sent
 none_calm [] h = tt
 none_calm (d ∷ sent) h = ((λ _. h.0), none_calm sent h.1)
@@ -57,12 +58,14 @@ answer_apart Non n = ne_eqb _ _ (λ e. absurd (omega (arith, e)))
 answer_apart Ack n = ne_eqb _ _ (λ e. absurd (omega (arith, e)))
 answer_apart Rst n = ne_eqb _ _ (λ e. absurd (omega (arith, e)))
 
+-- whatever it says
 pub answers_apart : (s : Step) (m : Message) (reply : Reply) → is_confirmable (spelling (answer s m reply)) ≡ false
 unfolding spelling header_spelling
 answers_apart s m reply = answer_apart m.kind (length m.token)
 
 -- ---- looks
 
+-- so no look sends a confirmable 2.03
 pub look_calm : (history : List Entry) (moment : ℕ) (s : Step) (m : Message) → AreCalm (look_effects history moment s m).sent
 unfolding look_effects answering
 look_calm history moment s m = by (is_discovery (path_in m))
@@ -87,6 +90,7 @@ part_code : (tag : Option (List ℕ)) (observe : Option ℕ) (asked : Option Blo
 part_code tag observe asked None = refl
 part_code tag observe asked (Some part) = refl
 
+-- whole or a block of it
 pub body_code : (tag : Option (List ℕ)) (observe : Option ℕ) (asked : Option Block) (body : List ℕ) → ((body_reply tag observe asked body).code == codes_of.valid) ≡ false
 unfolding body_reply
 body_code tag observe asked body = part_code tag observe asked (block_of body (number_of asked) (szx_of asked))
@@ -124,6 +128,7 @@ looks_either m h = by (path_in m) h
 
 -- ---- keeps and lookups
 
+-- a keep
 pub keep_not_valid : (s : Step) (m : Message) (body current : List ℕ) → NoneValid (keep_effects s m body current).sent
 unfolding keep_effects answering spelling header_spelling
 keep_not_valid s m body current = (body_code (Some current) None (asked_block m) body, tt)
