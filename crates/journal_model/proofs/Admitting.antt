@@ -121,7 +121,7 @@ role_admits role.Response false rows moment s m peer mid = never_of of_response 
 role_admits role.Ignored starved rows moment s m peer mid = nothing_noted rows moment peer mid [] refl
 
 -- what is no message
-unread_notes : (s : Step) (fault : Unread) → (unread_answered s fault).notes ≡ []
+pub unread_notes : (s : Step) (fault : Unread) → (unread_answered s fault).notes ≡ []
 unread_notes s unread.Short = refl
 unread_notes s unread.Version = refl
 unread_notes s (unread.Format Con mid) = refl

@@ -2,6 +2,7 @@
 use Rattle.std.proofs.Common.{◌≡◌, ℕ, ◌+◌, ◌==◌, Bool, true, false, List, [], ◌∷◌, ◌++◌, length, Option, Some, None, refl, nat_lt, nat_le}
 use Rattle.std.proofs.lemmas.Bool.{and_from}
 use Rattle.rd_base.specs.declared.parameters.RegParams.{RegParams}
+use Rattle.rd_base.specs.declared.peers.Peer.{Peer}
 use Rattle.message_model.specs.declared.blocks.Block.{Block}
 use Rattle.message_model.specs.declared.messages.Kind4.{Kind4}
 use Rattle.message_model.specs.declared.messages.Kind4.TheVariants.{Con, Non, Ack, Rst}
@@ -33,7 +34,7 @@ use Rattle.journal_model.specs.Responses.{fetch_of, strange, acknowledgement, mo
 use Rattle.journal_model.proofs.NoteKinds.{of_commit, of_response, are, are-append}
 
 -- a change, where what is noted beside its entry is of a kind that entries are of too
-change_made-notes : (kind : Note → Bool) → ((entry : Entry) → kind (note.Entered entry) ≡ true) → (history : List Entry) (entry : Entry) (done : Outcome) → are kind done.notes ≡ true
+pub change_made-notes : (kind : Note → Bool) → ((entry : Entry) → kind (note.Entered entry) ≡ true) → (history : List Entry) (entry : Entry) (done : Outcome) → are kind done.notes ≡ true
     → are kind (change_made history entry done).notes ≡ true
 change_made-notes kind entered history entry done h = by (change_refusal 0 history entry)
   where
@@ -59,27 +60,30 @@ registration-notes kind entered history moment s params body further notes h = b
         let entry : Entry = entry_by moment s (change.Register params links) in
         change_made-notes kind entered history entry (record { reply = created_at (number_behind params.name moment (history ++ entry ∷ [])) further; notes = notes }) h
 
--- a registration, whole or a block of one
-registering-notes : (rows : List Row) (moment : ℕ) (s : Step) (m : Message) → are of_commit (registering rows moment s m).notes ≡ true
+-- a registration, whole or a block of one, where what it may note is of a kind
+pub registering-notes : (kind : Note → Bool) → ((entry : Entry) → kind (note.Entered entry) ≡ true) → ((peer : Peer) (key : List ℕ) (number : ℕ) (octets : List ℕ) → kind (note.Piece peer key number octets) ≡ true)
+    → ((peer : Peer) (key : List ℕ) → kind (note.Finished peer key) ≡ true) → (rows : List Row) (moment : ℕ) (s : Step) (m : Message) → are kind (registering rows moment s m).notes ≡ true
 unfolding registering block_uploaded
-registering-notes rows moment s m = by (sent_block m)
+registering-notes kind entered piece finished rows moment s m = by (sent_block m)
   where
-    taken : (more : Bool) (b : Block) (body : List ℕ) → are of_commit (block_taken more rows moment s m b body).notes ≡ true
-    taken true b body = refl
-    taken false b body = registration-notes of_commit (λ entry. refl) (entries rows) moment s (registration_values (queries_in m)) body _ (note.Finished s.peer (key_in m) ∷ []) refl
+    taken : (more : Bool) (b : Block) (body : List ℕ) → are kind (block_taken more rows moment s m b body).notes ≡ true
+    taken true b body = and_from (kind (note.Piece s.peer (key_in m) b.num m.payload)) true (piece s.peer (key_in m) b.num m.payload) refl
+    taken false b body =
+        registration-notes kind entered (entries rows) moment s (registration_values (queries_in m)) body _ (note.Finished s.peer (key_in m) ∷ [])
+        (and_from (kind (note.Finished s.peer (key_in m))) true (finished s.peer (key_in m)) refl)
 
-    unless : (too_long too_many : Bool) (b : Block) (body : List ℕ) → are of_commit (block_unless too_long too_many rows moment s m b body).notes ≡ true
+    unless : (too_long too_many : Bool) (b : Block) (body : List ℕ) → are kind (block_unless too_long too_many rows moment s m b body).notes ≡ true
     unless true too_many b body = refl
     unless false true b body = refl
     unless false false b body = taken b.more b body
 
-    behind : (front upload : Option (List ℕ)) (b : Block) → are of_commit (block_behind front upload rows moment s m b).notes ≡ true
+    behind : (front upload : Option (List ℕ)) (b : Block) → are kind (block_behind front upload rows moment s m b).notes ≡ true
     behind None upload b = refl
     behind (Some front) upload b =
         unless (nat_lt max_body (length front + length m.payload)) (is_one_too_many b upload (live_uploads moment (events rows))) b (front ++ m.payload)
 
-    by : (b : Option Block) → are of_commit (registered_by b rows moment s m).notes ≡ true
-    by None = registration-notes of_commit (λ entry. refl) (entries rows) moment s (registration_values (queries_in m)) m.payload [] [] refl
+    by : (b : Option Block) → are kind (registered_by b rows moment s m).notes ≡ true
+    by None = registration-notes kind entered (entries rows) moment s (registration_values (queries_in m)) m.payload [] [] refl
     by (Some b) =
         let upload : Option (List ℕ) = live_upload moment (s.peer, key_in m) (events rows) in
         behind (collected_before b upload) upload b
@@ -104,7 +108,7 @@ commit_effects-notes rows moment place s m = by (path_in m)
     by : (p : Path) → are of_commit (write_done p rows moment place s m).notes ≡ true
     by path.Core = refl
     by path.SimpleRd = simple (is_fetching s.peer (events rows)) (nat_le max_fetches (length (fetches (events rows))))
-    by path.Rd = settled (registering rows moment s m) (registering-notes rows moment s m)
+    by path.Rd = settled (registering rows moment s m) (registering-notes of_commit (λ entry. refl) (λ peer key number octets. refl) (λ peer key. refl) rows moment s m)
     by (path.Location number) = settled (on_location (m.code == codes_of.post) rows moment s m number) (location (m.code == codes_of.post) number)
     by path.Res = refl
     by path.Ep = refl

@@ -53,7 +53,7 @@ use Rattle.journal_model.proofs.Observing.{around, observed_row}
 use Rattle.journal_model.proofs.TickKnowing.{tick_row}
 
 -- what notes do for observers behind a journal at a moment: nothing; or they tell no entry, and add one, with its first listing
-data Shows (rows : List Row) (moment : ℕ) (notes : List Note) : Type 0 where
+pub data Shows (rows : List Row) (moment : ℕ) (notes : List Note) : Type 0 where
   quiet : list_any is_observing notes ≡ false → Shows rows moment notes
   adds : (o : Observer) (front back : List Note) (body : List ℕ) → notes ≡ around front o body back → list_any is_observing front ≡ false → list_any is_observing back ≡ false
       → body ≡ listing o.query (entries rows) moment → told notes ≡ [] → Shows rows moment notes
@@ -173,24 +173,24 @@ unread_notes s (unread.Format Ack mid) = refl
 unread_notes s (unread.Format Rst mid) = refl
 
 -- a datagram that is heard, a commit, and a keep
-heard_shows : (starved : Bool) (rows : List Row) (moment : ℕ) (s : Step) (read : Result Message Unread) → Shows rows moment (heard starved rows moment s read).notes
+pub heard_shows : (starved : Bool) (rows : List Row) (moment : ℕ) (s : Step) (read : Result Message Unread) → Shows rows moment (heard starved rows moment s read).notes
 heard_shows starved rows moment s (Err fault) = nothing_shown rows moment (unread_answered s fault).notes (unread_notes s fault)
 heard_shows starved rows moment s (Ok m) = role_shows (role_of m.kind m.code) starved rows moment s m
 
-done_shows : (starved : Bool) (rows : List Row) (moment place : ℕ) (s : Step) (read : Result Message Unread) → Shows rows moment (done starved rows moment place s read).notes
+pub done_shows : (starved : Bool) (rows : List Row) (moment place : ℕ) (s : Step) (read : Result Message Unread) → Shows rows moment (done starved rows moment place s read).notes
 unfolding answering
 done_shows starved rows moment place s (Err fault) = quiet refl
 done_shows true rows moment place s (Ok m) = quiet refl
 done_shows false rows moment place s (Ok m) = quiet (quiet_of of_commit (λ o. refl) (λ p t b n. refl) (λ p t. refl) (commit_effects rows moment place s m).notes (commit_effects-notes rows moment place s m))
 
-kept_shows : (starved : Bool) (rows : List Row) (moment : ℕ) (s : Step) (read : Result Message Unread) (body tag : List ℕ) → Shows rows moment (kept_body starved s read body tag).notes
+pub kept_shows : (starved : Bool) (rows : List Row) (moment : ℕ) (s : Step) (read : Result Message Unread) (body tag : List ℕ) → Shows rows moment (kept_body starved s read body tag).notes
 unfolding answering
 kept_shows starved rows moment s (Err fault) body tag = quiet refl
 kept_shows true rows moment s (Ok m) body tag = quiet refl
 kept_shows false rows moment s (Ok m) body tag = quiet (ap (list_any is_observing) (keep_effects-notes s m body tag))
 
 -- a look notes nothing
-looked_notes : (starved : Bool) (rows : List Row) (moment : ℕ) (s : Step) (read : Result Message Unread) → (looked starved rows moment s read).notes ≡ []
+pub looked_notes : (starved : Bool) (rows : List Row) (moment : ℕ) (s : Step) (read : Result Message Unread) → (looked starved rows moment s read).notes ≡ []
 unfolding answering
 looked_notes starved rows moment s (Err fault) = refl
 looked_notes true rows moment s (Ok m) = refl
@@ -235,7 +235,7 @@ journal-AllKnown [] begun = tt
 journal-AllKnown (r ∷ before) (made {rows} {s} starved journal may) = row-AllKnown before s starved (journal-AllKnown before journal)
 
 -- one of those of which all holds
-of_all : {X : Type 0} (P : X → Type 0) (xs : List X) (x : X) → IsAmong xs x → AllByRecursion P xs → P x
+pub of_all : {X : Type 0} (P : X → Type 0) (xs : List X) (x : X) → IsAmong xs x → AllByRecursion P xs → P x
 of_all P xs x among all = subst P (sym (among.1.1)) (All-from_recursion P xs all among.0 x among.1.0)
 
 -- an observer that is not due was last given the listing now

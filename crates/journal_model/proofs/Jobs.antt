@@ -1,0 +1,130 @@
+-- The jobs that workers hold: none is of a datagram that is yet to be heard, and a keep is of the body that the worker's last look formed.
+use Rattle.std.proofs.Common.{◌≡◌, ℕ, ◌==◌, ◌&&◌, Bool, true, false, cond, List, [], ◌∷◌, length, Option, Some, None, Result, Ok, Err, refl, sym, ap, subst, ◌∙◌}
+use Rattle.std.proofs.lemmas.Bool.{false≢true}
+use Rattle.rd_base.specs.declared.peers.Peer.{Peer}
+use Rattle.message_model.specs.declared.messages.Unread.{Unread}
+use Rattle.message_model.specs.Message.{Message}
+use Rattle.message_model.specs.Reading.{reading}
+use Rattle.event_model.specs.declared.notes.Note.{Note}
+use Rattle.event_model.specs.declared.notes.Note.TheVariants as note
+use Rattle.journal_model.specs.declared.steps.Step.{Step}
+use Rattle.journal_model.specs.declared.steps.StepKind.{StepKind}
+use Rattle.journal_model.specs.declared.steps.StepKind.TheVariants as step
+use Rattle.journal_model.specs.declared.rows.Row.{Row}
+use Rattle.journal_model.specs.Journal.{is_look}
+use Rattle.journal_model.specs.Meantime.{is_heard}
+use Rattle.journal_model.specs.Machine.{is_look_datagram, hearing, Job, write_job, keep_kind, keep_job, job_after, job_of, MayBegin, hears, goes, ticks}
+use Rattle.journal_model.specs.Headline.{Within, Placed, last_row, look_of}
+
+-- the job of an admission is its commit
+write_commits : (notes : List Note) (r : Row) (before : List Row) (job : Job) → write_job notes r before ≡ Some job → job.kind ≡ step.Commit (length before)
+write_commits (note.Admitted peer mid ∷ notes) r before job e = ap kind_of (sym e)
+  where
+    kind_of : Option Job → StepKind
+    kind_of None = step.Commit (length before)
+    kind_of (Some j) = j.kind
+write_commits _ r before job e = absurd (let h : None ≡ Some job = e in cc)
+
+-- the job of a look is its keep
+pub record Keeping (r : Row) (before : List Row) (job : Job) : Type 0 where
+  pub kind : job.kind ≡ keep_kind (reading r.step.datagram) before r.moment.0
+  pub datagram : job.datagram ≡ r.step.datagram
+
+-- so it is of the job that a look leaves
+keep_keeps : (sent : List (Peer × List ℕ)) (r : Row) (before : List Row) (job : Job) → keep_job sent r before ≡ Some job → Keeping r before job
+keep_keeps [] r before job e =
+    let same : record { kind = keep_kind (reading r.step.datagram) before r.moment.0; peer = r.step.peer; datagram = r.step.datagram } ≡ job = cc in
+    subst (λ (j : Job). Keeping r before j) same (record { kind = refl; datagram = refl })
+keep_keeps (d ∷ sent) r before job e = absurd (let h : None ≡ Some job = e in cc)
+
+-- it is of no datagram that is yet to be heard
+keep_not_heard : (read : Result Message Unread) (before : List Row) (moment : ℕ) → is_heard (keep_kind read before moment) ≡ false
+keep_not_heard (Err fault) before moment = refl
+keep_not_heard (Ok m) before moment = refl
+
+-- no job is of a datagram that is yet to be heard
+pub job_not_heard : (worker : ℕ) (rows : List Row) (job : Job) → job_of worker rows ≡ Some job → is_heard job.kind ≡ false
+unfolding job_of
+job_not_heard worker [] job e = absurd (let h : None ≡ Some job = e in cc)
+job_not_heard worker (r ∷ before) job e = by (r.step.worker == worker) e (λ h. job_not_heard worker before job h)
+  where
+    own : (kind : StepKind) → job_after kind r before (job_of worker before) ≡ Some job → (job_of worker before ≡ Some job → is_heard job.kind ≡ false) → is_heard job.kind ≡ false
+    own step.Admit h more = ap is_heard (write_commits r.notes r before job h)
+    own step.Look h more = ap is_heard (keep_keeps r.sent r before job h).kind ∙ keep_not_heard (reading r.step.datagram) before r.moment.0
+    own (step.Commit place) h more = absurd (let no : None ≡ Some job = h in cc)
+    own (step.Keep body tag) h more = absurd (let no : None ≡ Some job = h in cc)
+    own step.Tick h more = more h
+
+    by : (b : Bool) → cond b (job_after r.step.kind r before (job_of worker before)) (job_of worker before) ≡ Some job → (job_of worker before ≡ Some job → is_heard job.kind ≡ false) → is_heard job.kind ≡ false
+    by true h more = own r.step.kind h more
+    by false h more = more h
+
+-- so what is heard is heard as its datagram says
+pub heard_by_hearing : (rows : List Row) (s : Step) → MayBegin rows s → is_heard s.kind ≡ true → s.kind ≡ hearing s.datagram
+heard_by_hearing rows s (hears none heard) e = heard
+heard_by_hearing rows s (goes holds) e = absurd (false≢true (sym (job_not_heard s.worker rows (record { kind = s.kind; peer = s.peer; datagram = s.datagram }) holds) ∙ e))
+heard_by_hearing rows s (ticks tick) e = absurd (false≢true (sym (ap is_heard tick) ∙ e))
+
+-- one that is admitted is no look
+pub heard_no_look : (datagram : List ℕ) → step.Admit ≡ hearing datagram → is_look_datagram datagram ≡ false
+heard_no_look datagram e = by (is_look_datagram datagram) e
+  where
+    by : (b : Bool) → step.Admit ≡ cond b step.Look step.Admit → b ≡ false
+    by true h = absurd (let no : step.Admit ≡ step.Look = h in cc)
+    by false h = refl
+
+-- and one that is looked at is one
+pub heard_a_look : (datagram : List ℕ) → step.Look ≡ hearing datagram → is_look_datagram datagram ≡ true
+heard_a_look datagram e = by (is_look_datagram datagram) e
+  where
+    by : (b : Bool) → step.Look ≡ cond b step.Look step.Admit → b ≡ true
+    by true h = refl
+    by false h = absurd (let no : step.Look ≡ step.Admit = h in cc)
+
+-- ---- keeps
+
+-- the look whose job a worker holds
+pub record KeepsOf (rows : List Row) (worker : ℕ) (job : Job) : Type 0 where
+  pub look : Placed
+  pub found : look_of worker rows ≡ Some look
+  pub within : Within rows look.before look.row
+  pub is_one : look.row.step.kind ≡ step.Look
+  pub keeps : Keeping look.row look.before job
+
+-- so it is of each job to keep a body
+pub keeps_of : (worker : ℕ) (rows : List Row) (job : Job) (body tag : List ℕ) → job_of worker rows ≡ Some job → job.kind ≡ step.Keep body tag → KeepsOf rows worker job
+unfolding job_of last_row
+keeps_of worker [] job body tag e keep = absurd (let h : None ≡ Some job = e in cc)
+keeps_of worker (r ∷ before) job body tag e keep = by (r.step.worker == worker) refl e (λ h. keeps_of worker before job body tag h keep)
+  where
+    behind : (is_look r.step.kind && r.step.worker == worker) ≡ false → KeepsOf before worker job → KeepsOf (r ∷ before) worker job
+    behind other it = record {
+      look = it.look;
+      found = rw other it.found;
+      within = record { later = r ∷ it.within.later; whole = ap (λ (rows : List Row). r ∷ rows) it.within.whole };
+      is_one = it.is_one;
+      keeps = it.keeps;
+    }
+
+    and_false : (b : Bool) → (b && false) ≡ false
+    and_false true = refl
+    and_false false = refl
+
+    own : (kind : StepKind) → r.step.kind ≡ kind → (r.step.worker == worker) ≡ true → job_after kind r before (job_of worker before) ≡ Some job
+        → (job_of worker before ≡ Some job → KeepsOf before worker job) → KeepsOf (r ∷ before) worker job
+    own step.Admit is same h more = absurd (let no : step.Commit (length before) ≡ step.Keep body tag = sym (write_commits r.notes r before job h) ∙ keep in cc)
+    own step.Look is same h more = record {
+      look = record { row = r; before = before };
+      found = rw (is, same) refl;
+      within = record { later = []; whole = refl };
+      is_one = is;
+      keeps = keep_keeps r.sent r before job h;
+    }
+    own (step.Commit place) is same h more = absurd (let no : None ≡ Some job = h in cc)
+    own (step.Keep others current) is same h more = absurd (let no : None ≡ Some job = h in cc)
+    own step.Tick is same h more = behind (rw is refl) (more h)
+
+    by : (b : Bool) → (r.step.worker == worker) ≡ b → cond b (job_after r.step.kind r before (job_of worker before)) (job_of worker before) ≡ Some job
+        → (job_of worker before ≡ Some job → KeepsOf before worker job) → KeepsOf (r ∷ before) worker job
+    by true same h more = own r.step.kind refl same h more
+    by false other h more = behind (rw other (and_false (is_look r.step.kind))) (more h)
