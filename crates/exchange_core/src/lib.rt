@@ -4,19 +4,17 @@
 mod answers;
 mod flights;
 mod held;
-mod replies;
+mod octets;
 mod resending;
 mod rows;
 mod table;
-mod tokens;
 
 pub use answers::Keyed;
 pub use flights::Flight;
-pub use replies::Reply;
+pub use octets::{Octets, Reply, Token};
 pub use resending::{Again, Resend};
 pub use rows::Exchange;
 pub use table::Exchanges;
-pub use tokens::Token;
 
 #[cfg(test)]
 mod tests;

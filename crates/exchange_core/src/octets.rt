@@ -1,4 +1,4 @@
-// Tokens, by which a response is told to belong to a request.
+// Octets that are kept in a room of their own and take no memory: tokens, and what writes were answered by.
 ghost use Rattle.std.specs.Prelude.{◌≡◌, ◌≤◌, length, nat_eq};
 ghost use Rattle.std.proofs.Common.{rules};
 ghost use Rattle.std.specs.Cmp.Rules.{comparing, hashing};
@@ -10,64 +10,70 @@ use arrayvec::ArrayVec;
 use std::hash::{Hash, Hasher};
 use std::marker::Model;
 
-/// A token of at most 8 octets (RFC 7252 section 5.3.1), seen by contracts as their list.
+/// At most so many octets, seen by contracts as their list.
 #[derive(Debug, Drop)]
-pub struct Token {
-    octets: ArrayVec<u8, 8>,
+pub struct Octets<const N: usize> {
+    octets: ArrayVec<u8, N>,
 }
 
-impl Model for Token {
+/// A token, by which a response is told to belong to a request: at most 8 octets (RFC 7252 section 5.3.1).
+pub type Token = Octets<8>;
+
+/// The octets that a write was answered by, at most 64.
+pub type Reply = Octets<64>;
+
+impl<const N: usize> Model for Octets<N> {
     ghost use Rattle.std.specs.Prelude.{ℕ, List};
 
     ghost Value = { List ℕ };
 
-    ghost view = { λ t. t.octets.items };
+    ghost view = { λ r. r.octets.items };
 }
 
-impl Token {
-    /// The token of these octets. Takes no memory.
-    pub fn of(octets: &[u8]) -> Token
-        requires { length octets.now ≤ 8 }
+impl<const N: usize> Octets<N> {
+    /// These octets. Takes no memory.
+    pub fn of(octets: &[u8]) -> Octets<N>
+        requires { length octets.now ≤ N }
         ensures { result ≡ octets.now }
     {
         let mut kept = ArrayVec::new();
         if kept.try_extend_from_slice(octets).is_err() {
             unreachable!()
         }
-        Token { octets: kept }
+        Octets { octets: kept }
     }
 
     /// The octets.
     pub fn as_slice(&self) -> &[u8]
         ensures value { result.now ≡ self.now }
-        ensures fits { length self.now ≤ 8 }
+        ensures fits { length self.now ≤ N }
     {
         self.octets.as_slice()
     }
 
-    /// An equal token. Takes no memory.
-    pub fn copy(&self) -> Token
+    /// The same octets. Takes no memory.
+    pub fn copy(&self) -> Octets<N>
         ensures { result ≡ self.now }
     {
-        Token::of(self.as_slice())
+        Octets::of(self.as_slice())
     }
 }
 
-impl PartialEq for Token {
+impl<const N: usize> PartialEq for Octets<N> {
     ghost eq = { pointwise nat_eq };
 
     ghost laws = { Prim.search (comparing, rules) };
 
-    fn eq(&self, other: &Token) -> bool {
+    fn eq(&self, other: &Octets<N>) -> bool {
         self.as_slice() == other.as_slice()
     }
 }
 
-impl Eq for Token {
+impl<const N: usize> Eq for Octets<N> {
     ghost laws = { nat_list_eq_equiv };
 }
 
-impl Hash for Token {
+impl<const N: usize> Hash for Octets<N> {
     ghost hash_input = { fed.slice fed.u8 };
 
     ghost respects_eq = { Prim.search (hashing, rules) };
