@@ -1,0 +1,14 @@
+//! The leases of the directory in the order in which they lapse, as versions that never change.
+#![tactic(auto)]
+
+mod among;
+mod lapses;
+mod leases;
+mod queue;
+
+pub use lapses::LapsedIter;
+pub use leases::Lease;
+pub use queue::LeaseQueue;
+
+#[cfg(test)]
+mod tests;
