@@ -135,7 +135,7 @@ fn is_other_format(format: Option<u16>) -> bool
 
 // The first refusal behind that of an unrecognized critical option.
 #[tactic(auto, unfolding(crate::specs::Refusing::refusal_by))]
-fn later_refusal(meaning: &Meaning<'_>) -> Option<Refusal>
+fn refusal_after_options(meaning: &Meaning<'_>) -> Option<Refusal>
     requires block1 { ForSome meaning.now.block1 (λ v. length v.now ≤ 3) }
     requires block2 { ForSome meaning.now.block2 (λ v. length v.now ≤ 3) }
     ensures { result ≡ refusal_by meaning.now.view.code meaning.now.path meaning.now.proxy
@@ -183,7 +183,7 @@ pub fn request<'a>(view: &View<'a>) -> Result<Meaning<'a>, Refusal>
         Ok(meant) => meant,
         Err(BadOption(number)) => return Err(Refusal::BadOption(number)),
     };
-    match later_refusal(&meant) {
+    match refusal_after_options(&meant) {
         Some(refusal) => Err(refusal),
         None => Ok(meant),
     }

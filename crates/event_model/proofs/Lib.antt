@@ -3,7 +3,7 @@ pub mod SameLaws
 pub mod KeptLaws
 pub mod Noting
 pub mod LookingBack
-mod LimitExamples
 pub mod ObserverLaws
 pub mod AddingLaws
 pub mod ManyObservers
+mod examples

@@ -4,7 +4,7 @@ use Rattle.event_model.specs.declared.notes.Note.{Note}
 use Rattle.event_model.specs.Same.{RequestName}
 use Rattle.event_model.specs.Events.{Event, events_since, or_else, last_said}
 use Rattle.event_model.specs.Repeats.{admission_by, is_failure_of, admissions}
-use Rattle.event_model.specs.Uploads.{collected_after, upload, is_turn_of, begun_by, uploads}
+use Rattle.event_model.specs.Uploads.{collected_after, upload, starts_or_ends_upload, begun_by, uploads}
 use Rattle.event_model.specs.KeptAnswers.{used_by, is_use_of, names_used}
 use Rattle.event_model.specs.Observers.{name_of, is_end_of, watched_by, observers}
 use Rattle.event_model.specs.Fetches as fetching
@@ -26,7 +26,7 @@ pub upload-event : (name : RequestName) (e : Event) (before : List Event) → up
 unfolding upload
 upload-event name e before = refl
 
-pub uploads-event : (e : Event) (before : List Event) → uploads (e ∷ before) ≡ filter (λ name. not (is_turn_of e.note name)) (uploads before) ++ begun_by e.note
+pub uploads-event : (e : Event) (before : List Event) → uploads (e ∷ before) ≡ filter (λ name. not (starts_or_ends_upload e.note name)) (uploads before) ++ begun_by e.note
 unfolding uploads
 uploads-event e before = refl
 
@@ -38,6 +38,6 @@ pub observers-event : (e : Event) (before : List Event) → observers (e ∷ bef
 unfolding observers
 observers-event e before = refl
 
-pub fetches-event : (e : Event) (before : List Event) → fetches (e ∷ before) ≡ filter (λ peer. not (fetching.is_turn_of e.note peer)) (fetches before) ++ started_by e.note
+pub fetches-event : (e : Event) (before : List Event) → fetches (e ∷ before) ≡ filter (λ peer. not (fetching.starts_or_ends_fetch e.note peer)) (fetches before) ++ started_by e.note
 unfolding fetches
 fetches-event e before = refl

@@ -9,7 +9,7 @@ use Rattle.event_model.specs.declared.notes.Note.TheVariants as note
 use Rattle.event_model.specs.declared.notes.Observer.{Observer}
 use Rattle.event_model.specs.Same.{RequestName}
 use Rattle.event_model.specs.Events.{Event, noted, last_event, has_event, or_else, last_said}
-use Rattle.event_model.specs.Observers.{name_of, is_end_of, watched_by, observers, body_formed, body_given}
+use Rattle.event_model.specs.Observers.{name_of, is_end_of, watched_by, observers, body_formed, last_body_formed}
 use Rattle.event_model.specs.Due.{is_looking_for}
 
 -- an event of a row
@@ -79,12 +79,12 @@ not_formed name (note.Formed peer token body mid) h = rw h refl
 not_formed name _ h = refl
 
 -- where a row looks at no listing of an observer, the body that was given is the one before
-pub body_given-before : (name : RequestName) (place moment word : ℕ) (notes : List Note) (before : List Event) → list_any (is_looking_for name) notes ≡ false
-    → body_given name (noted place moment word notes before) ≡ body_given name before
-unfolding body_given last_said
-body_given-before name place moment word [] before none = refl
-body_given-before name place moment word (n ∷ notes) before none =
-    by (is_looking_for name n) refl none (λ h. body_given-before name place moment word notes (event_at place moment word n ∷ before) h)
+pub last_body_formed-before : (name : RequestName) (place moment word : ℕ) (notes : List Note) (before : List Event) → list_any (is_looking_for name) notes ≡ false
+    → last_body_formed name (noted place moment word notes before) ≡ last_body_formed name before
+unfolding last_body_formed last_said
+last_body_formed-before name place moment word [] before none = refl
+last_body_formed-before name place moment word (n ∷ notes) before none =
+    by (is_looking_for name n) refl none (λ h. last_body_formed-before name place moment word notes (event_at place moment word n ∷ before) h)
   where
     Given : List Event → Option (List ℕ)
     Given events = last_said (body_formed name) events

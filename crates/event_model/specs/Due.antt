@@ -12,7 +12,7 @@ use Rattle.event_model.specs.Events.{Event, last_event}
 use Rattle.event_model.specs.Observers.{name_of}
 
 -- a row that is no look, as observers see it: its place, and the history and the moment before it and after it
-pub record Turn : Type 0 where
+pub record Transition : Type 0 where
   pub place : ℕ
   pub before : List Entry
   pub moment_before : ℕ
@@ -27,7 +27,7 @@ are_same_lines (line ∷ lines) [] = false
 are_same_lines (line ∷ lines) (other ∷ others) = line.0 == other.0 && bytes_eq line.1 other.1 && are_same_lines lines others
 
 -- the row changed the lines of a query, before page and count
-unfoldable pub is_change_of : Query → Turn → Bool
+unfoldable pub is_change_of : Query → Transition → Bool
 is_change_of query t = not (are_same_lines (all_lines query t.before t.moment_before) (all_lines query t.after t.moment_after))
 
 -- the listing of the observer of a peer and a token was looked at: it was formed, or found unchanged
@@ -37,10 +37,10 @@ is_looking_for name (note.Unchanged peer token) = is_same_request (peer, token) 
 is_looking_for name _ = false
 
 -- a row after a place changed the lines of the query
-abbrev pub is_changed_since : Query → List Turn → Option Event → Bool
-is_changed_since query turns None = false
-is_changed_since query turns (Some looked) = list_any (is_change_of query) (filter (λ t. nat_lt looked.place t.place) turns)
+abbrev pub is_changed_since : Query → List Transition → Option Event → Bool
+is_changed_since query transitions None = false
+is_changed_since query transitions (Some looked) = list_any (is_change_of query) (filter (λ t. nat_lt looked.place t.place) transitions)
 
 -- the observer is due: since its listing was last looked at, a row changed the lines of its query
-unfoldable pub is_due : Observer → List Event → List Turn → Bool
-is_due o events turns = is_changed_since o.query turns (last_event (is_looking_for (name_of o)) events)
+unfoldable pub is_due : Observer → List Event → List Transition → Bool
+is_due o events transitions = is_changed_since o.query transitions (last_event (is_looking_for (name_of o)) events)

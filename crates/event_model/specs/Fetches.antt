@@ -29,10 +29,10 @@ is_start_of peer (note.Asked p token mid params number) = number == 0 && is_same
 is_start_of peer _ = false
 
 -- the note starts or ends the fetch of a peer
-abbrev pub is_turn_of : Note → Peer → Bool
-is_turn_of (note.Asked p token mid params number) peer = number == 0 && is_same_peer p peer
-is_turn_of (note.Ceased p) peer = is_same_peer p peer
-is_turn_of _ peer = false
+abbrev pub starts_or_ends_fetch : Note → Peer → Bool
+starts_or_ends_fetch (note.Asked p token mid params number) peer = number == 0 && is_same_peer p peer
+starts_or_ends_fetch (note.Ceased p) peer = is_same_peer p peer
+starts_or_ends_fetch _ peer = false
 
 -- the peer whose fetch the note starts
 abbrev pub started_by : Note → List Peer
@@ -42,7 +42,7 @@ started_by _ = []
 -- the peers whose fetch started and did not end since, in the order of their starts
 unfoldable pub fetches : List Event → List Peer
 fetches [] = []
-fetches (e ∷ before) = filter (λ peer. not (is_turn_of e.note peer)) (fetches before) ++ started_by e.note
+fetches (e ∷ before) = filter (λ peer. not (starts_or_ends_fetch e.note peer)) (fetches before) ++ started_by e.note
 
 -- a fetch of the peer runs
 abbrev pub is_fetching : Peer → List Event → Bool

@@ -67,5 +67,5 @@ body_formed name (note.Formed peer token body mid) = if is_same_request (peer, t
 body_formed name _ = None
 
 -- the body that was last formed for the observer of a peer and a token
-unfoldable pub body_given : RequestName → List Event → Option (List ℕ)
-body_given name events = last_said (body_formed name) events
+unfoldable pub last_body_formed : RequestName → List Event → Option (List ℕ)
+last_body_formed name events = last_said (body_formed name) events

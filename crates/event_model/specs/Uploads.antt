@@ -44,10 +44,10 @@ unfoldable pub live_upload : ℕ → RequestName → List Event → Option (List
 live_upload now name events = option_and_then (λ body. if is_live_upload now name events then Some body else None) (upload name events)
 
 -- the note begins or ends the upload of a name
-abbrev pub is_turn_of : Note → RequestName → Bool
-is_turn_of (note.Piece peer key number octets) name = number == 0 && is_same_request (peer, key) name
-is_turn_of (note.Finished peer key) name = is_same_request (peer, key) name
-is_turn_of _ name = false
+abbrev pub starts_or_ends_upload : Note → RequestName → Bool
+starts_or_ends_upload (note.Piece peer key number octets) name = number == 0 && is_same_request (peer, key) name
+starts_or_ends_upload (note.Finished peer key) name = is_same_request (peer, key) name
+starts_or_ends_upload _ name = false
 
 -- the name of the upload that the note begins
 abbrev pub begun_by : Note → List RequestName
@@ -57,7 +57,7 @@ begun_by _ = []
 -- the names that have an upload
 unfoldable pub uploads : List Event → List RequestName
 uploads [] = []
-uploads (e ∷ before) = filter (λ name. not (is_turn_of e.note name)) (uploads before) ++ begun_by e.note
+uploads (e ∷ before) = filter (λ name. not (starts_or_ends_upload e.note name)) (uploads before) ++ begun_by e.note
 
 -- how many uploads live
 unfoldable pub live_uploads : ℕ → List Event → ℕ

@@ -27,30 +27,75 @@ pub enum Note {
     Failed(u64),
     /// A change was accepted.
     Entered(Entry),
-    /// A block of an upload came: the peer, the request key, the block's number, and its octets.
-    Piece(Peer, LinkedList<u8>, u32, LinkedList<u8>),
+    /// A block of an upload came (RFC 7959 section 2.5).
+    Piece {
+        /// Where it comes from.
+        peer: Peer,
+        /// The key of its request.
+        key: LinkedList<u8>,
+        /// The block's number.
+        number: u32,
+        /// Its octets.
+        octets: LinkedList<u8>,
+    },
     /// The upload of this peer and request key is complete.
     Finished(Peer, LinkedList<u8>),
-    /// An answer was kept for further blocks: the peer, the request key, the body, and its entity tag.
-    Kept(Peer, LinkedList<u8>, LinkedList<u8>, LinkedList<u8>),
+    /// An answer was kept for further blocks (RFC 7959 section 2.4).
+    Kept {
+        /// Who asked.
+        peer: Peer,
+        /// The key of the request.
+        key: LinkedList<u8>,
+        /// The whole body.
+        body: LinkedList<u8>,
+        /// Its entity tag.
+        tag: LinkedList<u8>,
+    },
     /// The kept answer of this peer and request key was read.
     Used(Peer, LinkedList<u8>),
     /// An observer was added.
     Watched(Observer),
     /// The observer of this peer and token was removed.
     Unwatched(Peer, LinkedList<u8>),
-    /// A body was formed for the observer of this peer and token: as a notice with this Message ID, or in an answer.
-    Formed(Peer, LinkedList<u8>, LinkedList<u8>, Option<u16>),
+    /// A body was formed for an observer (RFC 7641 section 4.2).
+    Formed {
+        /// The observer's peer.
+        peer: Peer,
+        /// The observer's token.
+        token: LinkedList<u8>,
+        /// The whole body.
+        body: LinkedList<u8>,
+        /// The Message ID of the notice; none where an answer carried the body.
+        mid: Option<u16>,
+    },
     /// The observer of this peer and token was due, and its listing was found unchanged.
     Unchanged(Peer, LinkedList<u8>),
     /// The notice of this peer and Message ID was sent again.
     Again(Peer, u16),
     /// The notice of this peer and Message ID was acknowledged.
     Landed(Peer, u16),
-    /// A fetch asked its peer for a block: the token, the Message ID, the parameters of the registration, and the block's number.
-    Asked(Peer, LinkedList<u8>, u16, RegParams, u32),
-    /// A block of a fetched body came: the peer, its octets, and its entity tag.
-    Gathered(Peer, LinkedList<u8>, Option<LinkedList<u8>>),
+    /// A fetch asked its peer for a block (RFC 9176 section 5.1).
+    Asked {
+        /// The peer whose links are fetched.
+        peer: Peer,
+        /// The token of the fetch.
+        token: LinkedList<u8>,
+        /// The Message ID of the request.
+        mid: u16,
+        /// The parameters of the registration that the fetch is for.
+        params: RegParams,
+        /// The block's number.
+        number: u32,
+    },
+    /// A block of a fetched body came.
+    Gathered {
+        /// The peer whose links are fetched.
+        peer: Peer,
+        /// The block's octets.
+        octets: LinkedList<u8>,
+        /// The entity tag that it came under, where it had one.
+        tag: Option<LinkedList<u8>>,
+    },
     /// The last request of the fetch of this peer was sent again.
     Resent(Peer),
     /// The last request of the fetch of this peer was acknowledged: the response comes apart.

@@ -14,7 +14,7 @@ use Rattle.exchange_core.specs.declared.answers.Keyed.{Keyed}
 use Rattle.exchange_core.specs.declared.answers.Keyed.TheVariants as keyed
 use Rattle.exchange_core.specs.declared.rows.Exchange.{Exchange}
 use Rattle.exchange_core.specs.Rows.{Table, is_with, is_admitted_at, young, InOrder, repeating, repeating_young, repeat_among, answered_first, without_first}
-use Rattle.exchange_core.specs.Standing.{exchange_by, exchange_of, exchanges_at, StandsFor, NoneAfter, IsNewPlace, IsOrderly, HasAdmission, is_aside, keyed_new, keyed_as, keyed_by}
+use Rattle.exchange_core.specs.Standing.{exchange_by, exchange_of, exchanges_at, ExchangesStandFor, NoneAfter, IsNewPlace, IsOrderly, HasAdmission, is_aside, keyed_new, keyed_as, keyed_by}
 use Rattle.exchange_core.proofs.RowLaws.{repeat_among-young}
 use Rattle.exchange_core.proofs.Finding.{found_passes}
 use Rattle.exchange_core.proofs.RepeatLaws.{admits, admission_is, Follows, known}
@@ -30,9 +30,9 @@ pub young-later : (at now : ℕ) (xs : List Exchange) → at ≤ now → young n
 young-later at now xs h = filter_stronger (λ x. is_young now x.admitted.0) (λ x. is_young at x.admitted.0) (λ x y. young_before at now x.admitted.0 h y) xs
 
 -- a table stands for the same events later
-pub StandsFor-later : (at now : ℕ) (events : List Event) (t : Table) → at ≤ now → StandsFor at events t → StandsFor now events t
+pub ExchangesStandFor-later : (at now : ℕ) (events : List Event) (t : Table) → at ≤ now → ExchangesStandFor at events t → ExchangesStandFor now events t
 unfolding exchanges_at kept
-StandsFor-later at now events t h stands = record {
+ExchangesStandFor-later at now events t h stands = record {
   kept =
       sym (young-later at now t.exchanges h)
       ∙ (ap (young now) stands.kept
@@ -41,9 +41,9 @@ StandsFor-later at now events t h stands = record {
 }
 
 -- and so does one that keeps of its exchanges those that are young then
-pub StandsFor-aged : (at now : ℕ) (events : List Event) (t aged : Table) → at ≤ now → aged.exchanges ≡ young now t.exchanges → StandsFor at events t → StandsFor now events aged
-StandsFor-aged at now events t aged h left stands =
-    let later : StandsFor now events t = StandsFor-later at now events t h stands in
+pub ExchangesStandFor-aged : (at now : ℕ) (events : List Event) (t aged : Table) → at ≤ now → aged.exchanges ≡ young now t.exchanges → ExchangesStandFor at events t → ExchangesStandFor now events aged
+ExchangesStandFor-aged at now events t aged h left stands =
+    let later : ExchangesStandFor now events t = ExchangesStandFor-later at now events t h stands in
     record { kept = ap (young now) left ∙ (young-later now now t.exchanges (omega arith) ∙ later.kept) }
 
 -- ---- answers
@@ -54,7 +54,7 @@ answer_found : (peer : Peer) (mid : ℕ) (events : List Event) (a : Event) → a
 answer_found peer mid events a it =
     subst (λ n. option_map (λ x. repeating x.reply) (exchange_by a.moment (settled a.place events) n) ≡ Some (repeating (settled a.place events))) (sym (admission_is peer mid a.note it)) refl
 
-repeat_stands : (now : ℕ) (peer : Peer) (mid last : ℕ) (events : List Event) (t : Table) → InOrder last t.exchanges → IsOrderly events → NoneAfter now events → StandsFor now events t
+repeat_stands : (now : ℕ) (peer : Peer) (mid last : ℕ) (events : List Event) (t : Table) → InOrder last t.exchanges → IsOrderly events → NoneAfter now events → ExchangesStandFor now events t
     → repeat_among now peer mid t.exchanges ≡ option_map (λ a. repeating (settled a.place events)) (repeated now peer mid events)
 unfolding exchanges_at
 repeat_stands now peer mid last events t order orderly in_time stands =
@@ -72,17 +72,17 @@ repeat_stands now peer mid last events t order orderly in_time stands =
     by (Some a) there = answer_found peer mid events a (found_passes (admits peer mid) (kept now events) a there)
 
 pub repeat_answers : (at now : ℕ) (peer : Peer) (mid last : ℕ) (events : List Event) (t : Table) (answer : Keyed) → at ≤ now → InOrder last t.exchanges → IsOrderly events → NoneAfter now events
-    → StandsFor at events t → Some answer ≡ repeat_among now peer mid t.exchanges → answer ≡ keyed_by now peer mid events
+    → ExchangesStandFor at events t → Some answer ≡ repeat_among now peer mid t.exchanges → answer ≡ keyed_by now peer mid events
 unfolding keyed_by
 repeat_answers at now peer mid last events t answer h order orderly in_time stands found =
-    by (repeated now peer mid events) (found ∙ repeat_stands now peer mid last events t order orderly in_time (StandsFor-later at now events t h stands))
+    by (repeated now peer mid events) (found ∙ repeat_stands now peer mid last events t order orderly in_time (ExchangesStandFor-later at now events t h stands))
   where
     by : (r : Option Event) → Some answer ≡ option_map (λ a. repeating (settled a.place events)) r → answer ≡ keyed_as r now events
     by None e = absurd cc
     by (Some a) e = cc
 
 -- where nothing is repeated, fullness decides
-no_repeat : (now : ℕ) (peer : Peer) (mid last : ℕ) (events : List Event) (t : Table) → InOrder last t.exchanges → IsOrderly events → NoneAfter now events → StandsFor now events t
+no_repeat : (now : ℕ) (peer : Peer) (mid last : ℕ) (events : List Event) (t : Table) → InOrder last t.exchanges → IsOrderly events → NoneAfter now events → ExchangesStandFor now events t
     → None ≡ repeat_among now peer mid t.exchanges → keyed_new (is_full_of_exchanges now events) ≡ keyed_by now peer mid events
 unfolding keyed_by
 no_repeat now peer mid last events t order orderly in_time stands none =
@@ -108,23 +108,23 @@ unfolding kept
 each_kept now events = each_filter (λ a. is_admitting a.note ≡ true) (λ a. is_young now a.moment) (admissions events) (each_admits events)
 
 -- as many exchanges are kept as admissions
-length-kept : (now : ℕ) (events : List Event) (t : Table) → StandsFor now events t → length (young now t.exchanges) ≡ length (kept now events)
+length-kept : (now : ℕ) (events : List Event) (t : Table) → ExchangesStandFor now events t → length (young now t.exchanges) ≡ length (kept now events)
 unfolding exchanges_at
 length-kept now events t stands = ap length stands.kept ∙ length-exchanges events (kept now events) (each_kept now events)
 
 pub full_answers : (at now : ℕ) (peer : Peer) (mid last : ℕ) (events : List Event) (t : Table) (left : List Exchange) → at ≤ now → InOrder last t.exchanges → IsOrderly events → NoneAfter now events
-    → StandsFor at events t → None ≡ repeat_among now peer mid t.exchanges → left ≡ young now t.exchanges → 4_096 ≤ length left → keyed.FullExchanges ≡ keyed_by now peer mid events
+    → ExchangesStandFor at events t → None ≡ repeat_among now peer mid t.exchanges → left ≡ young now t.exchanges → 4_096 ≤ length left → keyed.FullExchanges ≡ keyed_by now peer mid events
 full_answers at now peer mid last events t left h order orderly in_time stands none aged full =
-    let later = StandsFor-later at now events t h stands in
+    let later = ExchangesStandFor-later at now events t h stands in
     let many = length-kept now events t later in
     let as_many = ap length aged in
     let yes : is_full_of_exchanges now events ≡ true = grind (arith, many, as_many, full) in
     ap keyed_new (sym yes) ∙ no_repeat now peer mid last events t order orderly in_time later none
 
 pub fresh_answers : (at now : ℕ) (peer : Peer) (mid last : ℕ) (events : List Event) (t : Table) (left : List Exchange) → at ≤ now → InOrder last t.exchanges → IsOrderly events → NoneAfter now events
-    → StandsFor at events t → None ≡ repeat_among now peer mid t.exchanges → left ≡ young now t.exchanges → length left < 4_096 → keyed.Fresh ≡ keyed_by now peer mid events
+    → ExchangesStandFor at events t → None ≡ repeat_among now peer mid t.exchanges → left ≡ young now t.exchanges → length left < 4_096 → keyed.Fresh ≡ keyed_by now peer mid events
 fresh_answers at now peer mid last events t left h order orderly in_time stands none aged room =
-    let later = StandsFor-later at now events t h stands in
+    let later = ExchangesStandFor-later at now events t h stands in
     let many = length-kept now events t later in
     let as_many = ap length aged in
     let not_full : is_full_of_exchanges now events ≡ false = grind (arith, many, as_many, room) in
@@ -154,14 +154,14 @@ all_of : (xs : List Event) → filter (λ a. true) xs ≡ xs
 all_of xs = filter_all (λ a. true) xs (each_one (λ a. true ≡ true) (λ a. refl) xs)
 
 -- none
-pub StandsFor-none : (at : ℕ) (t : Table) → t.exchanges ≡ [] → StandsFor at [] t
+pub ExchangesStandFor-none : (at : ℕ) (t : Table) → t.exchanges ≡ [] → ExchangesStandFor at [] t
 unfolding exchanges_at kept admissions
-StandsFor-none at t none = record { kept = ap (young at) none }
+ExchangesStandFor-none at t none = record { kept = ap (young at) none }
 
 -- one that tells nothing of exchanges
-pub StandsFor-aside : (at : ℕ) (e : Event) (events : List Event) (t : Table) → is_aside e.note ≡ true → StandsFor at events t → StandsFor at (e ∷ events) t
+pub ExchangesStandFor-aside : (at : ℕ) (e : Event) (events : List Event) (t : Table) → is_aside e.note ≡ true → ExchangesStandFor at events t → ExchangesStandFor at (e ∷ events) t
 unfolding exchanges_at kept admissions
-StandsFor-aside at e events t aside stands = record { kept = stands.kept ∙ sym (same-exchanges e events here (each_one (λ a. answer_noted a.place e.note ≡ None) (λ a. silent a.place e.note aside) here) ∙ refl) ∙ sym (same e.note aside) }
+ExchangesStandFor-aside at e events t aside stands = record { kept = stands.kept ∙ sym (same-exchanges e events here (each_one (λ a. answer_noted a.place e.note ≡ None) (λ a. silent a.place e.note aside) here) ∙ refl) ∙ sym (same e.note aside) }
   where
     here : List Event
     here = filter (λ a. is_young at a.moment) (admissions events)
@@ -196,10 +196,10 @@ in_flight now peer mid e events is at new =
     (ap (λ reply. exchange_by e.moment reply (note.Admitted peer mid)) (unsettled e.place events new) ∙ ap (λ m. Some (just_admitted peer mid m)) at)
 
 -- one that admits a write
-pub StandsFor-admitted : (now : ℕ) (peer : Peer) (mid : ℕ) (e : Event) (events : List Event) (t more : Table) → e.note ≡ note.Admitted peer mid → e.moment ≡ now → IsNewPlace e.place events
-    → more.exchanges ≡ record { peer = peer; mid = mid; admitted = record { 0 = now }; reply = None } ∷ t.exchanges → StandsFor now events t → StandsFor now (e ∷ events) more
+pub ExchangesStandFor-admitted : (now : ℕ) (peer : Peer) (mid : ℕ) (e : Event) (events : List Event) (t more : Table) → e.note ≡ note.Admitted peer mid → e.moment ≡ now → IsNewPlace e.place events
+    → more.exchanges ≡ record { peer = peer; mid = mid; admitted = record { 0 = now }; reply = None } ∷ t.exchanges → ExchangesStandFor now events t → ExchangesStandFor now (e ∷ events) more
 unfolding exchanges_at kept admissions just_admitted
-StandsFor-admitted now peer mid e events t more is at new added stands = record {
+ExchangesStandFor-admitted now peer mid e events t more is at new added stands = record {
   kept = ap (young now) added ∙ (rw (fresh now) (ap (λ xs. just_admitted peer mid now ∷ xs) stands.kept) ∙ sym there);
 }
   where
@@ -225,10 +225,10 @@ StandsFor-admitted now peer mid e events t more is at new added stands = record 
         ∙ ap (λ xs. just_admitted peer mid now ∷ xs) (same-exchanges e events here (each_one (λ a. answer_noted a.place e.note ≡ None) (λ a. silent a.place) here)))))
 
 -- one that settles a write
-pub StandsFor-settled : (at place : ℕ) (peer : Peer) (mid admitted : ℕ) (reply : List ℕ) (e : Event) (events : List Event) (t more : Table) → e.note ≡ note.Settled place reply → IsOrderly events
-    → HasAdmission place peer mid admitted events → more.exchanges ≡ answered_first (is_admitted_at peer mid admitted) reply t.exchanges → StandsFor at events t → StandsFor at (e ∷ events) more
+pub ExchangesStandFor-settled : (at place : ℕ) (peer : Peer) (mid admitted : ℕ) (reply : List ℕ) (e : Event) (events : List Event) (t more : Table) → e.note ≡ note.Settled place reply → IsOrderly events
+    → HasAdmission place peer mid admitted events → more.exchanges ≡ answered_first (is_admitted_at peer mid admitted) reply t.exchanges → ExchangesStandFor at events t → ExchangesStandFor at (e ∷ events) more
 unfolding exchanges_at kept admissions
-StandsFor-settled at place peer mid admitted reply e events t more is orderly there changed stands = record {
+ExchangesStandFor-settled at place peer mid admitted reply e events t more is orderly there changed stands = record {
   kept =
       ap (young at) changed
       ∙ (young-answered at peer mid admitted reply t.exchanges
@@ -251,10 +251,10 @@ StandsFor-settled at place peer mid admitted reply e events t more is orderly th
         ≡ filter_map (exchange_of (e ∷ events)) here) (sym is) (rw (all_of (admissions events)) refl)
 
 -- one that ends a write for want of memory
-pub StandsFor-failed : (at place : ℕ) (peer : Peer) (mid admitted : ℕ) (e : Event) (events : List Event) (t fewer : Table) → e.note ≡ note.Failed place → IsOrderly events
-    → HasAdmission place peer mid admitted events → fewer.exchanges ≡ without_first (is_admitted_at peer mid admitted) t.exchanges → StandsFor at events t → StandsFor at (e ∷ events) fewer
+pub ExchangesStandFor-failed : (at place : ℕ) (peer : Peer) (mid admitted : ℕ) (e : Event) (events : List Event) (t fewer : Table) → e.note ≡ note.Failed place → IsOrderly events
+    → HasAdmission place peer mid admitted events → fewer.exchanges ≡ without_first (is_admitted_at peer mid admitted) t.exchanges → ExchangesStandFor at events t → ExchangesStandFor at (e ∷ events) fewer
 unfolding exchanges_at kept admissions
-StandsFor-failed at place peer mid admitted e events t fewer is orderly there changed stands = record {
+ExchangesStandFor-failed at place peer mid admitted e events t fewer is orderly there changed stands = record {
   kept =
       ap (young at) changed
       ∙ (young-without at peer mid admitted t.exchanges

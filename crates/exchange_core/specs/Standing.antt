@@ -25,7 +25,7 @@ unfoldable pub exchanges_at : ℕ → List Event → List Exchange
 exchanges_at moment events = filter_map (exchange_of events) (kept moment events)
 
 -- a table stands for events at a moment: of its exchanges those that are young then are those that are kept then, with their answers
-pub record StandsFor (moment : ℕ) (events : List Event) (t : Table) : Type 0 where
+pub record ExchangesStandFor (moment : ℕ) (events : List Event) (t : Table) : Type 0 where
   pub kept : young moment t.exchanges ≡ exchanges_at moment events
 
 -- no event is later than a moment

@@ -15,7 +15,4 @@ pub mod ListingLaws
 pub mod GoneLaws
 pub mod OnLiterals
 pub mod Samples
-mod LeaseExamples
-mod ListingExamples
-mod LimitExamples
-mod TextExamples
+mod examples

@@ -5,8 +5,8 @@ use Rattle.std.proofs.lemmas.Bool.{true≢false, leb-false, ltb-false, false_fro
 use Rattle.std.proofs.lemmas.List.{length-map}
 use Rattle.rd_base.specs.declared.records.Name.{Name}
 use Rattle.rd_base.specs.declared.records.Record.{Record}
-use Rattle.document_model.specs.ListingLines.{weight}
-use Rattle.document_model.specs.Records.{registered, updated}
+use Rattle.record_model.specs.ListingLines.{weight}
+use Rattle.record_model.specs.Records.{registered, updated}
 use Rattle.history_model.specs.declared.entries.Change.{Change}
 use Rattle.history_model.specs.declared.entries.Change.TheVariants as change
 use Rattle.history_model.specs.declared.entries.Entry.{Entry}

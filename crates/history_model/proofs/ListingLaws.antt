@@ -4,8 +4,8 @@ use Rattle.std.proofs.lemmas.List.{map-append}
 use Rattle.std.proofs.lemmas.List.Sums.{sum_by-cons, sum_by-append}
 use Rattle.rd_base.specs.declared.queries.Query.{Query}
 use Rattle.rd_base.specs.declared.records.Record.{Record}
-use Rattle.document_model.specs.ListingLines.{part, weight}
-use Rattle.document_model.proofs.Weights.{room_of, length-shown, room_of-part}
+use Rattle.record_model.specs.ListingLines.{part, weight}
+use Rattle.record_model.proofs.Weights.{room_of, length-shown, room_of-part}
 use Rattle.history_model.specs.declared.entries.Entry.{Entry}
 use Rattle.history_model.specs.Live.{live, last_moment}
 use Rattle.history_model.specs.Listing.{numbered_part, lines_of, all_lines, listing}

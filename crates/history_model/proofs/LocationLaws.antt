@@ -6,7 +6,7 @@ use Rattle.rd_base.specs.declared.parameters.RegParams.{RegParams}
 use Rattle.rd_base.specs.declared.records.Name.{Name}
 use Rattle.rd_base.specs.declared.records.Record.{Record}
 use Rattle.rd_base.specs.declared.submitted.SubmittedLink.{SubmittedLink}
-use Rattle.document_model.specs.Records.{registered}
+use Rattle.record_model.specs.Records.{registered}
 use Rattle.history_model.specs.declared.entries.Change.TheVariants as change
 use Rattle.history_model.specs.declared.entries.Entry.{Entry}
 use Rattle.history_model.specs.Replay.{State, is_numbered, is_live_named, number_named, number_for, with_changed, registered_under, changed, apply}

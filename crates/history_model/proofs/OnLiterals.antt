@@ -1,6 +1,6 @@
 -- What an example unfolds, so that histories compute on octets that are written out.
 use Rattle.std.specs.Prelude.{⊤}
-use Rattle.document_model.proofs.RecordLiterals.{record_on_literals}
+use Rattle.record_model.proofs.RecordLiterals.{record_on_literals}
 use Rattle.history_model.specs.Replay.{apply, replay}
 use Rattle.history_model.specs.Live.{live, last_moment}
 use Rattle.history_model.specs.Listing.{all_lines, listing, lapsed_since, tag_from}

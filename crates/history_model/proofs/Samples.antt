@@ -3,9 +3,9 @@ use Rattle.std.proofs.Common.{ℕ, List, [], ◌∷◌, map, codes, unwrap_or}
 use Rattle.rd_base.specs.declared.peers.Host.TheVariants as host
 use Rattle.rd_base.specs.declared.peers.Peer.{Peer}
 use Rattle.rd_base.specs.declared.queries.Kind.TheVariants as kind
-use Rattle.document_model.specs.Bodies.{linked_references}
-use Rattle.document_model.specs.Parameters.{registration_values, update_values}
-use Rattle.document_model.specs.Criteria.{lookup_values}
+use Rattle.record_model.specs.Bodies.{linked_references}
+use Rattle.record_model.specs.Parameters.{registration_values, update_values}
+use Rattle.record_model.specs.Criteria.{lookup_values}
 use Rattle.history_model.specs.declared.entries.Change.TheVariants as change
 use Rattle.history_model.specs.declared.entries.Entry.{Entry}
 use Rattle.history_model.specs.Live.{live}

@@ -5,7 +5,7 @@ use Rattle.std.proofs.lemmas.Bool.Decides.{nat_tests}
 use Rattle.std.proofs.lemmas.List.Filters.{length-filter_both}
 use Rattle.rd_base.specs.declared.queries.Query.{Query}
 use Rattle.rd_base.specs.declared.records.Record.{Record}
-use Rattle.document_model.specs.ListingLines.{shown}
+use Rattle.record_model.specs.ListingLines.{shown}
 use Rattle.history_model.specs.declared.entries.Entry.{Entry}
 use Rattle.history_model.specs.Leases.{lapse, is_live_at, live_among}
 use Rattle.history_model.specs.Replay.{replay}

@@ -8,7 +8,7 @@ use Rattle.rd_base.specs.declared.queries.Query.{Query}
 use Rattle.rd_base.specs.declared.records.Name.{Name}
 use Rattle.rd_base.specs.declared.records.Record.{Record}
 use Rattle.rd_base.specs.declared.submitted.SubmittedLink.{SubmittedLink}
-use Rattle.document_model.specs.Records.{registered, updated}
+use Rattle.record_model.specs.Records.{registered, updated}
 use Rattle.history_model.specs.declared.entries.Change.{Change}
 use Rattle.history_model.specs.declared.entries.Change.TheVariants as change
 use Rattle.history_model.specs.declared.entries.Entry.{Entry}
@@ -18,7 +18,7 @@ use Rattle.history_model.specs.Live.{live, last_moment}
 use Rattle.history_model.specs.Listing.{lines_of, all_lines, lapsed_since, tag_octets, tag_from}
 use Rattle.history_model.specs.Legal.{IsLegalFrom, IsLasting}
 use Rattle.history_model.specs.Refusals.{is_gone, only_live, refusal_in, change_refusal}
-use Rattle.history_model.specs.Versions.{Version, state_of, StandsFor}
+use Rattle.history_model.specs.Versions.{Version, state_of, VersionStandsFor}
 use Rattle.history_model.proofs.Pairs.{each_weaker, each_both, each_map, each_filter, each_push, each_passes, pairs_filter}
 use Rattle.history_model.proofs.Lists.{filter_all, filter_stronger}
 use Rattle.history_model.proofs.ReplayLaws.{replay_push, last_moment_push}
@@ -112,50 +112,50 @@ apply-only_live swept state entries entry numbered e lasts order granted =
 abbrev pub empty_version : ℕ → Version
 empty_version first = record { records = []; entries = first; at = 0; drawn = 0; swept_live = 0; swept = 0 }
 
-pub empty-StandsFor : (first : ℕ) → StandsFor first [] (empty_version first)
+pub empty-VersionStandsFor : (first : ℕ) → VersionStandsFor first [] (empty_version first)
 unfolding replay last_moment lapsed_since live
-empty-StandsFor first = record { records = refl; entries = omega arith; at = refl; drawn = refl; swept_live = refl }
+empty-VersionStandsFor first = record { records = refl; entries = omega arith; at = refl; drawn = refl; swept_live = refl }
 
 -- what a version has made is what its history made, without what had lapsed
-pub state_of-StandsFor : (first : ℕ) (history : List Entry) (version : Version) → StandsFor first history version → state_of version ≡ only_live version.swept (replay history)
-state_of-StandsFor first history version stands = ap₂ made stands.drawn stands.records
+pub state_of-VersionStandsFor : (first : ℕ) (history : List Entry) (version : Version) → VersionStandsFor first history version → state_of version ≡ only_live version.swept (replay history)
+state_of-VersionStandsFor first history version stands = ap₂ made stands.drawn stands.records
   where
     made : ℕ → List Record → State
     made drawn records = record { records = records; drawn = drawn }
 
 -- it refuses what its history refuses, at moments not below its sweep
-pub change_refusal-StandsFor : (first : ℕ) (history : List Entry) (version : Version) (entry : Entry) → StandsFor first history version → version.swept ≤ entry.moment.0
+pub change_refusal-VersionStandsFor : (first : ℕ) (history : List Entry) (version : Version) (entry : Entry) → VersionStandsFor first history version → version.swept ≤ entry.moment.0
     → refusal_in (state_of version) version.entries entry ≡ change_refusal first history entry
 unfolding change_refusal
-change_refusal-StandsFor first history version entry stands order =
-    ap₂ (λ state entries. refusal_in state entries entry) (state_of-StandsFor first history version stands) stands.entries ∙ refusal_in-only_live version.swept (replay history) (first + length history) entry order
+change_refusal-VersionStandsFor first history version entry stands order =
+    ap₂ (λ state entries. refusal_in state entries entry) (state_of-VersionStandsFor first history version stands) stands.entries ∙ refusal_in-only_live version.swept (replay history) (first + length history) entry order
 
 -- the same number of a name
-pub number_named-StandsFor : (first : ℕ) (history : List Entry) (version : Version) (name : Name) (moment : ℕ) → StandsFor first history version → version.swept ≤ moment
+pub number_named-VersionStandsFor : (first : ℕ) (history : List Entry) (version : Version) (name : Name) (moment : ℕ) → VersionStandsFor first history version → version.swept ≤ moment
     → number_named name moment version.records ≡ number_named name moment (replay history).records
-number_named-StandsFor first history version name moment stands order = ap (number_named name moment) stands.records ∙ number_named-live version.swept moment name (replay history).records order
+number_named-VersionStandsFor first history version name moment stands order = ap (number_named name moment) stands.records ∙ number_named-live version.swept moment name (replay history).records order
 
-pub number_for-StandsFor : (first : ℕ) (history : List Entry) (version : Version) (name : Name) (moment : ℕ) → StandsFor first history version → version.swept ≤ moment
+pub number_for-VersionStandsFor : (first : ℕ) (history : List Entry) (version : Version) (name : Name) (moment : ℕ) → VersionStandsFor first history version → version.swept ≤ moment
     → number_for name moment (state_of version) ≡ number_for name moment (replay history)
-number_for-StandsFor first history version name moment stands order = ap (number_for name moment) (state_of-StandsFor first history version stands)
+number_for-VersionStandsFor first history version name moment stands order = ap (number_for name moment) (state_of-VersionStandsFor first history version stands)
     ∙ ap (λ (o : Option ℕ). unwrap_or o ((replay history).drawn + 1)) (number_named-live version.swept moment name (replay history).records order)
 
 -- the same live records
-pub live-StandsFor : (first : ℕ) (history : List Entry) (version : Version) (moment : ℕ) → StandsFor first history version → version.swept ≤ moment → live_among moment version.records ≡ live history moment
+pub live-VersionStandsFor : (first : ℕ) (history : List Entry) (version : Version) (moment : ℕ) → VersionStandsFor first history version → version.swept ≤ moment → live_among moment version.records ≡ live history moment
 unfolding live
-live-StandsFor first history version moment stands order = ap (live_among moment) stands.records ∙ live_among_live version.swept moment (replay history).records order
+live-VersionStandsFor first history version moment stands order = ap (live_among moment) stands.records ∙ live_among_live version.swept moment (replay history).records order
 
 -- the same records lapse after a moment that is not below its sweep, and up to a later one
-pub lapsing-StandsFor : (first : ℕ) (history : List Entry) (version : Version) (from to : ℕ) → StandsFor first history version → version.swept ≤ from
+pub lapsing-VersionStandsFor : (first : ℕ) (history : List Entry) (version : Version) (from to : ℕ) → VersionStandsFor first history version → version.swept ≤ from
     → lapsing_among from to version.records ≡ lapsing_among from to (replay history).records
-lapsing-StandsFor first history version from to stands order = ap (lapsing_among from to) stands.records
+lapsing-VersionStandsFor first history version from to stands order = ap (lapsing_among from to) stands.records
     ∙ filter_stronger (λ r. nat_lt from (lapse r) && nat_le (lapse r) to) (is_live_at version.swept) (λ r both. is_live_before version.swept from r order (and_parts (nat_lt from (lapse r)) (nat_le (lapse r) to) both).0) (replay history).records
 
 -- the same lines
-pub all_lines-StandsFor : (first : ℕ) (history : List Entry) (version : Version) (query : Query) (moment : ℕ) → StandsFor first history version → version.swept ≤ moment
+pub all_lines-VersionStandsFor : (first : ℕ) (history : List Entry) (version : Version) (query : Query) (moment : ℕ) → VersionStandsFor first history version → version.swept ≤ moment
     → lines_of query (live_among moment version.records) ≡ all_lines query history moment
 unfolding all_lines
-all_lines-StandsFor first history version query moment stands order = ap (lines_of query) (live-StandsFor first history version moment stands order)
+all_lines-VersionStandsFor first history version query moment stands order = ap (lines_of query) (live-VersionStandsFor first history version moment stands order)
 
 -- ---- an entry more
 
@@ -179,13 +179,13 @@ none_lapsed swept moment records order = none (live_among moment records) (each_
     none (r ∷ rs) live = let above : moment < lapse r = ltb-true _ _ (live.0) in let later : nat_le (lapse r) swept ≡ false = lt-leb _ _ (omega arith) in rw later (none rs live.1)
 
 -- behind an entry that is not refused a version stands for the history with that entry
-pub with_entry-StandsFor : (first : ℕ) (history : List Entry) (version : Version) (entry : Entry) → IsLegalFrom first history → last_moment history ≤ entry.moment.0 → change_refusal first history entry ≡ None → IsLasting entry.change
-    → StandsFor first history version → version.swept ≤ entry.moment.0 → StandsFor first (history ++ entry ∷ []) (with_entry version entry)
+pub with_entry-VersionStandsFor : (first : ℕ) (history : List Entry) (version : Version) (entry : Entry) → IsLegalFrom first history → last_moment history ≤ entry.moment.0 → change_refusal first history entry ≡ None → IsLasting entry.change
+    → VersionStandsFor first history version → version.swept ≤ entry.moment.0 → VersionStandsFor first (history ++ entry ∷ []) (with_entry version entry)
 unfolding change_refusal lapsed_since live
-with_entry-StandsFor first history version entry legal in_time accepted lasts stands order =
+with_entry-VersionStandsFor first history version entry legal in_time accepted lasts stands order =
     let before = replay history in
     let granted = each_weaker (IsGrantedBy (last_moment history)) (IsGrantedBy entry.moment.0) (λ r by_then. omega arith) before.records (replay-IsGrantedBy first history legal) in
-    let made : apply (state_of version) entry ≡ only_live version.swept (apply before entry) = ap (λ state. apply state entry) (state_of-StandsFor first history version stands)
+    let made : apply (state_of version) entry ≡ only_live version.swept (apply before entry) = ap (λ state. apply state entry) (state_of-VersionStandsFor first history version stands)
     ∙ apply-only_live version.swept before (first + length history) entry (replay-HasRisingNumbers history) accepted lasts order granted in
     let whole : only_live version.swept (apply before entry) ≡ only_live version.swept (replay (history ++ entry ∷ [])) = ap (only_live version.swept) (sym (replay_push history entry)) in
     let more = length-append history (entry ∷ []) in
@@ -220,19 +220,19 @@ lapsed_split last swept moment order (r ∷ rs) = by (nat_lt last (lapse r)) (na
     by false false c true ea eb ec ed more = rw ea more
 
 -- of a history at a moment not below the sweep of a version, so many have lapsed since its last entry
-pub lapsed_since-StandsFor : (first : ℕ) (history : List Entry) (version : Version) (moment : ℕ) → StandsFor first history version → version.swept ≤ moment
+pub lapsed_since-VersionStandsFor : (first : ℕ) (history : List Entry) (version : Version) (moment : ℕ) → VersionStandsFor first history version → version.swept ≤ moment
     → version.swept_live + lapsed_between version.at moment version.records ≡ lapsed_since history moment
 unfolding lapsed_since live
-lapsed_since-StandsFor first history version moment stands order =
+lapsed_since-VersionStandsFor first history version moment stands order =
     ap₂ (λ (dropped at : ℕ). dropped + lapsed_between at moment version.records) stands.swept_live stands.at
     ∙ ap (λ (records : List Record). lapsed_since history version.swept + lapsed_between (last_moment history) moment records) stands.records
     ∙ lapsed_split (last_moment history) version.swept moment order (replay history).records
 
 -- its tag
-pub tag_from-StandsFor : (first : ℕ) (history : List Entry) (version : Version) (moment : ℕ) → StandsFor first history version → version.swept ≤ moment
+pub tag_from-VersionStandsFor : (first : ℕ) (history : List Entry) (version : Version) (moment : ℕ) → VersionStandsFor first history version → version.swept ≤ moment
     → tag_octets version.entries (version.swept_live + lapsed_between version.at moment version.records) ≡ tag_from first history moment
 unfolding tag_from
-tag_from-StandsFor first history version moment stands order = ap₂ tag_octets stands.entries (lapsed_since-StandsFor first history version moment stands order)
+tag_from-VersionStandsFor first history version moment stands order = ap₂ tag_octets stands.entries (lapsed_since-VersionStandsFor first history version moment stands order)
 
 -- a version behind a sweep
 abbrev pub swept_to : ℕ → Version → Version
@@ -243,11 +243,11 @@ swept_to moment version = record version {
 }
 
 -- behind a sweep a version stands for the same history
-pub swept_to-StandsFor : (first : ℕ) (history : List Entry) (version : Version) (moment : ℕ) → StandsFor first history version → version.swept ≤ moment → StandsFor first history (swept_to moment version)
-swept_to-StandsFor first history version moment stands order = record {
+pub swept_to-VersionStandsFor : (first : ℕ) (history : List Entry) (version : Version) (moment : ℕ) → VersionStandsFor first history version → version.swept ≤ moment → VersionStandsFor first history (swept_to moment version)
+swept_to-VersionStandsFor first history version moment stands order = record {
   records = ap (live_among moment) stands.records ∙ live_among_live version.swept moment (replay history).records order;
   entries = stands.entries;
   at = stands.at;
   drawn = stands.drawn;
-  swept_live = lapsed_since-StandsFor first history version moment stands order;
+  swept_live = lapsed_since-VersionStandsFor first history version moment stands order;
 }

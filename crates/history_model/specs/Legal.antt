@@ -1,7 +1,7 @@
 -- Legal histories: moments do not fall, no body is refused, and no entry is refused behind those before it.
 use Rattle.std.specs.Prelude.{◌≡◌, ℕ, false, ◌<◌, ◌≤◌, List, ◌∷◌, ◌++◌, Some, None, IfSome, ⊤}
-use Rattle.document_model.specs.Bodies.{linked_references}
-use Rattle.document_model.specs.Refusals.{is_refused_as_limited}
+use Rattle.record_model.specs.Bodies.{linked_references}
+use Rattle.record_model.specs.Refusals.{is_refused_as_limited}
 use Rattle.history_model.specs.declared.entries.Change.{Change}
 use Rattle.history_model.specs.declared.entries.Change.TheVariants as change
 use Rattle.history_model.specs.declared.entries.Entry.{Entry}

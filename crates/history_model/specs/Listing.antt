@@ -3,7 +3,7 @@ use Rattle.std.specs.Prelude.{ℕ, ◌+◌, List, ◌++◌, map, filter, flat_ma
 use Rattle.std.specs.Int.{bytes_high_first}
 use Rattle.rd_base.specs.declared.queries.Query.{Query}
 use Rattle.rd_base.specs.declared.records.Record.{Record}
-use Rattle.document_model.specs.ListingLines.{part, shown}
+use Rattle.record_model.specs.ListingLines.{part, shown}
 use Rattle.history_model.specs.declared.entries.Entry.{Entry}
 use Rattle.history_model.specs.Leases.{lapse}
 use Rattle.history_model.specs.Live.{live, last_moment}

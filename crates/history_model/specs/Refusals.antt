@@ -3,7 +3,7 @@ use Rattle.std.specs.Prelude.{ℕ, ◌+◌, ◌-◌, ◌^◌, Bool, false, not, 
 use Rattle.std.specs.List.{list_any}
 use Rattle.rd_base.specs.declared.records.Name.{Name}
 use Rattle.rd_base.specs.declared.records.Record.{Record}
-use Rattle.document_model.specs.ListingLines.{weight}
+use Rattle.record_model.specs.ListingLines.{weight}
 use Rattle.history_model.specs.declared.entries.Change.{Change}
 use Rattle.history_model.specs.declared.entries.Change.TheVariants as change
 use Rattle.history_model.specs.declared.entries.Entry.{Entry}

@@ -23,7 +23,7 @@ state_of version = record { records = version.records; drawn = version.drawn }
 
 -- the version stands for a history, where so many entries were counted before the first: it has the records of the history
 -- that had not lapsed when it was swept, and counts those of the dropped ones that were live after the last entry
-pub record StandsFor (first : ℕ) (history : List Entry) (version : Version) : Type 0 where
+pub record VersionStandsFor (first : ℕ) (history : List Entry) (version : Version) : Type 0 where
   pub records : version.records ≡ live_among version.swept (replay history).records
   pub entries : version.entries ≡ first + length history
   pub at : version.at ≡ last_moment history

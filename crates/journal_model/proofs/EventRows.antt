@@ -9,7 +9,7 @@ use Rattle.event_model.proofs.Noting.{event_at, last_event-before}
 use Rattle.journal_model.specs.declared.rows.Row.{Row}
 use Rattle.journal_model.specs.Journal.{events, row_at}
 use Rattle.journal_model.specs.Headline.{Within, Placed, last_row}
-use Rattle.journal_model.proofs.Either.{eqb-refl}
+use Rattle.rd_base.proofs.lemmas.Numbers.{eqb-refl}
 use Rattle.journal_model.proofs.Among.{Among}
 
 -- ---- notes of a row

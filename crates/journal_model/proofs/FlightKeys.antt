@@ -12,7 +12,7 @@ use Rattle.event_model.specs.Observers.{name_of}
 use Rattle.event_model.specs.Flights.{is_forming_for, notice_mid, is_landing_of, is_again_of, Flight, flight_after, flight}
 use Rattle.event_model.proofs.SameLaws.{is_same_request-refl}
 use Rattle.event_model.proofs.Noting.{event_at}
-use Rattle.journal_model.proofs.Either.{neither}
+use Rattle.rd_base.proofs.lemmas.Booleans.{neither}
 
 -- the Message ID of a notice in flight, and the place of the row that formed it
 abbrev pub key_of : Flight → ℕ × ℕ

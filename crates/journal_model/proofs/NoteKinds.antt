@@ -5,7 +5,7 @@ use Rattle.std.proofs.lemmas.Bool.{and_parts, and_from}
 use Rattle.event_model.specs.declared.notes.Note.{Note}
 use Rattle.event_model.specs.declared.notes.Note.TheVariants as note
 use Rattle.journal_model.specs.Journal.{entry_noted}
-use Rattle.journal_model.proofs.Telling.{told}
+use Rattle.journal_model.proofs.EntriesNoted.{entries_in}
 
 -- of lookups
 abbrev pub of_lookup : Note → Bool
@@ -111,37 +111,37 @@ none_of kind test never (n ∷ notes) h =
     let both = and_parts (kind n) (are kind notes) h in
     rw (never n both.0) (none_of kind test never notes both.1)
 
--- where no note of a kind is an entry, none is told
-pub told_none : (kind : Note → Bool) → ((n : Note) → kind n ≡ true → entry_noted n ≡ None) → (notes : List Note) → are kind notes ≡ true → told notes ≡ []
-told_none kind never [] h = refl
-told_none kind never (n ∷ notes) h =
+-- where no note of a kind is an entry, none is entries_in
+pub entries_in-none : (kind : Note → Bool) → ((n : Note) → kind n ≡ true → entry_noted n ≡ None) → (notes : List Note) → are kind notes ≡ true → entries_in notes ≡ []
+entries_in-none kind never [] h = refl
+entries_in-none kind never (n ∷ notes) h =
     let both = and_parts (kind n) (are kind notes) h in
-    rw (never n both.0) (told_none kind never notes both.1)
+    rw (never n both.0) (entries_in-none kind never notes both.1)
 
 -- lookups, writes as they are heard, empty messages and ticks tell no entry
-pub lookup_told : (notes : List Note) → are of_lookup notes ≡ true → told notes ≡ []
-lookup_told notes h = told_none of_lookup never notes h
+pub lookup-entries_in : (notes : List Note) → are of_lookup notes ≡ true → entries_in notes ≡ []
+lookup-entries_in notes h = entries_in-none of_lookup never notes h
   where
     never : (n : Note) → of_lookup n ≡ true → entry_noted n ≡ None
     never (note.Entered entry) e = absurd (let h : false ≡ true = e in cc)
     never _ e = refl
 
-pub write_told : (notes : List Note) → are of_write notes ≡ true → told notes ≡ []
-write_told notes h = told_none of_write never notes h
+pub write-entries_in : (notes : List Note) → are of_write notes ≡ true → entries_in notes ≡ []
+write-entries_in notes h = entries_in-none of_write never notes h
   where
     never : (n : Note) → of_write n ≡ true → entry_noted n ≡ None
     never (note.Entered entry) e = absurd (let h : false ≡ true = e in cc)
     never _ e = refl
 
-pub empty_told : (notes : List Note) → are of_empty notes ≡ true → told notes ≡ []
-empty_told notes h = told_none of_empty never notes h
+pub empty-entries_in : (notes : List Note) → are of_empty notes ≡ true → entries_in notes ≡ []
+empty-entries_in notes h = entries_in-none of_empty never notes h
   where
     never : (n : Note) → of_empty n ≡ true → entry_noted n ≡ None
     never (note.Entered entry) e = absurd (let h : false ≡ true = e in cc)
     never _ e = refl
 
-pub tick_told : (notes : List Note) → are of_tick notes ≡ true → told notes ≡ []
-tick_told notes h = told_none of_tick never notes h
+pub tick-entries_in : (notes : List Note) → are of_tick notes ≡ true → entries_in notes ≡ []
+tick-entries_in notes h = entries_in-none of_tick never notes h
   where
     never : (n : Note) → of_tick n ≡ true → entry_noted n ≡ None
     never (note.Entered entry) e = absurd (let h : false ≡ true = e in cc)

@@ -5,9 +5,9 @@ use Rattle.event_model.specs.Events.{noted}
 use Rattle.journal_model.specs.declared.steps.Step.{Step}
 use Rattle.journal_model.specs.declared.steps.StepKind.TheVariants as step
 use Rattle.journal_model.specs.declared.rows.Row.{Row}
-use Rattle.journal_model.specs.Journal.{is_desk_row, events, now, latest, turn_of, turns}
+use Rattle.journal_model.specs.Journal.{is_desk_row, events, now, latest, transition_of, transitions}
 use Rattle.journal_model.specs.Ticks.{tick_effects}
-use Rattle.journal_model.specs.Rows.{heard, looked, done, kept_body, effects, moment_of, row}
+use Rattle.journal_model.specs.Rows.{heard, looked, done, kept_body, effects, row_moment, row}
 use Rattle.journal_model.specs.Machine.{MayRun, IsJournal, begun, made, run}
 
 -- a row has its step, whether it met want of memory, and what the step does at its moment
@@ -20,18 +20,18 @@ unfolding row
 row-starved rows s starved = refl
 
 pub row-moment : (rows : List Row) (s : Step) (starved : Bool) → (row rows s starved).moment.0 ≡ max s.handed.0 (latest rows)
-unfolding row moment_of
+unfolding row row_moment
 row-moment rows s starved = refl
 
-pub row-sent : (rows : List Row) (s : Step) (starved : Bool) → (row rows s starved).sent ≡ (effects s.kind starved rows (moment_of rows s) s).sent
+pub row-sent : (rows : List Row) (s : Step) (starved : Bool) → (row rows s starved).sent ≡ (effects s.kind starved rows (row_moment rows s) s).sent
 unfolding row
 row-sent rows s starved = refl
 
-pub row-notes : (rows : List Row) (s : Step) (starved : Bool) → (row rows s starved).notes ≡ (effects s.kind starved rows (moment_of rows s) s).notes
+pub row-notes : (rows : List Row) (s : Step) (starved : Bool) → (row rows s starved).notes ≡ (effects s.kind starved rows (row_moment rows s) s).notes
 unfolding row
 row-notes rows s starved = refl
 
-pub row-drew : (rows : List Row) (s : Step) (starved : Bool) → (row rows s starved).drew ≡ (effects s.kind starved rows (moment_of rows s) s).drew
+pub row-drew : (rows : List Row) (s : Step) (starved : Bool) → (row rows s starved).drew ≡ (effects s.kind starved rows (row_moment rows s) s).drew
 unfolding row
 row-drew rows s starved = refl
 
@@ -65,9 +65,9 @@ pub now-row : (rows : List Row) (r : Row) → now (r ∷ rows) ≡ cond (is_desk
 unfolding now
 now-row rows r = refl
 
-pub turns-row : (rows : List Row) (r : Row) → turns (r ∷ rows) ≡ cond (is_desk_row r) (turn_of r rows ∷ turns rows) (turns rows)
-unfolding turns
-turns-row rows r = refl
+pub transitions-row : (rows : List Row) (r : Row) → transitions (r ∷ rows) ≡ cond (is_desk_row r) (transition_of r rows ∷ transitions rows) (transitions rows)
+unfolding transitions
+transitions-row rows r = refl
 
 -- what comes of steps that may be made one after the other is a journal of the machine
 pub run-IsJournal : (steps : List (Step × Bool)) → MayRun steps [] → IsJournal (run steps)

@@ -16,7 +16,7 @@ use Rattle.journal_model.specs.declared.rows.Row.{Row}
 use Rattle.journal_model.specs.Sending.{Effects, answering}
 use Rattle.message_model.specs.Request.{observe_in}
 use Rattle.message_model.specs.RequestKey.{key_in}
-use Rattle.event_model.specs.Observers.{has_room_for, name_of, observers, is_observer, body_given}
+use Rattle.event_model.specs.Observers.{has_room_for, name_of, observers, is_observer, last_body_formed}
 use Rattle.event_model.specs.Flights.{flight}
 use Rattle.event_model.specs.Fetches.{last_request, fetches}
 use Rattle.journal_model.specs.Journal.{events, entries}
@@ -190,7 +190,7 @@ notices-notes t done quiet = folded (observers (events_with t done)) done quiet
 
     looked : (b : Bool) (so_far : Effects) (o : Observer) → are of_tick (noticed_if b t so_far o).notes ≡ true
     looked false so_far o = refl
-    looked true so_far o = unless (is_given (body_given (name_of o) (events_with t so_far)) (listing_for t o).body) so_far o (listing_for t o)
+    looked true so_far o = unless (is_given (last_body_formed (name_of o) (events_with t so_far)) (listing_for t o).body) so_far o (listing_for t o)
 
     folded : (standing : List Observer) (so_far : Effects) → are of_tick so_far.notes ≡ true → are of_tick (fold (notice_next t) so_far standing).notes ≡ true
     folded [] so_far h = h

@@ -24,16 +24,16 @@ block2_option None = []
 block2_option (Some b) = (table.block2, block_value b) ∷ []
 
 -- the block is told where one was asked for, or where more follow
-abbrev pub told_block : Option Block → Bool → Option Block
-told_block None more = if more then Some (record { num = 0; more = true; szx = szx_of None }) else None
-told_block (Some b) more = Some (record { num = b.num; more = more; szx = b.szx })
+abbrev pub answered_block : Option Block → Bool → Option Block
+answered_block None more = if more then Some (record { num = 0; more = true; szx = szx_of None }) else None
+answered_block (Some b) more = Some (record { num = b.num; more = more; szx = b.szx })
 
 -- 2.05 with a part of a body, which more may follow; 4.00 where the block that was asked for lies behind the end
 abbrev pub part_reply : Option (List ℕ) → Option ℕ → Option Block → Option (List ℕ × Bool) → Reply
 part_reply tag observe asked None = diagnostic codes_of.bad_request (codes "block")
 part_reply tag observe asked (Some part) = record {
   code = codes_of.content;
-  options = tag_option tag ++ (observe_option observe ++ ((table.content_format, uint_bytes link_format) ∷ block2_option (told_block asked part.1)));
+  options = tag_option tag ++ (observe_option observe ++ ((table.content_format, uint_bytes link_format) ∷ block2_option (answered_block asked part.1)));
   payload = part.0;
 }
 

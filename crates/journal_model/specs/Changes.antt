@@ -6,8 +6,8 @@ use Rattle.rd_base.specs.declared.submitted.SubmittedLink.{SubmittedLink}
 use Rattle.message_model.specs.Codes as codes_of
 use Rattle.message_model.specs.OptionTable as table
 use Rattle.message_model.specs.Message.{Opt}
-use Rattle.document_model.specs.Bodies.{linked_references}
-use Rattle.document_model.specs.Refusals.{first_unlimited}
+use Rattle.record_model.specs.Bodies.{linked_references}
+use Rattle.record_model.specs.Refusals.{first_unlimited}
 use Rattle.history_model.specs.declared.entries.Change.{Change}
 use Rattle.history_model.specs.declared.entries.Change.TheVariants as change
 use Rattle.history_model.specs.declared.entries.Entry.{Entry}

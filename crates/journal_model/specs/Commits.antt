@@ -11,7 +11,7 @@ use Rattle.message_model.specs.OptionTable as table
 use Rattle.message_model.specs.Blocks.{block_value}
 use Rattle.message_model.specs.Request.{path_in, queries_in}
 use Rattle.message_model.specs.Spelling.{spelling}
-use Rattle.document_model.specs.Parameters.{registration_values, update_values}
+use Rattle.record_model.specs.Parameters.{registration_values, update_values}
 use Rattle.history_model.specs.declared.entries.Change.TheVariants as change
 use Rattle.event_model.specs.declared.notes.Note.TheVariants as note
 use Rattle.event_model.specs.Events.{Event}

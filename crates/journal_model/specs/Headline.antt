@@ -20,12 +20,12 @@ use Rattle.event_model.specs.Same.{RequestName, is_same_peer, is_same_request}
 use Rattle.event_model.specs.Events.{exchange_lifetime, has_event}
 use Rattle.event_model.specs.Repeats.{is_admission_of, is_failure_of}
 use Rattle.event_model.specs.KeptAnswers.{answer_kept}
-use Rattle.event_model.specs.Observers.{name_of, observers, body_given}
+use Rattle.event_model.specs.Observers.{name_of, observers, last_body_formed}
 use Rattle.event_model.specs.Due.{is_due}
 use Rattle.journal_model.specs.declared.steps.StepKind.{StepKind}
 use Rattle.journal_model.specs.declared.steps.StepKind.TheVariants as step
 use Rattle.journal_model.specs.declared.rows.Row.{Row}
-use Rattle.journal_model.specs.Journal.{is_look, events, entries, entries_of, now, turns}
+use Rattle.journal_model.specs.Journal.{is_look, events, entries, entries_of, now, transitions}
 use Rattle.journal_model.specs.Requests.{is_lookup, is_look_request, query_of}
 use Rattle.journal_model.specs.Looks.{names_tag}
 use Rattle.journal_model.specs.Meantime.{is_location}
@@ -84,7 +84,7 @@ pub record HoldsEachOnce (rows : List Row) : Type 0 where
   pub single : (before : List Row) (r : Row) → Within rows before r → length (entries_of r) ≤ 1
   pub origin : (before : List Row) (r : Row) → Within rows before r → 0 < length (entries_of r)
       → ((place : ℕ) × Commits r place) ⊎ IsCompletion r
-  pub told : (before : List Row) (r : Row) (place : ℕ) → Within rows before r → Commits r place → tells_change r ≡ true → length (entries_of r) ≡ 1
+  pub answered : (before : List Row) (r : Row) (place : ℕ) → Within rows before r → Commits r place → tells_change r ≡ true → length (entries_of r) ≡ 1
   pub untold : (before : List Row) (r : Row) (place : ℕ) → Within rows before r → Commits r place → tells_change r ≡ false → entries_of r ≡ []
   pub once : (before earlier : List Row) (r other : Row) (place : ℕ) → Within rows before r → Within before earlier other → Commits r place → Commits other place → ⊥
   pub failed : (before earlier : List Row) (r other : Row) (peer : Peer) (mid : ℕ) → Within rows before r → Within before earlier other
@@ -197,8 +197,8 @@ pub record TagsTellStates (rows : List Row) : Type 0 where
 
 -- An observer with no notice due was last given the listing now.
 pub record ObserversKnow (rows : List Row) : Type 0 where
-  pub given : (o : Observer) → IsAmong (observers (events rows)) o → is_due o (events rows) (turns rows) ≡ false
-      → body_given (name_of o) (events rows) ≡ Some (listing o.query (entries rows) (now rows))
+  pub given : (o : Observer) → IsAmong (observers (events rows)) o → is_due o (events rows) (transitions rows) ≡ false
+      → last_body_formed (name_of o) (events rows) ≡ Some (listing o.query (entries rows) (now rows))
 
 -- What holds of every journal of the machine.
 pub record Headline (rows : List Row) : Type 0 where

@@ -4,7 +4,7 @@ use Rattle.history_model.specs.declared.entries.Entry.{Entry}
 use Rattle.event_model.specs.declared.notes.Note.{Note}
 use Rattle.event_model.specs.declared.notes.Note.TheVariants as note
 use Rattle.event_model.specs.Events.{Event, noted}
-use Rattle.event_model.specs.Due.{Turn}
+use Rattle.event_model.specs.Due.{Transition}
 use Rattle.journal_model.specs.declared.steps.StepKind.{StepKind}
 use Rattle.journal_model.specs.declared.steps.StepKind.TheVariants as step
 use Rattle.journal_model.specs.declared.rows.Row.{Row}
@@ -53,8 +53,8 @@ row_at place [] = None
 row_at place (r ∷ before) = if place == length before then Some r else row_at place before
 
 -- what a row that is none of a look is to observers
-abbrev pub turn_of : Row → List Row → Turn
-turn_of r before = record {
+abbrev pub transition_of : Row → List Row → Transition
+transition_of r before = record {
   place = length before;
   before = entries before;
   moment_before = now before;
@@ -63,6 +63,6 @@ turn_of r before = record {
 }
 
 -- the rows that are none of a look, as observers see them
-unfoldable pub turns : List Row → List Turn
-turns [] = []
-turns (r ∷ before) = if is_desk_row r then turn_of r before ∷ turns before else turns before
+unfoldable pub transitions : List Row → List Transition
+transitions [] = []
+transitions (r ∷ before) = if is_desk_row r then transition_of r before ∷ transitions before else transitions before

@@ -5,7 +5,7 @@ use Rattle.message_model.specs.Message.{Message}
 use Rattle.message_model.specs.Codes as codes_of
 use Rattle.message_model.specs.Request.{path_in, etags_in}
 use Rattle.message_model.specs.RequestKey.{key_in}
-use Rattle.document_model.specs.Discovery.{discovery}
+use Rattle.record_model.specs.Discovery.{discovery}
 use Rattle.history_model.specs.declared.entries.Entry.{Entry}
 use Rattle.history_model.specs.Listing.{listing, tag}
 use Rattle.event_model.specs.declared.notes.Note.TheVariants as note

@@ -19,7 +19,7 @@ use Rattle.journal_model.specs.declared.rows.Row.{Row}
 use Rattle.journal_model.specs.Journal.{entries}
 use Rattle.journal_model.specs.Sending.{Effects, bare, answering}
 use Rattle.journal_model.specs.Requests.{is_lookup, is_discovery, is_heeded, query_of}
-use Rattle.journal_model.specs.Rows.{row, row_with, moment_of}
+use Rattle.journal_model.specs.Rows.{row, row_with, row_moment}
 
 -- 5.01, Not Implemented (RFC 7252 section 5.9.3.2)
 abbrev pub not_implemented : ℕ
@@ -83,7 +83,7 @@ is_heard step.Look = true
 is_heard _ = false
 
 abbrev pub row_unless : Bool → List Row → Step → Bool → Row
-row_unless true rows s starved = row_with s (moment_of rows s) starved (left_out s (reading s.datagram))
+row_unless true rows s starved = row_with s (row_moment rows s) starved (left_out s (reading s.datagram))
 row_unless false rows s starved = row rows s starved
 
 -- the row of a step where some requests are not served
@@ -91,7 +91,7 @@ unfoldable pub row_where : (Message → ℕ → Bool) → List Row → Step → 
 row_where not_served rows s starved =
     row_unless
     (is_heard s.kind
-    && (is_left_out_of not_served (reading s.datagram) || is_too_long not_served s.kind rows (moment_of rows s) (reading s.datagram)))
+    && (is_left_out_of not_served (reading s.datagram) || is_too_long not_served s.kind rows (row_moment rows s) (reading s.datagram)))
     rows s starved
 
 -- the row of a step in the meantime

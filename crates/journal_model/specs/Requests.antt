@@ -12,10 +12,10 @@ use Rattle.message_model.specs.Codes as codes_of
 use Rattle.message_model.specs.Blocks.{block_read}
 use Rattle.message_model.specs.Request.{path_in, queries_in, observe_in, block1_in, block2_in}
 use Rattle.message_model.specs.Refusals.{refusal_of, refusal_code, refusal_word}
-use Rattle.document_model.specs.declared.readings.Reading.{Reading}
-use Rattle.document_model.specs.declared.readings.Reading.TheVariants as reading
-use Rattle.document_model.specs.Characters.{is_empty}
-use Rattle.document_model.specs.Criteria.{fault_of, lookup_values}
+use Rattle.record_model.specs.declared.readings.Reading.{Reading}
+use Rattle.record_model.specs.declared.readings.Reading.TheVariants as reading
+use Rattle.link_model.specs.Characters.{is_empty}
+use Rattle.record_model.specs.Criteria.{fault_of, lookup_values}
 use Rattle.journal_model.specs.Sending.{Reply, diagnostic}
 
 -- as what the query options of a request are read; those of a removal are not read
@@ -42,20 +42,20 @@ abbrev pub has_bad_payload : Message → Bool
 has_bad_payload m = takes_no_payload (path_in m) m.code && not (is_empty m.payload)
 
 -- the refusal of the query, and else that of the payload
-abbrev pub later_refusal : Message → Option Reply
-later_refusal m =
+abbrev pub refusal_of_query_or_payload : Message → Option Reply
+refusal_of_query_or_payload m =
     if has_bad_query m then Some (diagnostic codes_of.bad_request (codes "query"))
     else if has_bad_payload m then Some (diagnostic codes_of.bad_request (codes "payload"))
     else None
 
 -- a refusal as an answer, or else the refusal of query or payload
-abbrev pub refusal_or_later : Option Refusal → Message → Option Reply
-refusal_or_later (Some refusal) m = Some (diagnostic (refusal_code refusal) (refusal_word refusal))
-refusal_or_later None m = later_refusal m
+abbrev pub refusal_or_next : Option Refusal → Message → Option Reply
+refusal_or_next (Some refusal) m = Some (diagnostic (refusal_code refusal) (refusal_word refusal))
+refusal_or_next None m = refusal_of_query_or_payload m
 
 -- the first refusal that a request alone decides: option, proxy, path, method, block, accept, format, query, payload
 unfoldable pub refusal_by_request : Message → Option Reply
-refusal_by_request m = refusal_or_later (refusal_of m) m
+refusal_by_request m = refusal_or_next (refusal_of m) m
 
 -- a lookup of resources or of endpoints, and discovery
 abbrev pub is_lookup : Path → Bool

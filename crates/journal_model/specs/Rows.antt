@@ -101,8 +101,8 @@ effects (step.Keep body tag) starved rows moment s = kept_body starved s (readin
 effects step.Tick starved rows moment s = tick_effects starved rows moment s
 
 -- the moment of a step: the greatest that was handed in so far
-unfoldable pub moment_of : List Row → Step → ℕ
-moment_of rows s = max s.handed.0 (latest rows)
+unfoldable pub row_moment : List Row → Step → ℕ
+row_moment rows s = max s.handed.0 (latest rows)
 
 -- what was done as a row
 abbrev pub row_with : Step → ℕ → Bool → Effects → Row
@@ -117,4 +117,4 @@ row_with s moment starved e = record {
 
 -- the row of a step behind a journal, where it met want of memory or did not
 unfoldable pub row : List Row → Step → Bool → Row
-row rows s starved = row_with s (moment_of rows s) starved (effects s.kind starved rows (moment_of rows s) s)
+row rows s starved = row_with s (row_moment rows s) starved (effects s.kind starved rows (row_moment rows s) s)

@@ -11,12 +11,12 @@ use Rattle.event_model.specs.Events.{Event, last_event, last_said}
 use Rattle.event_model.specs.Repeats.{kept, settled}
 use Rattle.event_model.specs.Uploads.{is_piece_of, live_upload, uploads}
 use Rattle.event_model.specs.KeptAnswers.{Answer, max_answers, is_use_of, answer_kept, names_used}
-use Rattle.event_model.specs.Observers.{name_of, observers, is_forming, body_given}
+use Rattle.event_model.specs.Observers.{name_of, observers, is_forming, last_body_formed}
 use Rattle.event_model.specs.Flights.{Flight, deadline, flight}
 use Rattle.event_model.specs.Due.{is_due}
 use Rattle.event_model.specs.Fetches.{Request, is_start, fetches, last_request, request_noted, gathered, collected, tag_of_first, resendings, fetch_deadline}
 use Rattle.journal_model.specs.declared.rows.Row.{Row}
-use Rattle.journal_model.specs.Journal.{events, entries, now, row_at, turns}
+use Rattle.journal_model.specs.Journal.{events, entries, now, row_at, transitions}
 use Rattle.journal_model.specs.Ticks.{sent_by}
 
 -- an exchange that is kept: who wrote, under which Message ID, when, and the octets of the answer, where there is one
@@ -74,8 +74,8 @@ pub record Desk : Type 0 where
   pub started : ℕ
 
 -- the moment of an event, where there is one
-abbrev pub moment_of : Option Event → ℕ
-moment_of e = unwrap_or (option_map (λ e. e.moment) e) 0
+abbrev pub event_moment : Option Event → ℕ
+event_moment e = unwrap_or (option_map (λ e. e.moment) e) 0
 
 -- an admission as an exchange
 abbrev pub exchange_of : List Event → Event → Option Exchange
@@ -91,7 +91,7 @@ exchanges_of rows = filter_map (exchange_of (events rows)) (kept (now rows) (eve
 
 abbrev pub upload_of : ℕ → List Event → RequestName → Option Upload
 upload_of moment events name =
-    option_map (λ body. record { name = name; body = body; moment = moment_of (last_event (is_piece_of name) events) }) (live_upload moment name events)
+    option_map (λ body. record { name = name; body = body; moment = event_moment (last_event (is_piece_of name) events) }) (live_upload moment name events)
 
 -- the uploads that live, in the order in which they began
 unfoldable pub uploads_of : List Row → List Upload
@@ -99,7 +99,7 @@ uploads_of rows = filter_map (upload_of (now rows) (events rows)) (uploads (even
 
 abbrev pub kept_under : List Event → RequestName → Option KeptAnswer
 kept_under events name =
-    option_map (λ answer. record { name = name; answer = answer; moment = moment_of (last_event (is_use_of name) events) }) (last_said (answer_kept name) events)
+    option_map (λ answer. record { name = name; answer = answer; moment = event_moment (last_event (is_use_of name) events) }) (last_said (answer_kept name) events)
 
 -- the answers of the names that were used last, that of the latest use first
 unfoldable pub answers_of : List Row → List KeptAnswer
@@ -120,8 +120,8 @@ notice_sent rows peer f = record {
 abbrev pub watching : List Row → Observer → Watching
 watching rows o = record {
   observer = o;
-  due = is_due o (events rows) (turns rows);
-  given = body_given (name_of o) (events rows);
+  due = is_due o (events rows) (transitions rows);
+  given = last_body_formed (name_of o) (events rows);
   waits = option_map (notice_sent rows o.peer) (flight o (events rows));
 }
 
@@ -153,15 +153,15 @@ unfoldable pub fetches_of : List Row → List Fetch
 fetches_of rows = filter_map (fetch_with rows) (fetches (events rows))
 
 -- how many Observe values were given, and how many fetches started, as 64 bits count
-unfoldable pub values_given : List Row → ℕ
-values_given rows = count_by (λ e. is_forming e.note) (events rows) % 2 ^ 64
+unfoldable pub observe_values : List Row → ℕ
+observe_values rows = count_by (λ e. is_forming e.note) (events rows) % 2 ^ 64
 
 unfoldable pub fetches_started : List Row → ℕ
 fetches_started rows = count_by (λ e. is_start e.note) (events rows) % 2 ^ 64
 
 -- a desk stands for a journal, part by part
-pub record StandsFor (rows : List Row) (desk : Desk) : Type 0 where
-  pub version : versions.StandsFor 0 (entries rows) desk.version
+pub record DeskStandsFor (rows : List Row) (desk : Desk) : Type 0 where
+  pub version : versions.VersionStandsFor 0 (entries rows) desk.version
   pub swept : desk.version.swept ≤ now rows
   pub moment : desk.moment ≡ now rows
   pub exchanges : desk.exchanges ≡ exchanges_of rows
@@ -169,5 +169,5 @@ pub record StandsFor (rows : List Row) (desk : Desk) : Type 0 where
   pub answers : desk.answers ≡ answers_of rows
   pub observers : desk.observers ≡ observers_of rows
   pub fetches : desk.fetches ≡ fetches_of rows
-  pub given : desk.given ≡ values_given rows
+  pub given : desk.given ≡ observe_values rows
   pub started : desk.started ≡ fetches_started rows

@@ -13,13 +13,13 @@ use Rattle.event_model.specs.declared.notes.Observer.{Observer}
 use Rattle.event_model.specs.Same.{is_same_peer}
 use Rattle.event_model.specs.Events.{Event, noted}
 use Rattle.event_model.specs.KeptAnswers.{Answer}
-use Rattle.event_model.specs.Observers.{name_of, observers, observe_value, body_given}
+use Rattle.event_model.specs.Observers.{name_of, observers, observe_value, last_body_formed}
 use Rattle.event_model.specs.Flights.{Flight, max_again, deadline, flight, is_waited_for}
-use Rattle.event_model.specs.Due.{Turn, is_due}
+use Rattle.event_model.specs.Due.{Transition, is_due}
 use Rattle.event_model.specs.Fetches.{Request, fetches, last_request, request_noted, is_waiting, resendings, fetch_deadline}
 use Rattle.journal_model.specs.declared.steps.Step.{Step}
 use Rattle.journal_model.specs.declared.rows.Row.{Row}
-use Rattle.journal_model.specs.Journal.{events, entries, now, row_at, turns}
+use Rattle.journal_model.specs.Journal.{events, entries, now, row_at, transitions}
 use Rattle.journal_model.specs.Sending.{Effects, Reply, nothing, joined, noting, mid_of}
 use Rattle.journal_model.specs.Bodies.{body_reply, is_long}
 
@@ -72,10 +72,10 @@ pub record Ticking : Type 0 where
   pub rows : List Row
   pub moment : ℕ
   pub step : Step
-  pub turns : List Turn
+  pub transitions : List Transition
 
 -- the tick itself is such a row: time passes in it
-abbrev pub turn_of_tick : List Row → ℕ → Turn
+abbrev pub turn_of_tick : List Row → ℕ → Transition
 turn_of_tick rows moment = record {
   place = length rows;
   before = entries rows;
@@ -85,7 +85,7 @@ turn_of_tick rows moment = record {
 }
 
 abbrev pub ticking : List Row → ℕ → Step → Ticking
-ticking rows moment s = record { rows = rows; moment = moment; step = s; turns = turn_of_tick rows moment ∷ turns rows }
+ticking rows moment s = record { rows = rows; moment = moment; step = s; transitions = turn_of_tick rows moment ∷ transitions rows }
 
 -- the events with what the tick noted so far
 abbrev pub events_with : Ticking → Effects → List Event
@@ -136,12 +136,12 @@ listing_for t o = record { body = listing o.query (entries t.rows) t.moment; tag
 abbrev pub noticed_if : Bool → Ticking → Effects → Observer → Effects
 noticed_if false t done o = nothing
 noticed_if true t done o =
-    noticed_unless (is_given (body_given (name_of o) (events_with t done)) (listing_for t o).body) t done o (listing_for t o)
+    noticed_unless (is_given (last_body_formed (name_of o) (events_with t done)) (listing_for t o).body) t done o (listing_for t o)
 
 -- an observer is looked at where it is due, no notice is in flight to its peer, and the tick has not formed as many as it may
 abbrev pub is_looked_at : Ticking → Effects → Observer → Bool
 is_looked_at t done o =
-    not (nat_le max_notices done.drew) && is_due o (events_with t done) t.turns && not (is_waited_for o.peer (events_with t done))
+    not (nat_le max_notices done.drew) && is_due o (events_with t done) t.transitions && not (is_waited_for o.peer (events_with t done))
 
 -- one observer behind others, with what the tick did for those
 abbrev pub notice_next : Ticking → Effects → Observer → Effects

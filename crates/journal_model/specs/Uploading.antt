@@ -7,7 +7,7 @@ use Rattle.message_model.specs.OptionTable as table
 use Rattle.message_model.specs.Blocks.{block_size, block_value}
 use Rattle.message_model.specs.Request.{queries_in}
 use Rattle.message_model.specs.RequestKey.{key_in}
-use Rattle.document_model.specs.Parameters.{registration_values}
+use Rattle.record_model.specs.Parameters.{registration_values}
 use Rattle.event_model.specs.declared.notes.Note.TheVariants as note
 use Rattle.event_model.specs.Uploads.{max_uploads, max_body, live_upload, live_uploads}
 use Rattle.journal_model.specs.declared.steps.Step.{Step}

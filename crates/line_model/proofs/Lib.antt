@@ -1,5 +1,4 @@
 pub mod OnLiterals
-mod Examples
 pub mod Numbers
 pub mod Datagrams
 pub mod Spaces
@@ -7,3 +6,4 @@ pub mod Lengths
 pub mod Fields
 pub mod ReadBack
 pub mod Readings
+mod examples

@@ -4,12 +4,28 @@ use rd_base::{Bytes, Moment, Peer};
 /// A line of a trace.
 #[derive(Debug, Drop)]
 pub enum Line {
-    /// A datagram comes to a worker: the worker, the moment, where it comes from, and its octets.
-    Come(u8, Moment, Peer, Bytes),
+    /// A datagram comes to a worker.
+    Come {
+        /// The worker.
+        worker: u8,
+        /// When it comes, in milliseconds.
+        moment: Moment,
+        /// Where it comes from.
+        peer: Peer,
+        /// Its octets.
+        datagram: Bytes,
+    },
     /// A worker ends the job that it holds.
     Go(u8, Moment),
-    /// Time passes at a worker: the worker, the moment, and the word that is handed in.
-    Tick(u8, Moment, u32),
+    /// Time passes at a worker.
+    Tick {
+        /// The worker.
+        worker: u8,
+        /// The moment that it is then, in milliseconds.
+        moment: Moment,
+        /// The word that is handed in, from which waits are made.
+        word: u32,
+    },
 }
 
 /// Why a line is bad. The first of these that applies is the reason.

@@ -4,8 +4,8 @@ use Rattle.std.specs.Prelude.{not, if◌then◌else◌}
 use Rattle.std.specs.Str.{is_utf8}
 use Rattle.std.proofs.lemmas.Str.{IsUtf8-from_is_utf8}
 use Rattle.std.proofs.lemmas.Bool.{false≢true}
-use Rattle.document_model.specs.Documents.{Link}
-use Rattle.document_model.specs.DocumentReading.{document}
+use Rattle.link_model.specs.Documents.{Link}
+use Rattle.link_model.specs.DocumentReading.{document}
 use Rattle.link_format.specs.Left.{links_of, links_in}
 
 -- a document is text, and its links are those of the text

@@ -4,13 +4,13 @@ use Rattle.std.specs.Prelude.{◌==◌, not}
 use Rattle.std.specs.Char.{is_ascii}
 use Rattle.std.specs.List.{list_all}
 use Rattle.std.proofs.lemmas.Bool.{and_parts, false≢true}
-use Rattle.document_model.specs.Characters.{comma, less_than_sign, greater_than_sign, is_empty, is_not_control, is_target_character}
-use Rattle.document_model.specs.Documents.{Parameter, Link, parameters_text, link_text, is_parameter, is_link}
-use Rattle.document_model.specs.DocumentReading.{at_beginning, behind_part, links_from}
-use Rattle.document_model.proofs.DocumentPlaces.{further, links_text}
-use Rattle.document_model.proofs.DocumentFound.{Spells, links_from_found}
-use Rattle.document_model.proofs.DocumentLaws.{links_from_only}
-use Rattle.document_model.proofs.ReferenceLaws.{some_same, none_some}
+use Rattle.link_model.specs.Characters.{comma, less_than_sign, greater_than_sign, is_empty, is_not_control, is_target_character}
+use Rattle.link_model.specs.Documents.{Parameter, Link, parameters_text, link_text, is_parameter, is_link}
+use Rattle.link_model.specs.DocumentReading.{at_beginning, behind_part, links_from}
+use Rattle.link_model.proofs.DocumentPlaces.{further, links_text}
+use Rattle.link_model.proofs.DocumentFound.{Spells, links_from_found}
+use Rattle.link_model.proofs.DocumentLaws.{links_from_only}
+use Rattle.rd_base.proofs.lemmas.Options.{some_same, none_some}
 use Rattle.link_format.specs.declared.quoting.Quotes.TheVariants.{Unread, Outside}
 use Rattle.link_format.specs.Cuts.{cut}
 use Rattle.link_format.specs.Parts.{text_or_empty, parts_behind, parts_opened, link_parts}

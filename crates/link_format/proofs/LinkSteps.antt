@@ -2,9 +2,9 @@
 use Rattle.std.proofs.Common.{◌≡◌, ℕ, true, List, [], ◌∷◌, Option, Some, None, is_some, refl, sym, ap, ◌∙◌, subst}
 use Rattle.std.specs.List.{list_all}
 use Rattle.std.proofs.lemmas.Bool.{and_parts, false≢true}
-use Rattle.document_model.specs.Documents.{Parameter, Link, parameters_text, is_parameter, is_link}
-use Rattle.document_model.proofs.DocumentPlaces.{links_text}
-use Rattle.document_model.proofs.ReferenceLaws.{some_same, none_some}
+use Rattle.link_model.specs.Documents.{Parameter, Link, parameters_text, is_parameter, is_link}
+use Rattle.link_model.proofs.DocumentPlaces.{links_text}
+use Rattle.rd_base.proofs.lemmas.Options.{some_same, none_some}
 use Rattle.link_format.specs.Parts.{link_parts}
 use Rattle.link_format.specs.Left.{listed, links_of, links_in, parameters_of, parameters_in}
 use Rattle.link_format.proofs.LinkLaws.{link_of-alike, links_spelled, parameters_of-alike, first_parts, no_parts}

@@ -3,10 +3,10 @@ use Rattle.std.proofs.Common.{◌≡◌, ℕ, Bool, true, false, ◌&&◌, List,
 use Rattle.std.specs.Prelude.{◌==◌, not, if◌then◌else◌}
 use Rattle.std.specs.List.{list_all}
 use Rattle.std.proofs.lemmas.Bool.{and_parts, false≢true, eqb-true}
-use Rattle.document_model.specs.Characters.{asterisk, semicolon, equals_sign, is_empty, is_attribute_name_character}
-use Rattle.document_model.specs.Documents.{Parameter, value_text, parameter_text, parameters_text, are_name_characters, is_parameter_name, is_value, is_parameter}
-use Rattle.document_model.proofs.ReferenceLaws.{some_same, none_some}
-use Rattle.document_model.proofs.ReferenceMarks.{other_octet}
+use Rattle.link_model.specs.Characters.{asterisk, semicolon, equals_sign, is_empty, is_attribute_name_character}
+use Rattle.link_model.specs.Documents.{Parameter, value_text, parameter_text, parameters_text, are_name_characters, is_parameter_name, is_value, is_parameter}
+use Rattle.rd_base.proofs.lemmas.Options.{some_same, none_some}
+use Rattle.rd_base.proofs.lemmas.Numbers.{other_octet}
 use Rattle.link_format.specs.declared.quoting.Quotes.TheVariants.{Unread, Leading, Outside}
 use Rattle.link_format.specs.Cuts.{cut, from_separator}
 use Rattle.link_format.specs.Parts.{parts_named, parameter_parts}

@@ -3,9 +3,9 @@ use Rattle.std.proofs.Common.{◌≡◌, ℕ, Bool, true, false, ◌&&◌, ◌||
 use Rattle.std.specs.Prelude.{◌==◌, not, if◌then◌else◌}
 use Rattle.std.specs.List.{list_all}
 use Rattle.std.proofs.lemmas.Bool.{and_parts, false≢true, eqb-true}
-use Rattle.document_model.specs.Characters.{quote_mark, asterisk, comma, backslash, semicolon, equals_sign, is_empty, is_not_control, is_attribute_name_character, is_token_character}
-use Rattle.document_model.specs.Documents.{Parameter, value_text, parameter_text, parameters_text, are_name_characters, is_parameter_name, closes_quotes, is_quoted_string, is_token, is_value, is_parameter}
-use Rattle.document_model.proofs.ReferenceMarks.{other_octet}
+use Rattle.link_model.specs.Characters.{quote_mark, asterisk, comma, backslash, semicolon, equals_sign, is_empty, is_not_control, is_attribute_name_character, is_token_character}
+use Rattle.link_model.specs.Documents.{Parameter, value_text, parameter_text, parameters_text, are_name_characters, is_parameter_name, closes_quotes, is_quoted_string, is_token, is_value, is_parameter}
+use Rattle.rd_base.proofs.lemmas.Numbers.{other_octet}
 use Rattle.link_format.specs.declared.quoting.Quotes.{Quotes}
 use Rattle.link_format.specs.declared.quoting.Quotes.TheVariants.{Unread, Leading, Outside, Inside, Escaped}
 use Rattle.link_format.specs.Cuts.{quotes_after, is_separator, onto_before, cut}

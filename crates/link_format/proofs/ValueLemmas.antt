@@ -5,9 +5,9 @@ use Rattle.std.specs.List.{list_all}
 use Rattle.std.specs.Char.{encode_utf8}
 use Rattle.std.proofs.lemmas.Bool.{and_parts, false≢true, cases_lt}
 use Rattle.std.proofs.lemmas.Bool.Decides.{nat_tests}
-use Rattle.document_model.specs.Characters.{quote_mark, backslash}
-use Rattle.document_model.specs.Quoting.{content_up_to_quote, unquoted, escaped_character, quoted}
-use Rattle.document_model.proofs.Utf8Reading.{encode_one, encode_two, encode_three, encode_four}
+use Rattle.link_model.specs.Characters.{quote_mark, backslash}
+use Rattle.link_model.specs.Quoting.{content_up_to_quote, unquoted, escaped_character, quoted}
+use Rattle.link_model.proofs.Utf8Reading.{encode_one, encode_two, encode_three, encode_four}
 
 -- an octet of a character past ASCII
 abbrev pub is_high : ℕ → Bool

@@ -5,11 +5,11 @@ use Rattle.std.proofs.lemmas.Bool.{eqb-true}
 use Rattle.std.specs.Str.{is_utf8}
 use Rattle.std.specs.Int.{is_in_range}
 use Rattle.std.proofs.lemmas.Str.{IsUtf8-from_is_utf8, is_utf8-from_IsUtf8}
-use Rattle.document_model.specs.Documents.{Link}
-use Rattle.document_model.specs.Utf8Prefix.{OctetRange, utf8_prefix_after}
-use Rattle.document_model.specs.DocumentReading.{Place, at_beginning, place_after, with_octet, links_at_end, links_from, document, prefix_from, good_prefix}
-use Rattle.document_model.proofs.Utf8Reading.{is_utf8_after, is_utf8_after-IsUtf8}
-use Rattle.document_model.proofs.Utf8Found.{IsUtf8-is_utf8_after}
+use Rattle.link_model.specs.Documents.{Link}
+use Rattle.link_model.specs.Utf8Prefix.{OctetRange, utf8_prefix_after}
+use Rattle.link_model.specs.DocumentReading.{Place, at_beginning, place_after, with_octet, links_at_end, links_from, document, prefix_from, good_prefix}
+use Rattle.link_model.proofs.Utf8Reading.{is_utf8_after, is_utf8_after-IsUtf8}
+use Rattle.link_model.proofs.Utf8Found.{IsUtf8-is_utf8_after}
 use Rattle.link_format.specs.Ranges.{tails_after}
 
 -- how many octets may stand one behind the other, in the grammar and in text

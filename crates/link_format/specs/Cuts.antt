@@ -1,6 +1,6 @@
 -- What the code cuts: texts at a separator, which does not count in quoted strings (RFC 6690 section 2).
 use Rattle.std.specs.Prelude.{ℕ, suc, Bool, true, false, ◌&&◌, ◌==◌, List, [], ◌∷◌, Option, Some, None, if◌then◌else◌}
-use Rattle.document_model.specs.Characters.{quote_mark, backslash}
+use Rattle.link_model.specs.Characters.{quote_mark, backslash}
 use Rattle.link_format.specs.declared.quoting.Quotes.{Quotes}
 use Rattle.link_format.specs.declared.quoting.Quotes.TheVariants.{Unread, Leading, Outside, Inside, Escaped}
 

@@ -1,7 +1,7 @@
 -- The links of a text and the parameters of a link's text, as lists.
 use Rattle.std.specs.Prelude.{ℕ, List, [], ◌∷◌, Option, Some, None, option_and_then}
-use Rattle.document_model.specs.Documents.{Parameter, Link}
-use Rattle.document_model.specs.DocumentReading.{at_beginning, behind_part, links_from}
+use Rattle.link_model.specs.Documents.{Parameter, Link}
+use Rattle.link_model.specs.DocumentReading.{at_beginning, behind_part, links_from}
 
 -- the list, and the empty one where there is none
 abbrev pub listed : {A : Type 0} → Option (List A) → List A

@@ -1,6 +1,6 @@
 -- What the code takes apart: the first link of a document, and the first parameter of a link (RFC 6690 section 2).
 use Rattle.std.specs.Prelude.{ℕ, List, [], Option, Some, None, option_and_then}
-use Rattle.document_model.specs.Characters.{comma, semicolon, less_than_sign, equals_sign, greater_than_sign}
+use Rattle.link_model.specs.Characters.{comma, semicolon, less_than_sign, equals_sign, greater_than_sign}
 use Rattle.link_format.specs.declared.quoting.Quotes.TheVariants.{Unread, Leading, Outside}
 use Rattle.link_format.specs.Cuts.{cut, from_separator}
 

@@ -1,7 +1,7 @@
 -- The places of the grammar, as the code names them.
 use Rattle.link_format.specs.declared.places.Place.{Place}
 use Rattle.link_format.specs.declared.places.Place.TheVariants as code
-use Rattle.document_model.specs.DocumentReading as grammar
+use Rattle.link_model.specs.DocumentReading as grammar
 
 abbrev pub place_in : Place → grammar.Place
 place_in code.Beginning = grammar.at_beginning

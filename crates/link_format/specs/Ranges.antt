@@ -1,7 +1,7 @@
 -- What must follow an octet in UTF-8 (RFC 3629 section 4).
 use Rattle.std.specs.Prelude.{ℕ, List, [], ◌∷◌, Option, Some, None, if◌then◌else◌}
 use Rattle.std.specs.Int.{is_in_range}
-use Rattle.document_model.specs.Utf8Prefix.{OctetRange, tails_of}
+use Rattle.link_model.specs.Utf8Prefix.{OctetRange, tails_of}
 
 -- the octets that must follow where these had to and this one came, and None where it may not come
 abbrev pub tails_after : List OctetRange → ℕ → Option (List OctetRange)

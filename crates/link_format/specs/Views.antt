@@ -1,6 +1,6 @@
 -- Links and parameters as contracts see them.
 use Rattle.std.specs.Prelude.{option_map}
-use Rattle.document_model.specs.Documents.{Parameter, Link}
+use Rattle.link_model.specs.Documents.{Parameter, Link}
 use Rattle.link_format.specs.declared.links.LinkRef.{LinkRef}
 use Rattle.link_format.specs.declared.parameters.Param.{Param}
 use Rattle.link_format.specs.Left.{parameters_in}

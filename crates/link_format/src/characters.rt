@@ -1,7 +1,7 @@
 // The classes of characters that the grammar of links names (RFC 6690 section 2).
 ghost use Rattle.std.specs.Prelude.{◌≡◌, ◌==◌};
 ghost use Rattle.std.specs.List.{list_any};
-ghost use Rattle.document_model.specs.Characters as class;
+ghost use Rattle.link_model.specs.Characters as class;
 
 /// Whether the octet is one of these.
 fn is_one_of(octets: &[u8], octet: u8) -> bool

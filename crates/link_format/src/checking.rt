@@ -1,6 +1,6 @@
 // Whether a body is a link document (RFC 6690 section 2).
 ghost use Rattle.std.specs.Prelude.{◌≡◌, IfOk, IfErr};
-ghost use Rattle.document_model.specs.DocumentReading.{document, good_prefix};
+ghost use Rattle.link_model.specs.DocumentReading.{document, good_prefix};
 
 use crate::links::{Links, links_of_text};
 use crate::walking::walk;

@@ -23,7 +23,7 @@ pub struct Links<'a> {
 
 impl<'a> Model for Links<'a> {
     ghost use Rattle.std.specs.Prelude.{◌≡◌, List, is_some, true};
-    ghost use Rattle.document_model.specs.Documents.{Link};
+    ghost use Rattle.link_model.specs.Documents.{Link};
     ghost use Rattle.link_format.specs.Left.{links_of, links_in};
 
     ghost Value = { List Link };

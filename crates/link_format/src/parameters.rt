@@ -1,6 +1,6 @@
 // The parameters of a link, one after the other (RFC 6690 section 2).
 ghost use Rattle.std.specs.Prelude.{◌≡◌, is_some, option_map, true};
-ghost use Rattle.document_model.specs.Documents.{parameter_text};
+ghost use Rattle.link_model.specs.Documents.{parameter_text};
 ghost use Rattle.link_format.specs.Left.{parameters_of, parameters_in};
 
 use crate::parting::parameter_parts;
@@ -26,7 +26,7 @@ pub struct Params<'a> {
 
 impl<'a> Model for Params<'a> {
     ghost use Rattle.std.specs.Prelude.{◌≡◌, List, is_some, true};
-    ghost use Rattle.document_model.specs.Documents.{Parameter};
+    ghost use Rattle.link_model.specs.Documents.{Parameter};
     ghost use Rattle.link_format.specs.Left.{parameters_of, parameters_in};
 
     ghost Value = { List Parameter };

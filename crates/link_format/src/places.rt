@@ -1,6 +1,6 @@
 // The places of the grammar of links, and what may stand at each (RFC 6690 section 2).
 ghost use Rattle.std.specs.Prelude.{◌≡◌, option_map, is_some};
-ghost use Rattle.document_model.specs.DocumentReading as grammar;
+ghost use Rattle.link_model.specs.DocumentReading as grammar;
 ghost use Rattle.link_format.specs.Places.{place_in};
 
 use crate::characters::{
@@ -64,7 +64,7 @@ fn place_after_name(octet: u8) -> Option<Place>
 }
 
 /// The place behind an octet of a target.
-#[tactic(auto, unfolding(document_model::specs::DocumentReading::place_after))]
+#[tactic(auto, unfolding(link_model::specs::DocumentReading::place_after))]
 fn place_in_target(octet: u8) -> Option<Place>
     ensures { option_map place_in result ≡ grammar.place_after grammar.at_target octet }
 {
@@ -75,7 +75,7 @@ fn place_in_target(octet: u8) -> Option<Place>
 }
 
 /// The place behind a further octet of a name.
-#[tactic(auto, unfolding(document_model::specs::DocumentReading::place_after))]
+#[tactic(auto, unfolding(link_model::specs::DocumentReading::place_after))]
 fn place_within_name(octet: u8) -> Option<Place>
     ensures { option_map place_in result ≡ grammar.place_after grammar.within_name octet }
 {
@@ -89,7 +89,7 @@ fn place_within_name(octet: u8) -> Option<Place>
 }
 
 /// The place behind the first octet of a value.
-#[tactic(auto, unfolding(document_model::specs::DocumentReading::place_after))]
+#[tactic(auto, unfolding(link_model::specs::DocumentReading::place_after))]
 fn place_at_value(octet: u8) -> Option<Place>
     ensures { option_map place_in result ≡ grammar.place_after grammar.at_value octet }
 {
@@ -100,7 +100,7 @@ fn place_at_value(octet: u8) -> Option<Place>
 }
 
 /// The place behind a further octet of a token.
-#[tactic(auto, unfolding(document_model::specs::DocumentReading::place_after))]
+#[tactic(auto, unfolding(link_model::specs::DocumentReading::place_after))]
 fn place_in_token(octet: u8) -> Option<Place>
     ensures { option_map place_in result ≡ grammar.place_after grammar.in_token octet }
 {
@@ -111,7 +111,7 @@ fn place_in_token(octet: u8) -> Option<Place>
 }
 
 /// The place behind an octet of a quoted string.
-#[tactic(auto, unfolding(document_model::specs::DocumentReading::place_after))]
+#[tactic(auto, unfolding(link_model::specs::DocumentReading::place_after))]
 fn place_in_quotes(octet: u8) -> Option<Place>
     ensures { option_map place_in result ≡ grammar.place_after grammar.in_quotes octet }
 {
@@ -125,7 +125,7 @@ fn place_in_quotes(octet: u8) -> Option<Place>
 }
 
 /// The place behind an octet, where it may stand at the place.
-#[tactic(auto, unfolding(document_model::specs::DocumentReading::place_after))]
+#[tactic(auto, unfolding(link_model::specs::DocumentReading::place_after))]
 pub fn place_after(place: Place, octet: u8) -> Option<Place>
     ensures { option_map place_in result ≡ grammar.place_after (place_in place) octet }
 {
@@ -144,7 +144,7 @@ pub fn place_after(place: Place, octet: u8) -> Option<Place>
 }
 
 /// Whether a document may end at the place.
-#[tactic(auto, unfolding(document_model::specs::DocumentReading::links_at_end))]
+#[tactic(auto, unfolding(link_model::specs::DocumentReading::links_at_end))]
 pub fn may_end(place: Place) -> bool
     ensures { result ≡ is_some (grammar.links_at_end (place_in place)) }
 {

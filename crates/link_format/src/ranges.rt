@@ -1,7 +1,7 @@
 // Text in UTF-8, octet by octet (RFC 3629 section 4).
 ghost use Rattle.std.specs.Prelude.{◌≡◌, option_map};
 ghost use Rattle.std.specs.Int.{is_in_range};
-ghost use Rattle.document_model.specs.Utf8Prefix as utf8;
+ghost use Rattle.link_model.specs.Utf8Prefix as utf8;
 ghost use Rattle.link_format.specs.Ranges.{tails_after};
 
 /// The least and the greatest octet that may stand at a place.
@@ -11,7 +11,7 @@ pub type OctetRange = (u8, u8);
 const TAIL: OctetRange = (0x80, 0xBF);
 
 /// The octets that must follow the first one of a character, where one begins with it.
-#[tactic(auto, unfolding(document_model::specs::Utf8Prefix::tails_of))]
+#[tactic(auto, unfolding(link_model::specs::Utf8Prefix::tails_of))]
 fn tails_of(octet: u8) -> Option<&'static [OctetRange]>
     ensures { option_map (λ tails. tails.now) result ≡ utf8.tails_of octet }
 {

@@ -3,9 +3,9 @@ ghost use Rattle.std.specs.Prelude.{◌≡◌, ◌==◌, ◌||◌, ◌++◌, IfO
 ghost use Rattle.std.specs.Char.{encode_utf8};
 ghost use Rattle.std.specs.String.{string_bytes};
 ghost use Rattle.std.specs.List.{list_all};
-ghost use Rattle.document_model.specs.Characters.{quote_mark, backslash, is_not_control};
-ghost use Rattle.document_model.specs.Documents.{is_quoted_string};
-ghost use Rattle.document_model.specs.Quoting as quoting;
+ghost use Rattle.link_model.specs.Characters.{quote_mark, backslash, is_not_control};
+ghost use Rattle.link_model.specs.Documents.{is_quoted_string};
+ghost use Rattle.link_model.specs.Quoting as quoting;
 ghost use Rattle.link_format.specs.Views.{parameter_seen};
 
 use crate::parameters::Param;

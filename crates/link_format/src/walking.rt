@@ -1,6 +1,6 @@
 // One walk over octets: how far they begin a document, and whether they are one.
 ghost use Rattle.std.specs.Prelude.{◌≡◌, ◌≤◌, ◌-◌, length, false, is_some};
-ghost use Rattle.document_model.specs.DocumentReading.{document, good_prefix};
+ghost use Rattle.link_model.specs.DocumentReading.{document, good_prefix};
 
 use crate::places::{Place, may_end, place_after};
 use crate::ranges::{OctetRange, tails_after};

@@ -4,8 +4,8 @@ use Rattle.std.proofs.lemmas.List.Folds.{list_any-append}
 use Rattle.rd_base.specs.declared.attributes.Pair.{Pair}
 use Rattle.rd_base.specs.declared.queries.Criterion.{Criterion}
 use Rattle.rd_base.specs.declared.records.Record.{Record}
-use Rattle.document_model.specs.Matching.{is_href, matches_named, matches_pairs, endpoint_pairs, endpoint_matches, sector_pairs}
-use Rattle.document_model.specs.ListingLines.{own_pairs}
+use Rattle.record_model.specs.Matching.{is_href, matches_named, matches_pairs, endpoint_pairs, endpoint_matches, sector_pairs}
+use Rattle.record_model.specs.ListingLines.{own_pairs}
 
 -- pairs behind the sector's
 behind_sector : (base name kind : Pair) (sector : Option (List ℕ)) (extra : List Pair)

@@ -2,7 +2,7 @@
 use Rattle.std.proofs.Common.{◌≡◌, ℕ, ◌+◌, ◌-◌, ◌<◌, ◌≤◌, ◌^◌, List, ◌∷◌, ◌++◌, length, drop, decimal, slice_set, sym, ap, ◌∙◌, append-nil, arith, length-set}
 use Rattle.std.proofs.lemmas.List.{drop-set, drop_all}
 use Rattle.std.proofs.lemmas.Fmt.{length-decimal-le}
-use Rattle.document_model.specs.Matching.{location}
+use Rattle.record_model.specs.Matching.{location}
 
 -- an octet before what stands behind it
 put_before : (octets rest : List ℕ) (i next : ℕ) (c : ℕ) → next ≡ i + 1 → i < length octets → drop next octets ≡ rest → drop i (slice_set octets i c) ≡ c ∷ rest

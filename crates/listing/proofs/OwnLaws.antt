@@ -5,10 +5,10 @@ use Rattle.std.proofs.lemmas.List.{length-map, take_all}
 use Rattle.std.proofs.lemmas.List.Filters.{length-filter_both}
 use Rattle.rd_base.specs.declared.queries.Query.{Query}
 use Rattle.rd_base.specs.declared.records.Item.{Item}
-use Rattle.document_model.specs.Characters.{comma}
-use Rattle.document_model.specs.Discovery.{own_items, discovery}
-use Rattle.document_model.specs.ListingLines.{link_line, page_of, shown}
-use Rattle.document_model.proofs.OnLiterals.{document_on_literals}
+use Rattle.link_model.specs.Characters.{comma}
+use Rattle.record_model.specs.Discovery.{own_items, discovery}
+use Rattle.record_model.specs.ListingLines.{link_line, page_of, shown}
+use Rattle.link_model.proofs.OnLiterals.{document_on_literals}
 use Rattle.listing.specs.Appending.{appended, shown_lines}
 use Rattle.listing.specs.Listed.{listed_lines, listed_of}
 use Rattle.listing.specs.Own.{own_item}

@@ -1,9 +1,9 @@
 -- What a pattern matches, by its last octet, and the parts of a value.
 use Rattle.std.proofs.Common.{◌≡◌, ℕ, Bool, true, false, ◌&&◌, ◌||◌, List, [], ◌∷◌, ◌++◌, filter, Some, None, option_map, nat_eq, refl, sym, ◌∙◌, not, cond}
 use Rattle.std.specs.List.{list_any, slice_split}
-use Rattle.document_model.specs.Characters.{asterisk, is_empty}
-use Rattle.document_model.specs.Options.{is_among}
-use Rattle.document_model.specs.Matching.{before_wildcard, matches_value, matches_named, list_names, parts_of, space}
+use Rattle.link_model.specs.Characters.{asterisk, is_empty}
+use Rattle.record_model.specs.Options.{is_among}
+use Rattle.record_model.specs.Matching.{before_wildcard, matches_value, matches_named, list_names, parts_of, space}
 
 -- what stands before a wildcard, by the last octet
 pub before_wildcard_last : (front : List ℕ) (last : ℕ) → before_wildcard (front ++ last ∷ []) ≡ cond (nat_eq last asterisk) (Some front) None

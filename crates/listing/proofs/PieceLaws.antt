@@ -3,10 +3,10 @@ use Rattle.std.proofs.Common.{◌≡◌, ℕ, true, false, List, [], ◌∷◌, 
 use Rattle.rd_base.specs.declared.attributes.Pair.{Pair}
 use Rattle.rd_base.specs.declared.records.Item.{Item}
 use Rattle.rd_base.specs.declared.records.Record.{Record}
-use Rattle.document_model.specs.Characters.{is_empty}
-use Rattle.document_model.specs.Quoting.{escaped_character, quoted}
-use Rattle.document_model.specs.Matching.{location}
-use Rattle.document_model.specs.ListingLines.{anchor_text, bracketed, endpoint_line, extra_attribute, link_line, own_pairs, quoted_attribute}
+use Rattle.link_model.specs.Characters.{is_empty}
+use Rattle.link_model.specs.Quoting.{escaped_character, quoted}
+use Rattle.record_model.specs.Matching.{location}
+use Rattle.record_model.specs.ListingLines.{anchor_text, bracketed, endpoint_line, extra_attribute, link_line, own_pairs, quoted_attribute}
 use Rattle.listing.specs.Saying.{own_line}
 
 -- a text with its last octet, before what follows

@@ -1,7 +1,7 @@
 -- Lines that are skipped, and lines that are appended one after the other.
 use Rattle.std.proofs.Common.{not, true, ◌≡◌, ℕ, ◌+◌, List, [], ◌∷◌, ◌++◌, flat_map, refl, sym, ap, ◌∙◌, append_assoc, append-nil, add-one, arith}
 use Rattle.std.specs.List.{join_with_byte, list_all}
-use Rattle.document_model.specs.Characters.{comma, is_empty}
+use Rattle.link_model.specs.Characters.{comma, is_empty}
 use Rattle.listing.specs.Appending.{appended, separated, shown_lines}
 
 -- what follows the first line stands behind commas

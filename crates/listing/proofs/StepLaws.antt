@@ -5,8 +5,8 @@ use Rattle.rd_base.specs.declared.queries.Kind.TheVariants as kind
 use Rattle.rd_base.specs.declared.queries.Query.{Query}
 use Rattle.rd_base.specs.declared.records.Item.{Item}
 use Rattle.rd_base.specs.declared.records.Record.{Record}
-use Rattle.document_model.specs.Characters.{comma}
-use Rattle.document_model.specs.ListingLines.{endpoint_line, endpoint_listed, link_line, part}
+use Rattle.link_model.specs.Characters.{comma}
+use Rattle.record_model.specs.ListingLines.{endpoint_line, endpoint_listed, link_line, part}
 use Rattle.listing.specs.Appending.{appended, separated, shown_lines}
 use Rattle.listing.specs.Listed.{listed_endpoint, listed_lines, listed_of}
 use Rattle.listing.proofs.PieceLaws.{endpoint_line_begins, link_line_begins}

@@ -1,7 +1,7 @@
 -- Which lines of a record are shown, and how lines stand behind a text (RFC 6690 section 2: commas part link-values).
 use Rattle.std.specs.Prelude.{ℕ, List, [], ◌∷◌, ◌++◌, take, drop, flat_map}
 use Rattle.std.specs.List.{join_with_byte}
-use Rattle.document_model.specs.Characters.{comma}
+use Rattle.link_model.specs.Characters.{comma}
 
 -- the lines behind the first `skip`, at most `most` of them
 abbrev pub shown_lines : ℕ → ℕ → List (List ℕ) → List (List ℕ)

@@ -3,7 +3,7 @@ use Rattle.std.specs.Prelude.{ℕ, Bool, List, [], Option, Some, None, bytes_eq}
 use lib.Pointwise.{pointwise}
 use Rattle.rd_base.specs.declared.queries.Query.{Query}
 use Rattle.rd_base.specs.declared.records.Record.{Record}
-use Rattle.document_model.specs.ListingLines.{part}
+use Rattle.record_model.specs.ListingLines.{part}
 
 -- the same lines in the same order
 abbrev pub same_lines : List (List ℕ) → List (List ℕ) → Bool

@@ -3,8 +3,8 @@ use Rattle.std.specs.Prelude.{ℕ, Bool, List, [], ◌∷◌, map, filter, Optio
 use Rattle.rd_base.specs.declared.queries.Query.{Query}
 use Rattle.rd_base.specs.declared.records.Item.{Item}
 use Rattle.rd_base.specs.declared.records.Record.{Record}
-use Rattle.document_model.specs.Discovery.{own_link_listed}
-use Rattle.document_model.specs.ListingLines.{endpoint_line, endpoint_listed, link_line, link_listed}
+use Rattle.record_model.specs.Discovery.{own_link_listed}
+use Rattle.record_model.specs.ListingLines.{endpoint_line, endpoint_listed, link_line, link_listed}
 
 -- the query lists a link of this registration, or one of the directory itself, which has no endpoint
 abbrev pub listed_of : Query → Option Record → Item → Bool

@@ -1,9 +1,9 @@
 -- What the pieces of a line say.
 use Rattle.std.specs.Prelude.{ℕ, List, ◌++◌, flat_map}
 use Rattle.rd_base.specs.declared.records.Record.{Record}
-use Rattle.document_model.specs.ListingLines.{bracketed, own_pairs, quoted_attribute}
-use Rattle.document_model.specs.Matching.{location}
-use Rattle.document_model.specs.Quoting.{escaped_character}
+use Rattle.record_model.specs.ListingLines.{bracketed, own_pairs, quoted_attribute}
+use Rattle.record_model.specs.Matching.{location}
+use Rattle.link_model.specs.Quoting.{escaped_character}
 use Rattle.listing.specs.declared.pieces.Piece.{Piece}
 use Rattle.listing.specs.declared.pieces.Piece.TheVariants.{Plain, Escaped}
 

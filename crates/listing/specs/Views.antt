@@ -4,8 +4,8 @@ use denote.Ref.{Bor}
 use Rattle.rd_base.specs.declared.queries.Query.{Query}
 use Rattle.rd_base.specs.declared.records.Item.{Item}
 use Rattle.rd_base.specs.declared.records.Record.{Record}
-use Rattle.document_model.specs.Quoting.{escaped_character}
-use Rattle.document_model.specs.ListingLines.{extra_attribute, link_line}
+use Rattle.link_model.specs.Quoting.{escaped_character}
+use Rattle.record_model.specs.ListingLines.{extra_attribute, link_line}
 use Rattle.listing.specs.declared.octets.Octets.{Octets}
 use Rattle.listing.specs.declared.pieces.Piece.{Piece}
 use Rattle.listing.specs.Listed.{listed_lines}

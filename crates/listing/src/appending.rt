@@ -1,7 +1,7 @@
 // Lines that are appended to a listing.
 ghost use Rattle.std.specs.Prelude.{◌≡◌, ◌++◌, ◌∷◌, [], flat_map, OnOk, OnErr};
-ghost use Rattle.document_model.specs.ListingLines as listing_model;
-ghost use Rattle.document_model.specs.Quoting.{escaped_character};
+ghost use Rattle.record_model.specs.ListingLines as listing_model;
+ghost use Rattle.link_model.specs.Quoting.{escaped_character};
 ghost use Rattle.listing.specs.Appending.{separated};
 ghost use Rattle.listing.specs.Saying.{own_line, said, said_in_order};
 

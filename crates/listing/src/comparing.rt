@@ -1,8 +1,8 @@
 // Whether two states of a registration give the same lines.
 ghost use Rattle.std.specs.Prelude.{◌≡◌, ◌↔◌, [], Some, bytes_eq, IsTrue};
 ghost use Rattle.std.specs.Option.{option_copied};
-ghost use Rattle.document_model.specs.ListingLines as listing_model;
-ghost use Rattle.document_model.specs.Matching as model;
+ghost use Rattle.record_model.specs.ListingLines as listing_model;
+ghost use Rattle.record_model.specs.Matching as model;
 ghost use Rattle.listing.specs.Comparing.{part_given, same_lines};
 ghost use Rattle.listing.specs.Views.{FirstListed, left};
 ghost use Rattle.listing.specs.Listed.{listed_endpoint, listed_lines};
@@ -105,7 +105,7 @@ fn same_listed_endpoint(query: &Query, old: &Record, new: &Record) -> bool
 }
 
 /// Whether both give the same lines.
-#[tactic(auto, unfolding(document_model::specs::ListingLines::part))]
+#[tactic(auto, unfolding(record_model::specs::ListingLines::part))]
 fn same_parts(query: &Query, old: &Record, new: &Record) -> bool
     ensures { result ≡ same_lines (listing_model.part query.now old.now) (listing_model.part query.now new.now) }
 {
@@ -117,7 +117,7 @@ fn same_parts(query: &Query, old: &Record, new: &Record) -> bool
 }
 
 /// Whether the registration gives no line.
-#[tactic(auto, unfolding(document_model::specs::ListingLines::part))]
+#[tactic(auto, unfolding(record_model::specs::ListingLines::part))]
 fn gives_none(query: &Query, record_of: &Record) -> bool
     ensures { result ≡ same_lines (listing_model.part query.now record_of.now) [] }
 {

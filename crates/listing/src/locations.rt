@@ -1,6 +1,6 @@
 // The location of a registration, as it stands in a link (RFC 9176 section 5).
 ghost use Rattle.std.specs.Prelude.{◌≡◌, ◌≤◌, drop};
-ghost use Rattle.document_model.specs.Matching as model;
+ghost use Rattle.record_model.specs.Matching as model;
 
 use itoa::write_digits;
 

@@ -1,10 +1,10 @@
 // Which links and endpoints meet criteria (RFC 6690 section 4.1, RFC 9176 section 6.2).
 ghost use Rattle.std.specs.Prelude.{◌≡◌, ◌<◌, ◌&&◌, bytes_eq, length};
 ghost use Rattle.std.specs.List.{list_any, HoldsAt};
-ghost use Rattle.document_model.specs.Matching as model;
+ghost use Rattle.record_model.specs.Matching as model;
 ghost use Rattle.std.specs.Option.{option_copied};
-ghost use Rattle.document_model.specs.Discovery as discovery_model;
-ghost use Rattle.document_model.specs.ListingLines as listing_model;
+ghost use Rattle.record_model.specs.Discovery as discovery_model;
+ghost use Rattle.record_model.specs.ListingLines as listing_model;
 ghost use Rattle.listing.specs.Listed.{listed_of};
 
 use crate::locations::{ROOM, write_location};
@@ -50,7 +50,7 @@ fn is_anchor(criterion: &Criterion) -> bool
 
 /// Whether the criterion matches the link by itself: `href` by its target, `anchor` by its anchor where it has one,
 /// and any other name by one of its attributes (RFC 9176 section 6.2).
-#[tactic(auto, unfolding(document_model::specs::Matching::link_matches))]
+#[tactic(auto, unfolding(record_model::specs::Matching::link_matches))]
 pub fn link_matches(criterion: &Criterion, item: &Item) -> bool
     ensures { result ≡ model.link_matches criterion.now item.now }
 {
@@ -96,7 +96,7 @@ fn matches_location(criterion: &Criterion, number: u64) -> bool
 
 /// Whether the criterion matches the endpoint by itself: `href` by its location, and any other name by its base, its
 /// name, its sector where it has one, its type, and its extra attributes (RFC 9176 section 6.2).
-#[tactic(auto, unfolding(document_model::specs::Matching::endpoint_matches))]
+#[tactic(auto, unfolding(record_model::specs::Matching::endpoint_matches))]
 pub fn endpoint_matches(criterion: &Criterion, record_of: &Record) -> bool
     ensures { result ≡ model.endpoint_matches criterion.now record_of.now }
 {
@@ -110,7 +110,7 @@ pub fn endpoint_matches(criterion: &Criterion, record_of: &Record) -> bool
 }
 
 /// Whether each criterion matches the link by itself or its endpoint by itself.
-#[tactic(auto, unfolding(document_model::specs::ListingLines::link_listed))]
+#[tactic(auto, unfolding(record_model::specs::ListingLines::link_listed))]
 fn link_listed(query: &Query, record_of: &Record, item: &Item) -> bool
     ensures { result ≡ listing_model.link_listed query.now record_of.now item.now }
 {
@@ -120,7 +120,7 @@ fn link_listed(query: &Query, record_of: &Record, item: &Item) -> bool
 }
 
 /// Whether each criterion matches the link by itself.
-#[tactic(auto, unfolding(document_model::specs::Discovery::own_link_listed))]
+#[tactic(auto, unfolding(record_model::specs::Discovery::own_link_listed))]
 fn own_link_listed(query: &Query, item: &Item) -> bool
     ensures { result ≡ discovery_model.own_link_listed query.now item.now }
 {
@@ -159,7 +159,7 @@ fn any_link_matches(criterion: &Criterion, items: &[Item]) -> bool
 
 /// Whether an endpoint lookup lists the endpoint: each criterion matches the endpoint by itself or any one of its links
 /// by itself (RFC 9176 section 6.2). The query's kind does not count.
-#[tactic(auto, unfolding(document_model::specs::ListingLines::endpoint_listed))]
+#[tactic(auto, unfolding(record_model::specs::ListingLines::endpoint_listed))]
 pub fn endpoint_listed(query: &Query, record_of: &Record) -> bool
     ensures { result ≡ listing_model.endpoint_listed query.now record_of.now }
 {

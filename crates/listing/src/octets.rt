@@ -1,6 +1,6 @@
 // Lines that are read octet by octet, so that two can be compared without memory.
 ghost use Rattle.std.specs.Prelude.{◌≡◌, ◌<◌, ◌++◌, [], false, flat_map, bytes_eq, IsTrue};
-ghost use Rattle.document_model.specs.ListingLines as listing_model;
+ghost use Rattle.record_model.specs.ListingLines as listing_model;
 ghost use Rattle.listing.specs.Views.{Gives, PieceAt, left, pieces_left};
 ghost use Rattle.listing.specs.Saying.{said, said_in_order};
 

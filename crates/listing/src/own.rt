@@ -1,7 +1,7 @@
 // What the directory tells of itself (RFC 9176 section 4.1, RFC 6690 section 4).
 ghost use Rattle.std.specs.Prelude.{◌≡◌, ◌*◌, ◌∷◌, ◌^◌, ◌<◌, ℕ, List, [], length, IfOk, OnOk};
-ghost use Rattle.document_model.specs.Discovery as discovery_model;
-ghost use Rattle.document_model.specs.ListingLines.{page_of};
+ghost use Rattle.record_model.specs.Discovery as discovery_model;
+ghost use Rattle.record_model.specs.ListingLines.{page_of};
 ghost use Rattle.listing.specs.Appending.{shown_lines};
 ghost use Rattle.listing.specs.Own.{own_item};
 

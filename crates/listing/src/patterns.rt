@@ -2,9 +2,9 @@
 ghost use Rattle.std.specs.Prelude.{◌≡◌, ◌&&◌, ◌==◌, not};
 ghost use Rattle.std.specs.Option.{option_copied};
 ghost use Rattle.std.specs.List.{list_any, slice_split};
-ghost use Rattle.document_model.specs.Options.{is_among};
-ghost use Rattle.document_model.specs.Matching as model;
-ghost use Rattle.document_model.specs.Characters.{is_empty};
+ghost use Rattle.record_model.specs.Options.{is_among};
+ghost use Rattle.record_model.specs.Matching as model;
+ghost use Rattle.link_model.specs.Characters.{is_empty};
 
 /// What stands before an asterisk that ends the pattern, where one does.
 #[tactic(auto, using(crate::proofs::PatternLaws::before_wildcard_last))]
@@ -20,7 +20,7 @@ fn before_wildcard(pattern: &[u8]) -> Option<&[u8]>
 
 /// Whether the pattern matches the value: one that ends with an asterisk a value that begins with the rest of it, and
 /// any other the equal value.
-#[tactic(auto, unfolding(document_model::specs::Matching::matches_value))]
+#[tactic(auto, unfolding(record_model::specs::Matching::matches_value))]
 pub fn matches_value(pattern: &[u8], value: &[u8]) -> bool
     ensures { result ≡ model.matches_value pattern.now value.now }
 {
@@ -60,7 +60,7 @@ fn matches_part(pattern: &[u8], value: &[u8]) -> bool
 }
 
 /// Whether the pattern matches a value of the name.
-#[tactic(auto, unfolding(document_model::specs::Matching::matches_named))]
+#[tactic(auto, unfolding(record_model::specs::Matching::matches_named))]
 pub fn matches_named(name: &[u8], pattern: &[u8], value: &[u8]) -> bool
     ensures { result ≡ model.matches_named name.now pattern.now value.now }
 {

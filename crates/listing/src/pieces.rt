@@ -1,8 +1,8 @@
 // The pieces of lines: texts that stand in them as they are, and texts that stand in quotes (RFC 6690 section 2).
 ghost use Rattle.std.specs.Prelude.{◌≡◌, ◌==◌, ◌||◌};
-ghost use Rattle.document_model.specs.Characters.{backslash, quote_mark};
-ghost use Rattle.document_model.specs.ListingLines as listing_model;
-ghost use Rattle.document_model.specs.Matching as model;
+ghost use Rattle.link_model.specs.Characters.{backslash, quote_mark};
+ghost use Rattle.record_model.specs.ListingLines as listing_model;
+ghost use Rattle.record_model.specs.Matching as model;
 ghost use Rattle.listing.specs.Saying.{said_in_order, own_line};
 
 use rd_base::{Item, Pair, Record};

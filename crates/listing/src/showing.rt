@@ -1,7 +1,7 @@
 // The lines that one registration gives to a listing (RFC 9176 sections 6.3 and 6.4).
 ghost use Rattle.std.specs.Prelude.{◌≡◌, length, min, IfOk, OnOk, OnErr};
 ghost use Rattle.std.specs.Option.{option_copied};
-ghost use Rattle.document_model.specs.ListingLines.{part};
+ghost use Rattle.record_model.specs.ListingLines.{part};
 ghost use Rattle.listing.specs.Appending.{appended, shown_lines};
 ghost use Rattle.listing.specs.Listed.{listed_endpoint, listed_lines};
 
@@ -81,7 +81,7 @@ fn append_listed_endpoint(
 /// line where the octets are not empty (RFC 6690 section 2). Answers how many lines were skipped and how many written;
 /// those skipped are all that there are where that is fewer than `skip`. Where memory is wanted the octets are as
 /// before.
-#[tactic(auto, unfolding(document_model::specs::ListingLines::part))]
+#[tactic(auto, unfolding(record_model::specs::ListingLines::part))]
 pub fn lines(
     _alloc: Global,
     query: &Query,

@@ -1,8 +1,5 @@
 pub mod Notation
 pub mod OnLiterals
-pub mod ReadingExamples
-pub mod RequestExamples
-pub mod BlockExamples
 pub mod ByteLemmas
 pub mod OptionLemmas
 pub mod TailLemmas
@@ -14,3 +11,4 @@ pub mod TableLemmas
 pub mod OrderLemmas
 pub mod ValueLemmas
 pub mod KeyLaws
+mod examples

@@ -64,8 +64,8 @@ is_other_format None = false
 is_other_format (Some format) = not (format == link_format)
 
 -- The first refusal behind that of an unrecognized critical option: proxy, path, method, block, accept, format.
-unfoldable pub later_refusal : Message → Option Refusal
-later_refusal m =
+unfoldable pub refusal_after_options : Message → Option Refusal
+refusal_after_options m =
     if has_proxy m then Some refusal.Proxy
     else if is_nowhere (path_in m) then Some refusal.Path
     else if not (allowed (path_in m) m.code) then Some refusal.Method
@@ -81,7 +81,7 @@ option_refusal_or None later = later
 
 -- The first refusal of a request that is looked for before its query.
 unfoldable pub refusal_of : Message → Option Refusal
-refusal_of m = option_refusal_or (first_bad_option m.options) (later_refusal m)
+refusal_of m = option_refusal_or (first_bad_option m.options) (refusal_after_options m)
 
 -- The code of a refusal (RFC 7252 section 5.9).
 abbrev pub refusal_code : Refusal → ℕ

@@ -1,7 +1,7 @@
 -- A text that has no components is no reference.
 use Rattle.std.proofs.Common.{◌≡◌, ℕ, List, Option, Some, None, refl, sym}
-use Rattle.document_model.specs.References.{Components, IsReference, reference}
-use Rattle.document_model.proofs.ReferenceLaws.{reference_found}
+use Rattle.reference_model.specs.References.{Components, IsReference, reference}
+use Rattle.reference_model.proofs.ReferenceLaws.{reference_found}
 
 pub no_reference : (text : List ℕ) → ((c : Components) → IsReference text c → ⊥) → None ≡ reference text
 no_reference text h = by_cases (reference text) refl

@@ -3,15 +3,15 @@ use Rattle.std.proofs.Common.{◌≡◌, ℕ, Bool, true, false, not, List, [], 
 use Rattle.std.specs.Prelude.{if◌then◌else◌, option_map, find}
 use Rattle.std.specs.Str.{is_utf8}
 use Rattle.std.proofs.lemmas.Slice.Eq.{bytes_eq-Decides}
-use Rattle.document_model.proofs.ReferenceLaws.{none_some}
-use Rattle.document_model.specs.declared.readings.Reading.{Reading}
-use Rattle.document_model.specs.declared.readings.Reading.TheVariants as reading
-use Rattle.document_model.specs.declared.readings.Why.{Why}
-use Rattle.document_model.specs.declared.readings.Why.TheVariants as why
-use Rattle.document_model.specs.Faults.{or_else, first_reason}
-use Rattle.document_model.specs.Options.{option_name, option_value, value_named, is_number, number_of}
-use Rattle.document_model.specs.Parameters.{lifetime, has_control, is_lifetime}
-use Rattle.document_model.specs.Criteria.{page, count}
+use Rattle.rd_base.proofs.lemmas.Options.{none_some}
+use Rattle.record_model.specs.declared.readings.Reading.{Reading}
+use Rattle.record_model.specs.declared.readings.Reading.TheVariants as reading
+use Rattle.record_model.specs.declared.readings.Why.{Why}
+use Rattle.record_model.specs.declared.readings.Why.TheVariants as why
+use Rattle.record_model.specs.Faults.{or_else, first_reason}
+use Rattle.record_model.specs.Options.{option_name, option_value, value_named, is_number, number_of}
+use Rattle.record_model.specs.Parameters.{lifetime, has_control, is_lifetime}
+use Rattle.record_model.specs.Criteria.{page, count}
 use Rattle.query_text.specs.declared.stood.Stood.{Stood}
 use Rattle.query_text.specs.Numbers.{number_in, lifetime_in}
 use Rattle.query_text.specs.Judging.{is_lookup, parameter_rules, option_rules, named_fault, fault_after}

@@ -3,10 +3,10 @@ use Rattle.std.proofs.Common.{◌≡◌, ℕ, Bool, true, false, List, Option, S
 use Rattle.std.specs.Prelude.{if◌then◌else◌}
 use Rattle.std.specs.Str.{IsUtf8, is_utf8}
 use Rattle.std.proofs.lemmas.Str.{IsUtf8-from_is_utf8, is_utf8-from_IsUtf8}
-use Rattle.document_model.specs.declared.readings.Reading.{Reading}
-use Rattle.document_model.specs.declared.readings.Why.{Why}
-use Rattle.document_model.specs.declared.readings.Why.TheVariants as why
-use Rattle.document_model.specs.Options.{option_name, option_value}
+use Rattle.record_model.specs.declared.readings.Reading.{Reading}
+use Rattle.record_model.specs.declared.readings.Why.{Why}
+use Rattle.record_model.specs.declared.readings.Why.TheVariants as why
+use Rattle.record_model.specs.Options.{option_name, option_value}
 use Rattle.query_text.specs.declared.stood.Stood.{Stood}
 use Rattle.query_text.specs.Judging.{named_fault, fault_after}
 

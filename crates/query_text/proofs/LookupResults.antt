@@ -3,10 +3,10 @@ use Rattle.std.proofs.Common.{◌≡◌, ℕ, List, Option, Some, Result, Ok, Er
 use Rattle.std.specs.Result.{IsErrAnd}
 use Rattle.rd_base.specs.declared.queries.Kind.{Kind}
 use Rattle.rd_base.specs.declared.queries.Query.{Query}
-use Rattle.document_model.specs.declared.readings.Reading.TheVariants as reading
-use Rattle.document_model.specs.Faults.{Fault}
-use Rattle.document_model.specs.Parameters.{unless_fault}
-use Rattle.document_model.specs.Criteria.{lookup_fault, lookup_values, lookup_query, fault_of}
+use Rattle.record_model.specs.declared.readings.Reading.TheVariants as reading
+use Rattle.record_model.specs.Faults.{Fault}
+use Rattle.record_model.specs.Parameters.{unless_fault}
+use Rattle.record_model.specs.Criteria.{lookup_fault, lookup_values, lookup_query, fault_of}
 use Rattle.query_text.specs.declared.bad.QueryBad.{QueryBad}
 use Rattle.query_text.specs.declared.bad.QueryBad.TheVariants as bad
 use Rattle.query_text.specs.declared.asked.Asked.{Asked}

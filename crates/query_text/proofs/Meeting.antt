@@ -3,14 +3,14 @@ use Rattle.std.proofs.Common.{◌≡◌, ℕ, Bool, true, false, not, ◌||◌, 
 use Rattle.std.specs.Prelude.{if◌then◌else◌}
 use Rattle.std.specs.Str.{is_utf8}
 use Rattle.std.proofs.lemmas.Slice.Eq.{bytes_eq-Decides}
-use Rattle.document_model.specs.declared.readings.Reading.{Reading}
-use Rattle.document_model.specs.declared.readings.Reading.TheVariants as reading
-use Rattle.document_model.specs.declared.readings.Why.{Why}
-use Rattle.document_model.specs.declared.readings.Why.TheVariants as why
-use Rattle.document_model.specs.Faults.{Fault, or_else, first_reason, first_fault_behind}
-use Rattle.document_model.specs.Options.{option_name, option_value, has_named}
-use Rattle.document_model.specs.Parameters.{ep, sector, lifetime, base, has_control, name_reasons, lifetime_reasons, base_reasons, extra_reasons, reasons_of_name, parameter_fault, missing_fault, parameters_fault}
-use Rattle.document_model.specs.Criteria.{page, count, cut_reasons, criterion_reasons, option_fault, page_fault, lookup_fault, fault_of}
+use Rattle.record_model.specs.declared.readings.Reading.{Reading}
+use Rattle.record_model.specs.declared.readings.Reading.TheVariants as reading
+use Rattle.record_model.specs.declared.readings.Why.{Why}
+use Rattle.record_model.specs.declared.readings.Why.TheVariants as why
+use Rattle.record_model.specs.Faults.{Fault, or_else, first_reason, first_fault_behind}
+use Rattle.record_model.specs.Options.{option_name, option_value, has_named}
+use Rattle.record_model.specs.Parameters.{ep, sector, lifetime, base, has_control, name_reasons, lifetime_reasons, base_reasons, extra_reasons, reasons_of_name, parameter_fault, missing_fault, parameters_fault}
+use Rattle.record_model.specs.Criteria.{page, count, cut_reasons, criterion_reasons, option_fault, page_fault, lookup_fault, fault_of}
 use Rattle.query_text.specs.declared.walking.Walk.{Walk}
 use Rattle.query_text.specs.Standing.{stood_of}
 use Rattle.query_text.specs.Judging.{is_lookup, name_fault, cut_fault, parameter_rules, option_rules, named_fault, fault_after, missing_after}

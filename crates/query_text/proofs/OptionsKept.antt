@@ -4,10 +4,10 @@ use Rattle.std.proofs.lemmas.List.{append-nil}
 use Rattle.std.specs.Prelude.{if◌then◌else◌, filter}
 use Rattle.std.proofs.lemmas.Slice.Eq.{bytes_eq-Decides}
 use Rattle.rd_base.specs.declared.queries.Criterion.{Criterion}
-use Rattle.document_model.specs.declared.readings.Reading.TheVariants as reading
-use Rattle.document_model.specs.Faults.{or_else}
-use Rattle.document_model.specs.Options.{option_name, option_value, number_of, value_named}
-use Rattle.document_model.specs.Criteria.{page, count, is_cut, criterion_of}
+use Rattle.record_model.specs.declared.readings.Reading.TheVariants as reading
+use Rattle.record_model.specs.Faults.{or_else}
+use Rattle.record_model.specs.Options.{option_name, option_value, number_of, value_named}
+use Rattle.record_model.specs.Criteria.{page, count, is_cut, criterion_of}
 use Rattle.query_text.specs.declared.judging.Named.{Named}
 use Rattle.query_text.specs.declared.walking.Walk.{Walk}
 use Rattle.query_text.specs.Numbers.{number_in}

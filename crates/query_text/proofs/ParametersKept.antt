@@ -4,9 +4,9 @@ use Rattle.std.proofs.lemmas.List.{append-nil}
 use Rattle.std.specs.Prelude.{if◌then◌else◌, filter}
 use Rattle.std.proofs.lemmas.Slice.Eq.{bytes_eq-Decides}
 use Rattle.rd_base.specs.declared.attributes.Pair.{Pair}
-use Rattle.document_model.specs.Faults.{or_else}
-use Rattle.document_model.specs.Options.{option_name, option_value, is_among, number_of, value_named}
-use Rattle.document_model.specs.Parameters.{ep, sector, lifetime, base, own_names, pair_of_option}
+use Rattle.record_model.specs.Faults.{or_else}
+use Rattle.record_model.specs.Options.{option_name, option_value, is_among, number_of, value_named}
+use Rattle.record_model.specs.Parameters.{ep, sector, lifetime, base, own_names, pair_of_option}
 use Rattle.query_text.specs.declared.judging.Named.{Named}
 use Rattle.query_text.specs.declared.walking.Walk.{Walk}
 use Rattle.query_text.specs.Numbers.{lifetime_in}

@@ -1,12 +1,12 @@
 -- What a call answers where an option is refused or all are good.
 use Rattle.std.proofs.Common.{◌≡◌, ℕ, false, List, Option, Some, Result, Ok, Err, refl, sym, ap, subst, ◌∙◌}
-use Rattle.document_model.specs.declared.readings.Reading.{Reading}
-use Rattle.document_model.specs.Faults.{Fault}
+use Rattle.record_model.specs.declared.readings.Reading.{Reading}
+use Rattle.record_model.specs.Faults.{Fault}
 use Rattle.std.specs.Result.{IsErrAnd}
 use Rattle.rd_base.specs.declared.parameters.RegParams.{RegParams}
 use Rattle.rd_base.specs.declared.parameters.UpdateParams.{UpdateParams}
-use Rattle.document_model.specs.declared.readings.Reading.TheVariants as reading
-use Rattle.document_model.specs.Parameters.{parameters_fault, unless_fault, registration_values, update_values, registration_parameters, update_parameters}
+use Rattle.record_model.specs.declared.readings.Reading.TheVariants as reading
+use Rattle.record_model.specs.Parameters.{parameters_fault, unless_fault, registration_values, update_values, registration_parameters, update_parameters}
 use Rattle.query_text.specs.Giving.{seen_in, seen_of, registration_of, update_of}
 use Rattle.query_text.specs.declared.bad.QueryBad.{QueryBad}
 use Rattle.query_text.specs.declared.bad.QueryBad.TheVariants as bad

@@ -1,7 +1,7 @@
 -- The first fault of what is left, one option at a time.
 use Rattle.std.proofs.Common.{◌≡◌, ℕ, List, [], ◌∷◌, Option, Some, sym, ap, ◌∙◌}
-use Rattle.document_model.specs.declared.readings.Why.{Why}
-use Rattle.document_model.specs.Faults.{or_else}
+use Rattle.record_model.specs.declared.readings.Why.{Why}
+use Rattle.record_model.specs.Faults.{or_else}
 use Rattle.query_text.specs.declared.judging.Named.{Named}
 use Rattle.query_text.specs.declared.walking.Walk.{Walk}
 use Rattle.query_text.specs.Judging.{fault_after, missing_after}

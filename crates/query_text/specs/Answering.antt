@@ -1,11 +1,11 @@
 -- What a call answers for what the definition says.
 use Rattle.std.specs.Prelude.{◌≡◌, ℕ, List, None, Some, Result, Ok, Err}
-use Rattle.document_model.specs.declared.readings.Reading.{Reading}
-use Rattle.document_model.specs.declared.readings.Reading.TheVariants as reading
-use Rattle.document_model.specs.Faults.{Fault}
-use Rattle.document_model.specs.Parameters.{parameters_fault}
+use Rattle.record_model.specs.declared.readings.Reading.{Reading}
+use Rattle.record_model.specs.declared.readings.Reading.TheVariants as reading
+use Rattle.record_model.specs.Faults.{Fault}
+use Rattle.record_model.specs.Parameters.{parameters_fault}
 use Rattle.query_text.specs.declared.given.Given.{Given}
-use Rattle.document_model.specs.Criteria.{lookup_fault}
+use Rattle.record_model.specs.Criteria.{lookup_fault}
 use Rattle.query_text.specs.declared.asked.Asked.{Asked}
 use Rattle.query_text.specs.Asking.{wanted_in, wanted_of}
 use Rattle.query_text.specs.Giving.{seen_in, seen_of}

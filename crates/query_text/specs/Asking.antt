@@ -3,8 +3,8 @@ use Rattle.std.specs.Prelude.{ℕ, not, List, [], ◌∷◌, ◌++◌, bytes_eq,
 use Rattle.rd_base.specs.declared.queries.Kind.{Kind}
 use Rattle.rd_base.specs.declared.queries.Criterion.{Criterion}
 use Rattle.rd_base.specs.declared.queries.Query.{Query}
-use Rattle.document_model.specs.Faults.{or_else}
-use Rattle.document_model.specs.Criteria.{page, count, is_cut, criterion_of, number_named}
+use Rattle.record_model.specs.Faults.{or_else}
+use Rattle.record_model.specs.Criteria.{page, count, is_cut, criterion_of, number_named}
 use Rattle.query_text.specs.declared.asked.Asked.{Asked}
 use Rattle.query_text.specs.Numbers.{number_in}
 

@@ -1,11 +1,11 @@
 -- What is wrong with a base by itself, and the octets that link-local addresses begin with.
 use Rattle.std.specs.Prelude.{ℕ, Bool, not, List, [], ◌∷◌, Option, codes}
 use Rattle.std.specs.Str.{str_to_ascii_lowercase}
-use Rattle.document_model.specs.declared.readings.Why.{Why}
-use Rattle.document_model.specs.declared.readings.Why.TheVariants as why
-use Rattle.document_model.specs.Faults.{first_reason}
-use Rattle.document_model.specs.Options.{is_among}
-use Rattle.document_model.specs.Parameters.{is_base, is_link_local}
+use Rattle.record_model.specs.declared.readings.Why.{Why}
+use Rattle.record_model.specs.declared.readings.Why.TheVariants as why
+use Rattle.record_model.specs.Faults.{first_reason}
+use Rattle.record_model.specs.Options.{is_among}
+use Rattle.record_model.specs.Parameters.{is_base, is_link_local}
 
 -- the octets are those that a link-local address begins with, in either case (RFC 4291 section 2.5.6)
 abbrev pub begins_link_local : List ℕ → Bool

@@ -3,9 +3,9 @@ use Rattle.std.specs.Prelude.{ℕ, List, [], ◌∷◌, ◌++◌, bytes_eq, Opti
 use Rattle.rd_base.specs.declared.attributes.Pair.{Pair}
 use Rattle.rd_base.specs.declared.parameters.RegParams.{RegParams}
 use Rattle.rd_base.specs.declared.parameters.UpdateParams.{UpdateParams}
-use Rattle.document_model.specs.Faults.{or_else}
-use Rattle.document_model.specs.Options.{value_named}
-use Rattle.document_model.specs.Parameters.{ep, sector, lifetime, base, default_lifetime, given_lifetime, extra_attributes}
+use Rattle.record_model.specs.Faults.{or_else}
+use Rattle.record_model.specs.Options.{value_named}
+use Rattle.record_model.specs.Parameters.{ep, sector, lifetime, base, default_lifetime, given_lifetime, extra_attributes}
 use Rattle.query_text.specs.declared.given.Given.{Given}
 use Rattle.query_text.specs.Numbers.{lifetime_in}
 

@@ -1,15 +1,15 @@
 -- What an option is refused for, where it is known which names stood before it.
 use Rattle.std.specs.Prelude.{ℕ, Bool, true, false, not, ◌&&◌, ◌||◌, nat_lt, List, [], ◌∷◌, length, bytes_eq, Option, Some, None, if◌then◌else◌}
 use Rattle.std.specs.Str.{is_utf8}
-use Rattle.document_model.specs.declared.readings.Reading.{Reading}
-use Rattle.document_model.specs.declared.readings.Reading.TheVariants as reading
-use Rattle.document_model.specs.declared.readings.Why.{Why}
-use Rattle.document_model.specs.declared.readings.Why.TheVariants as why
-use Rattle.document_model.specs.Characters.{is_empty}
-use Rattle.document_model.specs.Faults.{first_reason}
-use Rattle.document_model.specs.Options.{option_name, option_value, is_number}
-use Rattle.document_model.specs.Parameters.{ep, sector, lifetime, base, max_name, has_control, is_lifetime, is_base, is_link_local, is_extra_name, is_update, is_simple}
-use Rattle.document_model.specs.Criteria.{page, count}
+use Rattle.record_model.specs.declared.readings.Reading.{Reading}
+use Rattle.record_model.specs.declared.readings.Reading.TheVariants as reading
+use Rattle.record_model.specs.declared.readings.Why.{Why}
+use Rattle.record_model.specs.declared.readings.Why.TheVariants as why
+use Rattle.link_model.specs.Characters.{is_empty}
+use Rattle.record_model.specs.Faults.{first_reason}
+use Rattle.record_model.specs.Options.{option_name, option_value, is_number}
+use Rattle.record_model.specs.Parameters.{ep, sector, lifetime, base, max_name, has_control, is_lifetime, is_base, is_link_local, is_extra_name, is_update, is_simple}
+use Rattle.record_model.specs.Criteria.{page, count}
 use Rattle.query_text.specs.declared.stood.Stood.{Stood}
 
 -- the options are those of a lookup

@@ -1,7 +1,7 @@
 -- The number of an option.
 use Rattle.std.specs.Prelude.{ℕ, List, Option, Some, None, if◌then◌else◌}
-use Rattle.document_model.specs.Options.{is_number, number_of}
-use Rattle.document_model.specs.Parameters.{is_lifetime}
+use Rattle.record_model.specs.Options.{is_number, number_of}
+use Rattle.record_model.specs.Parameters.{is_lifetime}
 
 -- the number that the text writes, where it writes one
 abbrev pub number_in : List ℕ → Option ℕ

@@ -1,8 +1,8 @@
 -- Which options stood before another.
 use Rattle.std.specs.Prelude.{ℕ, false, ◌||◌, List, bytes_eq}
-use Rattle.document_model.specs.Options.{has_named}
-use Rattle.document_model.specs.Parameters.{ep, sector, lifetime, base}
-use Rattle.document_model.specs.Criteria.{page, count}
+use Rattle.record_model.specs.Options.{has_named}
+use Rattle.record_model.specs.Parameters.{ep, sector, lifetime, base}
+use Rattle.record_model.specs.Criteria.{page, count}
 use Rattle.query_text.specs.declared.stood.Stood.{Stood}
 
 -- which of the names have an option among the others

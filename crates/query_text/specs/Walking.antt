@@ -1,9 +1,9 @@
 -- The first fault of the options that are left, and one option read.
 use Rattle.std.specs.Prelude.{◌≡◌, ℕ, ◌+◌, List, [], ◌∷◌, Option, Some, None, option_map, Result, Ok, Err}
-use Rattle.document_model.specs.declared.readings.Reading.{Reading}
-use Rattle.document_model.specs.declared.readings.Why.{Why}
-use Rattle.document_model.specs.Faults.{Fault, or_else}
-use Rattle.document_model.specs.Options.{option_name, option_value}
+use Rattle.record_model.specs.declared.readings.Reading.{Reading}
+use Rattle.record_model.specs.declared.readings.Why.{Why}
+use Rattle.record_model.specs.Faults.{Fault, or_else}
+use Rattle.record_model.specs.Options.{option_name, option_value}
 use Rattle.query_text.specs.declared.judging.Named.{Named}
 use Rattle.query_text.specs.declared.walking.Walk.{Walk}
 use Rattle.query_text.specs.Standing.{nothing_stood, stood_with}

@@ -1,6 +1,6 @@
 // What the options of a lookup ask for, as far as they were read.
 ghost use Rattle.std.specs.Prelude.{◌≡◌, OnOk, IfOk};
-ghost use Rattle.document_model.specs.Faults.{or_else};
+ghost use Rattle.record_model.specs.Faults.{or_else};
 ghost use Rattle.query_text.specs.Numbers.{number_in};
 ghost use Rattle.query_text.specs.Asking.{wanted_in, wanted_with, nothing_wanted};
 

@@ -2,10 +2,10 @@
 ghost use Rattle.std.specs.Prelude.{◌≡◌, ◌<◌, ◌∷◌, [], not, true, false, Some, option_map, MatchOption};
 ghost use Rattle.std.specs.List.{list_all};
 ghost use Rattle.std.specs.Char.{is_ascii_hexdigit};
-ghost use Rattle.document_model.specs.Characters.{left_bracket};
-ghost use Rattle.document_model.specs.Parameters as parameters;
-ghost use Rattle.document_model.specs.References as references;
-ghost use Rattle.document_model.specs.declared.readings.Why.TheVariants as why;
+ghost use Rattle.link_model.specs.Characters.{left_bracket};
+ghost use Rattle.record_model.specs.Parameters as parameters;
+ghost use Rattle.reference_model.specs.References as references;
+ghost use Rattle.record_model.specs.declared.readings.Why.TheVariants as why;
 ghost use Rattle.ref_resolve.specs.Seen.{components_of};
 ghost use Rattle.query_text.specs.Bases.{begins_link_local, base_fault};
 
@@ -109,7 +109,7 @@ fn reference(text: &str) -> Option<Parts<'_>>
 }
 
 /// What is wrong with a base by itself.
-#[tactic(auto, unfolding(document_model::specs::Parameters::is_base, document_model::specs::Parameters::is_link_local))]
+#[tactic(auto, unfolding(record_model::specs::Parameters::is_base, record_model::specs::Parameters::is_link_local))]
 pub(crate) fn base_fault(text: &str) -> Option<Why>
     ensures { result ≡ base_fault text.now }
 {

@@ -1,6 +1,6 @@
 // The first fault of query options.
 ghost use Rattle.std.specs.Prelude.{◌≡◌};
-ghost use Rattle.document_model.specs.Criteria.{fault_of};
+ghost use Rattle.record_model.specs.Criteria.{fault_of};
 
 use crate::walking::Walk;
 use crate::{Pieces, Reading, Why};

@@ -1,6 +1,6 @@
 // The parameters that were given, as far as they were read.
 ghost use Rattle.std.specs.Prelude.{◌≡◌, OnOk, OnErr, Some, IfOk};
-ghost use Rattle.document_model.specs.Faults.{or_else};
+ghost use Rattle.record_model.specs.Faults.{or_else};
 ghost use Rattle.query_text.specs.Giving.{seen_in, given_with, nothing_given};
 
 use crate::judging::{Named, lifetime};

@@ -1,7 +1,7 @@
 // What one query option is refused for.
 ghost use Rattle.std.specs.Prelude.{◌≡◌, None, Some, MatchResult};
-ghost use Rattle.document_model.specs.Parameters as parameters;
-ghost use Rattle.document_model.specs.Options as options;
+ghost use Rattle.record_model.specs.Parameters as parameters;
+ghost use Rattle.record_model.specs.Options as options;
 ghost use Rattle.query_text.specs.Judging as judging;
 ghost use Rattle.query_text.specs.Numbers.{lifetime_in};
 

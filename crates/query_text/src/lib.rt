@@ -16,11 +16,11 @@ mod stood;
 mod walking;
 
 pub use bad::QueryBad;
-pub use document_model::{Reading, Why};
 pub use faults::fault;
 pub use lookups::lookup_query;
 pub use parameters::{reg_params, update_params};
 pub use pieces::Pieces;
+pub use record_model::{Reading, Why};
 
 #[cfg(test)]
 mod tests;

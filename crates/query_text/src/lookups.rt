@@ -1,6 +1,6 @@
 // What a lookup asks for (RFC 9176 section 6.2).
 ghost use Rattle.std.specs.Prelude.{◌≡◌};
-ghost use Rattle.document_model.specs.Criteria as criteria;
+ghost use Rattle.record_model.specs.Criteria as criteria;
 ghost use Rattle.query_text.specs.Answering.{Answers, Asks};
 ghost use Rattle.query_text.specs.Asking.{wanted_in, query_of};
 

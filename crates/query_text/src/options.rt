@@ -2,10 +2,10 @@
 ghost use Rattle.std.specs.Prelude.{◌≡◌, ◌≤◌, ◌&&◌, not, IfSome, unwrap_or, option_map};
 ghost use Rattle.std.specs.List.{list_all};
 ghost use Rattle.std.specs.Char.{is_ascii_digit};
-ghost use Rattle.document_model.specs.Characters as characters;
-ghost use Rattle.document_model.specs.Options as options;
-ghost use Rattle.document_model.specs.Parameters as parameters;
-ghost use Rattle.document_model.specs.References as references;
+ghost use Rattle.link_model.specs.Characters as characters;
+ghost use Rattle.record_model.specs.Options as options;
+ghost use Rattle.record_model.specs.Parameters as parameters;
+ghost use Rattle.reference_model.specs.References as references;
 ghost use Rattle.query_text.specs.Numbers.{number_in};
 
 use ref_resolve::{Parts, host, is_uri, parts};
@@ -22,7 +22,7 @@ pub(crate) fn name_and_value(option: &str) -> (&str, &str)
 }
 
 /// Whether a text has a control character, U+0000 to U+001F or U+007F to U+009F.
-#[tactic(auto, unfolding(document_model::specs::Parameters::has_control))]
+#[tactic(auto, unfolding(record_model::specs::Parameters::has_control))]
 pub(crate) fn has_control(text: &str) -> bool
     ensures { result ≡ parameters.has_control text.now }
 {

@@ -1,6 +1,6 @@
 // The parameters of registrations and updates (RFC 9176 sections 5, 5.1 and 5.3.1).
 ghost use Rattle.std.specs.Prelude.{◌≡◌, false};
-ghost use Rattle.document_model.specs.Parameters.{registration_parameters, update_parameters};
+ghost use Rattle.record_model.specs.Parameters.{registration_parameters, update_parameters};
 ghost use Rattle.query_text.specs.Answering.{Answers, registering};
 ghost use Rattle.query_text.specs.Giving.{seen_in, registration_of, update_of};
 ghost use Rattle.query_text.specs.Judging.{is_lookup};

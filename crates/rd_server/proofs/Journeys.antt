@@ -15,7 +15,7 @@ use Rattle.rd_server.specs.Fields.{cut}
 use Rattle.line_model.specs.Lines.{line_of, max_line, said_by, fields}
 use Rattle.line_model.specs.Texts.{lines_of}
 use Rattle.rd_server.specs.Journal.{Row, Journal, journal, goes_on, after_line, text}
-use Rattle.rd_server.specs.Standing.{StandsFor}
+use Rattle.rd_server.specs.Standing.{DeskKeeps}
 use Rattle.rd_server.specs.Endings.{IsFrontOf, whole_text}
 use Rattle.rd_server.specs.Going.{Place, IsAt, Leads, Halts, Goes, Feeds, DoesLine, WritesMore, CountsUnwritten, journal_from}
 use Rattle.rd_server.proofs.LineFeeds.{cut-append, lines_first, lines_begin}
@@ -117,7 +117,7 @@ pub kept : (place : Place) (rest : List ℕ) (old : Session) (session : Session)
 kept place rest old session held at e desk line pending = record {
   next = record { rows = place.rows; number = place.number; pending = place.pending ++ rest };
   at = record {
-    desk = subst (StandsFor place.rows) (sym desk) at.desk;
+    desk = subst (DeskKeeps place.rows) (sym desk) at.desk;
     line = line ∙ at.line;
     pending = pending ∙ ap (λ (l : List ℕ). l ++ rest) at.pending;
     «open» = cut-append 10 place.pending rest at.«open» e;

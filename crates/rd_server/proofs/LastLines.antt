@@ -11,7 +11,7 @@ use Rattle.rd_server.specs.Fields.{cut}
 use Rattle.line_model.specs.Lines.{line_of}
 use Rattle.line_model.specs.Texts.{lines_of}
 use Rattle.rd_server.specs.Journal.{Row, Journal, journal, goes_on, after_line, text, end_line}
-use Rattle.rd_server.specs.Standing.{StandsFor}
+use Rattle.rd_server.specs.Standing.{DeskKeeps}
 use Rattle.rd_server.specs.Endings.{IsFrontOf, whole_text}
 use Rattle.rd_server.specs.Going.{Place, IsAt, Halts, DoesLine, EndsLines, Finishes, Writes, WritesMore, journal_from}
 use Rattle.rd_server.proofs.LineFeeds.{lines_last, one_line}
@@ -34,7 +34,7 @@ ended place r = goes_on r place.rows place.number (λ more. record { rows = more
 last_at : (place : Place) (session : Session) (old new : Option (List ℕ)) (result : Option Stop) → cut 10 place.pending ≡ None → (place.pending ≡ [] → ⊥) →
     DoesLine place.rows place.number place.pending session old new result → EndsLines place session old new result
 last_at place session old new None o some h =
-    let p = ok_and (after_line place.rows (line_of place.pending)) (λ (more : List Row). StandsFor more session.desk × (session.line ≡ place.number + 1) × WritesMore place.rows more old new None) h in
+    let p = ok_and (after_line place.rows (line_of place.pending)) (λ (more : List Row). DeskKeeps more session.desk × (session.line ≡ place.number + 1) × WritesMore place.rows more old new None) h in
     (p.0, p.2.0, ends_after place o some ∙ ap (ended place) p.1, p.2.2)
 last_at place session old new (Some (stop.Bad bad)) o some h =
     let p = err_and (after_line place.rows (line_of place.pending)) (λ (why : Reason). bad ≡ record { line = place.number; why = why }) h.0 in
@@ -81,7 +81,7 @@ finished_at rows more old mid new sent (Some stop.Starved) e a h = (
 
 -- all lines were done, and the line that ends the output was written as far as it was
 pub finished : (place : Place) (session : Session) (old mid new : Option (List ℕ)) (result : Option Stop) → EndsLines place session old mid None
-    → ((rows : List Row) → StandsFor rows session.desk → Writes mid new (end_line rows) result) → Finishes (journal_from place []) (text place.rows) old new result
+    → ((rows : List Row) → DeskKeeps rows session.desk → Writes mid new (end_line rows) result) → Finishes (journal_from place []) (text place.rows) old new result
 finished place session old mid new result h w =
     subst (λ (j : Journal). Finishes j (text place.rows) old new result) (sym h.2) (finished_at place.rows h.0 old mid new h.3.0 result h.3.1 h.3.2 (w h.0 h.1))
 

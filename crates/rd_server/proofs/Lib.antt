@@ -11,4 +11,4 @@ pub mod LastLines
 pub mod Saying
 pub mod Whole
 pub mod Accounts
-pub mod Examples
+mod examples

@@ -13,7 +13,7 @@ use Rattle.line_model.specs.declared.lines.Reason.{Reason}
 use Rattle.line_model.specs.declared.lines.Reason.TheVariants as reason
 use Rattle.rd_server.specs.Journal.{out_line}
 use Rattle.rd_server.specs.Journal.{Row, held, come_row, go_row, number_for, gone, worker_in, workers, after_step, after_line, text}
-use Rattle.rd_server.specs.Standing.{StandsFor, Answers, Went}
+use Rattle.rd_server.specs.Standing.{DeskKeeps, Answers, Went}
 use Rattle.rd_server.specs.Going.{Performs, sent_text}
 
 none_held : (o : Option Job) → is_some o ≡ false → o ≡ None
@@ -43,7 +43,7 @@ here rows read step desk answer e below h =
 -- a datagram came to a worker that holds no job
 pub performs_come : (rows : List Row) (read : Result Line Reason) (worker : ℕ) (moment : Moment) (peer : Peer) (datagram : List ℕ) (desk : Desk) (answer : Option (Peer × List ℕ)) →
     read ≡ Ok (line.Come worker moment peer datagram) → worker < workers → held rows ≡ None →
-    StandsFor (come_row worker moment peer datagram ∷ rows) desk × Answers answer (come_row worker moment peer datagram).sent → Performs rows (after_line rows read) desk (Ok answer)
+    DeskKeeps (come_row worker moment peer datagram ∷ rows) desk × Answers answer (come_row worker moment peer datagram).sent → Performs rows (after_line rows read) desk (Ok answer)
 performs_come rows read worker moment peer datagram desk answer e below f h =
     let row = come_row worker moment peer datagram in
     let done : Performs rows (Ok (row ∷ rows)) desk (Ok answer) = (h.0, more_text rows row answer h.1) in

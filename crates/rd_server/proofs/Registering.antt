@@ -10,7 +10,7 @@ use Rattle.rd_server.specs.declared.desk.Job.{Job}
 use Rattle.rd_server.specs.Forms.{location}
 use Rattle.rd_server.specs.Journal.{Row, Entry, given, drawn, held, number_by, number_in}
 use Rattle.rd_server.specs.declared.registry.Registry.{Registry}
-use Rattle.rd_server.specs.Standing.{StandsFor, KeepsNumbers, GivesNumber, Went}
+use Rattle.rd_server.specs.Standing.{DeskKeeps, KeepsNumbers, GivesNumber, Went}
 
 -- a number that a name has is not above the greatest
 below_by : (name : List ℕ) (entry : Option Entry) (earlier : Option ℕ) (most n : ℕ) → ((m : ℕ) → earlier ≡ Some m → m ≤ most)
@@ -56,7 +56,7 @@ gives_next rows name number old new keeps absent next puts drew =
     }
 
 -- after the end of a job the desk stands for one row more
-pub went : (rows : List Row) (worker : ℕ) (moment : Moment) (old new : Desk) (job : Job) (number : ℕ) (answer : List ℕ) → StandsFor rows old → old.job ≡ Some job
+pub went : (rows : List Row) (worker : ℕ) (moment : Moment) (old new : Desk) (job : Job) (number : ℕ) (answer : List ℕ) → DeskKeeps rows old → old.job ≡ Some job
     → GivesNumber rows job.name number new.registry → new.entries ≡ old.entries + 1 → new.job ≡ None → answer ≡ job.answer ++ location number
     → Went rows worker moment (held rows) new (Some (job.peer, answer))
 went rows worker moment old new job number answer st isjob gives counted free answered =
@@ -74,7 +74,7 @@ went rows worker moment old new job number answer st isjob gives counted free an
     subst (λ (h : Option Job). Went rows worker moment h new (Some (job.peer, answer))) (sym isjob ∙ st.job_held) here
 
 -- without a job nothing happens
-pub went_nowhere : (rows : List Row) (worker : ℕ) (moment : Moment) (desk : Desk) → StandsFor rows desk → desk.job ≡ None → Went rows worker moment (held rows) desk None
+pub went_nowhere : (rows : List Row) (worker : ℕ) (moment : Moment) (desk : Desk) → DeskKeeps rows desk → desk.job ≡ None → Went rows worker moment (held rows) desk None
 went_nowhere rows worker moment desk st free =
     let here : Went rows worker moment None desk None = (st, refl) in
     subst (λ (h : Option Job). Went rows worker moment h desk None) (sym free ∙ st.job_held) here

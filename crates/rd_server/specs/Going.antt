@@ -16,7 +16,7 @@ use Rattle.rd_server.specs.Fields.{cut}
 use Rattle.line_model.specs.Lines.{line_of}
 use Rattle.line_model.specs.Texts.{lines_of}
 use Rattle.rd_server.specs.Journal.{Row, Journal, journal, after_line, out_line, text}
-use Rattle.rd_server.specs.Standing.{StandsFor}
+use Rattle.rd_server.specs.Standing.{DeskKeeps}
 use Rattle.rd_server.specs.Endings.{IsFrontOf, whole_text}
 
 -- a place in a trace: the rows so far, the number of the next line, and what has come of that line
@@ -35,7 +35,7 @@ start = record { rows = []; number = 1; pending = [] }
 
 -- a session stands at a place, in the middle of a line
 pub record IsAt (place : Place) (session : Session) : Type 0 where
-  pub desk : StandsFor place.rows session.desk
+  pub desk : DeskKeeps place.rows session.desk
   pub line : session.line ≡ place.number
   pub pending : session.pending ≡ place.pending
   pub «open» : cut 10 place.pending ≡ None
@@ -97,7 +97,7 @@ sent_text (Some sent) = out_line sent
 
 -- a line was done by a desk: it stands for the rows after it, whose text has the answer more; or the line is bad
 abbrev pub Performs : List Row → Result (List Row) Reason → Desk → Result (Option (Peer × List ℕ)) Trouble → Type 0
-Performs rows (Ok more) desk (Ok answer) = StandsFor more desk × (text more ≡ text rows ++ sent_text answer)
+Performs rows (Ok more) desk (Ok answer) = DeskKeeps more desk × (text more ≡ text rows ++ sent_text answer)
 Performs rows (Err why) desk (Ok answer) = ⊥
 Performs rows (Ok more) desk (Err (trouble.Bad said)) = ⊥
 Performs rows (Err why) desk (Err (trouble.Bad said)) = said ≡ why
@@ -117,7 +117,7 @@ WritesMore rows more old new result = (sent : List ℕ) × (text more ≡ text r
 -- a whole line was done by a session, under its number
 abbrev pub DoesLine : List Row → ℕ → List ℕ → Session → Option (List ℕ) → Option (List ℕ) → Option Stop → Type 0
 DoesLine rows number line session old new None =
-    IsOkAnd (after_line rows (line_of line)) (λ more. StandsFor more session.desk × (session.line ≡ number + 1) × WritesMore rows more old new None)
+    IsOkAnd (after_line rows (line_of line)) (λ more. DeskKeeps more session.desk × (session.line ≡ number + 1) × WritesMore rows more old new None)
 DoesLine rows number line session old new (Some (stop.Bad bad)) =
     IsErrAnd (after_line rows (line_of line)) (λ why. bad ≡ record { line = number; why = why }) × Appends old new []
 DoesLine rows number line session old new (Some stop.Unwritten) = IsOkAnd (after_line rows (line_of line)) (λ more. WritesMore rows more old new (Some stop.Unwritten))
@@ -126,7 +126,7 @@ DoesLine rows number line session old new (Some stop.Starved) = Appends old new 
 -- the last line was done: the trace is at its end
 abbrev pub EndsLines : Place → Session → Option (List ℕ) → Option (List ℕ) → Option Stop → Type 0
 EndsLines place session old new None =
-    (more : List Row) × StandsFor more session.desk × (journal_from place [] ≡ record { rows = more; bad = None }) × WritesMore place.rows more old new None
+    (more : List Row) × DeskKeeps more session.desk × (journal_from place [] ≡ record { rows = more; bad = None }) × WritesMore place.rows more old new None
 EndsLines place session old new (Some halt) = Halts (journal_from place []) (text place.rows) old new halt
 
 -- what a session was fed while the trace was read: to its end, or until the source failed or the replay stopped

@@ -20,7 +20,7 @@ pub record GivesNumber (rows : List Row) (name : List ℕ) (number : ℕ) (regis
   pub drawn_is : registry.drawn ≡ max number (drawn rows)
 
 -- a desk keeps the numbers of names, how many entries there are, and the job that is held
-pub record StandsFor (rows : List Row) (desk : Desk) : Type 0 where
+pub record DeskKeeps (rows : List Row) (desk : Desk) : Type 0 where
   pub registered : KeepsNumbers rows desk.registry
   pub entries_so_far : desk.entries ≡ entries rows
   pub job_held : desk.job ≡ held rows
@@ -32,6 +32,6 @@ Answers (Some answer) sent = sent ≡ answer ∷ []
 
 -- after the end of a job the desk stands for one row more, which has the answer; without a job nothing happened
 abbrev pub Went : List Row → ℕ → Moment → Option Job → Desk → Option (Peer × List ℕ) → Type 0
-Went rows worker moment None desk answer = StandsFor rows desk × (answer ≡ None)
+Went rows worker moment None desk answer = DeskKeeps rows desk × (answer ≡ None)
 Went rows worker moment (Some job) desk answer =
-    let row = go_row worker moment job (number_for job.name rows) in StandsFor (row ∷ rows) desk × Answers answer row.sent
+    let row = go_row worker moment job (number_for job.name rows) in DeskKeeps (row ∷ rows) desk × Answers answer row.sent

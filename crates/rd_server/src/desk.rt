@@ -3,7 +3,7 @@ ghost use Rattle.std.specs.Prelude.{◌≡◌, ℕ, List, [], ◌∷◌, IfOk, i
 ghost use Rattle.rd_base.specs.declared.moments.Moment.{Moment};
 ghost use Rattle.rd_server.specs.Journal as journal;
 ghost use Rattle.rd_server.specs.Journal.{Row};
-ghost use Rattle.rd_server.specs.Standing.{StandsFor, Answers, Went};
+ghost use Rattle.rd_server.specs.Standing.{DeskKeeps, Answers, Went};
 
 use crate::forms::{
     CREATED, NOT_IMPLEMENTED, acknowledgement, append_location, asking_of, registering_of,
@@ -71,7 +71,7 @@ pub struct Desk {
 impl Desk {
     /// No registrations and no job.
     pub fn new(alloc: Global) -> Desk
-        ensures { StandsFor [] result }
+        ensures { DeskKeeps [] result }
     {
         Desk {
             registry: Registry::new(alloc),
@@ -82,7 +82,7 @@ impl Desk {
 
     /// Whether the worker holds a job.
     pub fn is_busy(&self) -> bool
-        ensures { (rows : List Row) → StandsFor rows self.now → result ≡ is_some (journal.held rows) }
+        ensures { (rows : List Row) → DeskKeeps rows self.now → result ≡ is_some (journal.held rows) }
     {
         self.job.is_some()
     }
@@ -94,8 +94,8 @@ impl Desk {
         peer: Peer,
         datagram: &[u8],
     ) -> Result<Option<(Peer, Bytes)>, Starved>
-        ensures { IfOk result (λ answer. (rows : List Row) (worker : ℕ) (moment : Moment) → StandsFor rows self.old → journal.held rows ≡ None
-            → StandsFor (journal.come_row worker moment peer datagram.now ∷ rows) self.new
+        ensures { IfOk result (λ answer. (rows : List Row) (worker : ℕ) (moment : Moment) → DeskKeeps rows self.old → journal.held rows ≡ None
+            → DeskKeeps (journal.come_row worker moment peer datagram.now ∷ rows) self.new
             × Answers answer (journal.come_row worker moment peer datagram.now).sent) }
     {
         let heard = heard_of(alloc, peer, datagram)?;
@@ -112,7 +112,7 @@ impl Desk {
     /// The worker ends its job: the name gets its number, and 2.01 is answered with the location.
     /// Without a job nothing happens. Where memory is wanted, the desk is not to be used any more.
     pub fn go(&mut self, alloc: Global) -> Result<Option<(Peer, Bytes)>, Starved>
-        ensures { IfOk result (λ answer. (rows : List Row) (worker : ℕ) (moment : Moment) → StandsFor rows self.old
+        ensures { IfOk result (λ answer. (rows : List Row) (worker : ℕ) (moment : Moment) → DeskKeeps rows self.old
             → Went rows worker moment (journal.held rows) self.new answer) }
     {
         let Some(job) = mem::replace(&mut self.job, None) else {
@@ -133,7 +133,7 @@ impl Desk {
     /// The line that ends an output.
     #[tactic(auto, unfolding(crate::specs::Journal::end_line))]
     pub fn end_line(&self, alloc: Global) -> Result<Bytes, Starved>
-        ensures { IfOk result (λ text. (rows : List Row) → StandsFor rows self.now → text ≡ journal.end_line rows) }
+        ensures { IfOk result (λ text. (rows : List Row) → DeskKeeps rows self.now → text ≡ journal.end_line rows) }
     {
         let entries = self.entries;
         let drawn = self.registry.drawn();

@@ -5,7 +5,7 @@ ghost use Rattle.rd_server.specs.Fields as fields;
 ghost use Rattle.line_model.specs.Lines as trace;
 ghost use Rattle.rd_server.specs.Journal as journals;
 ghost use Rattle.rd_server.specs.Journal.{Row, after_line, end_line, text};
-ghost use Rattle.rd_server.specs.Standing.{StandsFor};
+ghost use Rattle.rd_server.specs.Standing.{DeskKeeps};
 ghost use Rattle.rd_server.specs.Going.{Performs, CountsAll, CountsUnwritten, Writes, DoesLine, Feeds, EndsLines, Finishes, IsAt, Place, journal_from, start, sent_text};
 
 use crate::desk::Desk;
@@ -67,9 +67,9 @@ fn worker_in(line: &Line) -> u8
     ensures { result ≡ journals.worker_in line.now }
 {
     match line {
-        Line::Come(worker, _, _, _) => *worker,
+        Line::Come { worker, .. } => *worker,
         Line::Go(worker, _) => *worker,
-        Line::Tick(worker, _, _) => *worker,
+        Line::Tick { worker, .. } => *worker,
     }
 }
 
@@ -88,21 +88,21 @@ fn out_line(alloc: Global, peer: &Peer, datagram: &[u8]) -> Result<Bytes, Starve
 
 /// Does what a line says. Where a line is bad the desk is as before, and after want of memory it is not to be used.
 fn perform(alloc: Global, desk: &mut Desk, line: &[u8]) -> Result<Option<(Peer, Bytes)>, Trouble>
-    ensures { (rows : List Row) → StandsFor rows desk.old → Performs rows (after_line rows (trace.line_of line.now)) desk.new result }
+    ensures { (rows : List Row) → DeskKeeps rows desk.old → Performs rows (after_line rows (trace.line_of line.now)) desk.new result }
 {
     let step = line_read(alloc, line)?;
     if worker_in(&step) >= WORKERS {
         return Err(Trouble::Bad(Reason::Worker));
     }
     match step {
-        Line::Come(_, _, peer, datagram) => {
+        Line::Come { peer, datagram, .. } => {
             if desk.is_busy() {
                 return Err(Trouble::Bad(Reason::Busy));
             }
             Ok(desk.come(alloc, peer, datagram.as_slice())?)
         }
         Line::Go(_, _) => Ok(desk.go(alloc)?),
-        Line::Tick(_, _, _) => Ok(None),
+        Line::Tick { .. } => Ok(None),
     }
 }
 
@@ -153,7 +153,7 @@ impl Session {
 
     /// Does a line that is whole.
     fn do_line<K: Sink>(&mut self, alloc: Global, line: &[u8], out: &mut K) -> Option<Stop>
-        ensures done { (rows : List Row) → StandsFor rows self.old.desk
+        ensures done { (rows : List Row) → DeskKeeps rows self.old.desk
             → DoesLine rows self.old.line line.now self.new (K.holds out.old) (K.holds out.new) result }
         ensures kept { self.new.pending ≡ self.old.pending }
         ensures cause { CountsUnwritten (K.faults out.old) (K.faults out.new) result }
@@ -239,7 +239,7 @@ impl Session {
 
     /// Writes the line that ends the output.
     fn write_end<K: Sink>(&self, alloc: Global, out: &mut K) -> Option<Stop>
-        ensures written { (rows : List Row) → StandsFor rows self.now.desk
+        ensures written { (rows : List Row) → DeskKeeps rows self.now.desk
             → Writes (K.holds out.old) (K.holds out.new) (end_line rows) result }
         ensures cause { CountsUnwritten (K.faults out.old) (K.faults out.new) result }
     {

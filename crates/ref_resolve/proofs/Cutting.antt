@@ -5,9 +5,9 @@ use Rattle.std.specs.List.{slice_range}
 use Rattle.std.specs.Option.{MatchOption}
 use denote.Ref.{Bor}
 use mathlib.Core.Logic.{◌≢◌}
-use Rattle.document_model.specs.Characters.{colon, slash}
-use Rattle.document_model.specs.References.{before, behind, begins_with, from_first, through, has_octet, has_colon_in_first_segment, behind_two_slashes}
-use Rattle.document_model.proofs.ReferenceCuts.{before-marked, behind-marked}
+use Rattle.link_model.specs.Characters.{colon, slash}
+use Rattle.reference_model.specs.References.{before, behind, begins_with, from_first, through, has_octet, has_colon_in_first_segment, behind_two_slashes}
+use Rattle.reference_model.proofs.ReferenceCuts.{before-marked, behind-marked}
 
 -- an octet that stands at no place does not stand in the text
 pub octet_nowhere : (mark : ℕ) (text : List ℕ) → ((i : ℕ) → i < length text → get_or text i 0 ≢ mark) → has_octet mark text ≡ false

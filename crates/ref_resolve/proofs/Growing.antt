@@ -4,9 +4,9 @@ use Rattle.std.specs.Prelude.{◌==◌, fold, OnOk}
 use Rattle.std.proofs.Math.Seq.{take-append_seam}
 use Rattle.std.proofs.lemmas.List.{take-append-drop}
 use Rattle.std.proofs.lemmas.Bool.Decides.{nat_tests}
-use Rattle.document_model.specs.Characters.{slash, is_empty}
-use Rattle.document_model.specs.References.{before, begins_with, from_first}
-use Rattle.document_model.specs.Resolution.{segments_of, with_closing_slash, is_dot_segment, without_leading_dots, remove_dot_segments}
+use Rattle.link_model.specs.Characters.{slash, is_empty}
+use Rattle.reference_model.specs.References.{before, begins_with, from_first}
+use Rattle.reference_model.specs.Resolution.{segments_of, with_closing_slash, is_dot_segment, without_leading_dots, remove_dot_segments}
 use Rattle.ref_resolve.specs.Paths.{path_with, closed_segments}
 use Rattle.ref_resolve.proofs.Segments.{segments_behind, first_segment, closing_behind, no_slash_behind}
 use Rattle.ref_resolve.proofs.Kept.{dots_removed}

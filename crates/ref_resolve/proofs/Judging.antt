@@ -1,11 +1,11 @@
 -- The components that a text is taken apart into are judged one by one.
 use Rattle.std.proofs.Common.{◌≡◌, ℕ, Bool, true, false, not, ◌&&◌, ◌||◌, List, [], ◌∷◌, ◌++◌, Option, Some, None, is_some, length, refl, sym, ap, ◌∙◌, length-append, arith}
 use Rattle.std.proofs.lemmas.Bool.Decides.{nat_tests}
-use Rattle.document_model.specs.Characters.{slash, is_empty, is_path_character, is_query_character}
-use Rattle.document_model.specs.References.{Components, begins_with, from_first, without_query, has_colon_in_first_segment, scheme_in, behind_scheme, behind_two_slashes, authority_in, path_in, components, recomposed, scheme_text, authority_text, query_text, fragment_text, where_given, is_scheme, is_authority, is_text_of, path_fits, is_allowed, IsReference}
-use Rattle.document_model.specs.ReferenceFaults.{prefix_of_parts, parts_of, reference_fault_at}
-use Rattle.document_model.proofs.ReferenceLaws.{recomposed-components}
-use Rattle.document_model.proofs.ReferenceReading.{components-recomposed}
+use Rattle.link_model.specs.Characters.{slash, is_empty, is_path_character, is_query_character}
+use Rattle.reference_model.specs.References.{Components, begins_with, from_first, without_query, has_colon_in_first_segment, scheme_in, behind_scheme, behind_two_slashes, authority_in, path_in, components, recomposed, scheme_text, authority_text, query_text, fragment_text, where_present, is_scheme, is_authority, is_text_of, path_fits, is_allowed, IsReference}
+use Rattle.reference_model.specs.ReferenceFaults.{prefix_of_parts, parts_of, reference_fault_at}
+use Rattle.reference_model.proofs.ReferenceLaws.{recomposed-components}
+use Rattle.reference_model.proofs.ReferenceReading.{components-recomposed}
 use Rattle.ref_resolve.specs.Faults.{have_no_fault, size_of}
 
 -- ---- the path of components that a text is taken apart into fits
@@ -47,8 +47,8 @@ middle_true false b c d e f h = refl
 pub allowed_taken_apart : (text : List ℕ) → is_allowed (components text) ≡ have_no_fault (components text)
 allowed_taken_apart text =
     let c = components text in
-    middle_true (where_given is_scheme c.scheme) (where_given is_authority c.authority) (is_text_of is_path_character c.path) (path_fits c)
-    (where_given (is_text_of is_query_character) c.query) (where_given (is_text_of is_query_character) c.fragment) (path_fits_taken_apart text)
+    middle_true (where_present is_scheme c.scheme) (where_present is_authority c.authority) (is_text_of is_path_character c.path) (path_fits c)
+    (where_present (is_text_of is_query_character) c.query) (where_present (is_text_of is_query_character) c.fragment) (path_fits_taken_apart text)
 
 -- ---- what is read
 

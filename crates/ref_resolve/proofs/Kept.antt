@@ -6,10 +6,10 @@ use Rattle.std.proofs.lemmas.List.Folds.{concat-append}
 use Rattle.std.proofs.lemmas.List.{reverse-append}
 use Rattle.std.proofs.lemmas.Bool.{and_parts, not-true}
 use Rattle.std.proofs.lemmas.Bool.Decides.{nat_tests}
-use Rattle.document_model.specs.Characters.{slash}
-use Rattle.document_model.specs.References.{before, from_first, has_octet}
-use Rattle.document_model.specs.Resolution.{onto_first_segment, segments_of, is_single_dot, is_double_dot, is_dot_segment, with_closing_slash, without_leading_dots, without_last_kept, kept_with, path_without_dots, remove_dot_segments}
-use Rattle.document_model.proofs.ReferenceCuts.{has_octet-before}
+use Rattle.link_model.specs.Characters.{slash}
+use Rattle.reference_model.specs.References.{before, from_first, has_octet}
+use Rattle.reference_model.specs.Resolution.{onto_first_segment, segments_of, is_single_dot, is_double_dot, is_dot_segment, with_closing_slash, without_leading_dots, without_last_kept, kept_with, path_without_dots, remove_dot_segments}
+use Rattle.reference_model.proofs.ReferenceCuts.{has_octet-before}
 use Rattle.ref_resolve.specs.Paths.{before_last, path_with, closed_segments}
 use Rattle.ref_resolve.proofs.Segments.{leading_none}
 

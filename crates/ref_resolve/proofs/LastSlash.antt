@@ -4,9 +4,9 @@ use Rattle.std.proofs.Math.Seq.{take-append_seam, take-length}
 use Rattle.std.proofs.lemmas.List.{drop-take}
 use Rattle.std.proofs.lemmas.Bool.Decides.{nat_tests}
 use mathlib.Core.Logic.{◌≢◌}
-use Rattle.document_model.specs.Characters.{slash}
-use Rattle.document_model.specs.References.{has_octet}
-use Rattle.document_model.proofs.ReferenceCuts.{has_octet-append}
+use Rattle.link_model.specs.Characters.{slash}
+use Rattle.reference_model.specs.References.{has_octet}
+use Rattle.reference_model.proofs.ReferenceCuts.{has_octet-append}
 use Rattle.ref_resolve.specs.Paths.{before_last}
 use Rattle.ref_resolve.proofs.Kept.{before_last-slash}
 

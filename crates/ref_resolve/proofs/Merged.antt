@@ -4,10 +4,10 @@ use Rattle.std.specs.Prelude.{◌==◌}
 use Rattle.std.proofs.lemmas.Bool.{false≢true}
 use Rattle.std.proofs.lemmas.Bool.Decides.{nat_tests}
 use mathlib.Core.Logic.{◌≢◌}
-use Rattle.document_model.specs.Characters.{slash}
-use Rattle.document_model.specs.References.{Components, IsReference, components, recomposed, scheme_text, authority_text, query_text, fragment_text, before, from_first, has_octet}
-use Rattle.document_model.specs.Resolution.{segments_of, up_to_last_slash, resolution, resolved}
-use Rattle.document_model.proofs.ReferenceReading.{components-recomposed}
+use Rattle.link_model.specs.Characters.{slash}
+use Rattle.reference_model.specs.References.{Components, IsReference, components, recomposed, scheme_text, authority_text, query_text, fragment_text, before, from_first, has_octet}
+use Rattle.reference_model.specs.Resolution.{segments_of, up_to_last_slash, resolution, resolved}
+use Rattle.reference_model.proofs.ReferenceReading.{components-recomposed}
 use Rattle.ref_resolve.proofs.Cutting.{octet_nowhere, from_nowhere}
 use Rattle.ref_resolve.proofs.Segments.{segments_behind, first_segment}
 

@@ -4,10 +4,10 @@ use Rattle.std.specs.Prelude.{◌==◌}
 use Rattle.std.proofs.lemmas.Bool.Decides.{nat_tests}
 use Rattle.std.specs.List.{list_all, prefix_len}
 use Rattle.std.specs.Char.{is_ascii_alphabetic, is_ascii_digit, is_ascii_hexdigit}
-use Rattle.document_model.specs.Characters.{percent_sign, colon, at_sign, is_userinfo_character, left_bracket, is_run_of, is_scheme_character}
-use Rattle.document_model.specs.References.{before, behind, begins_with, has_octet, is_text_of, is_text_behind_digits, digits_after, is_scheme, is_port_text, is_literal_and_port, is_name_and_port, is_host_and_port}
-use Rattle.document_model.specs.ReferenceFaults.{text_prefix, prefix_behind_digits, port_prefix, literal_prefix, name_prefix, host_prefix, authority_prefix}
-use Rattle.document_model.proofs.ReferenceLaws.{some_same, none_some}
+use Rattle.link_model.specs.Characters.{percent_sign, colon, at_sign, is_userinfo_character, left_bracket, is_run_of, is_scheme_character}
+use Rattle.reference_model.specs.References.{before, behind, begins_with, has_octet, is_text_of, is_text_behind_digits, digits_after, is_scheme, is_port_text, is_literal_and_port, is_name_and_port, is_host_and_port}
+use Rattle.reference_model.specs.ReferenceFaults.{text_prefix, prefix_behind_digits, port_prefix, literal_prefix, name_prefix, host_prefix, authority_prefix}
+use Rattle.rd_base.proofs.lemmas.Options.{some_same, none_some}
 use Rattle.ref_resolve.specs.Classes.{next_digits}
 
 some_digit : (n : ℕ) → (suc n == 0) ≡ false

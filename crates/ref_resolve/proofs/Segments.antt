@@ -2,9 +2,9 @@
 use Rattle.std.proofs.Common.{◌≡◌, ℕ, Bool, true, false, ◌||◌, List, [], ◌∷◌, refl, sym, ap, ◌∙◌, arith}
 use Rattle.std.specs.Prelude.{◌==◌}
 use Rattle.std.proofs.lemmas.Bool.Decides.{nat_tests}
-use Rattle.document_model.specs.Characters.{slash, is_empty}
-use Rattle.document_model.specs.References.{before, from_first, begins_with}
-use Rattle.document_model.specs.Resolution.{onto_first_segment, segments_of, is_dot_segment, with_closing_slash, without_leading_dots}
+use Rattle.link_model.specs.Characters.{slash, is_empty}
+use Rattle.reference_model.specs.References.{before, from_first, begins_with}
+use Rattle.reference_model.specs.Resolution.{onto_first_segment, segments_of, is_dot_segment, with_closing_slash, without_leading_dots}
 use Rattle.ref_resolve.specs.Paths.{closed_segments}
 
 -- the segments of what begins with a slash, or of nothing

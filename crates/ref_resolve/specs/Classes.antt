@@ -1,8 +1,8 @@
 -- The classes of characters of the components, and what a percent sign asks of the octets behind it (RFC 3986 section 2.1).
 use Rattle.std.specs.Prelude.{ℕ, Bool, ◌||◌, ◌==◌, ◌-◌, Option, Some, None, if◌then◌else◌}
 use Rattle.std.specs.Char.{is_ascii_hexdigit}
-use Rattle.document_model.specs.Characters.{percent_sign, is_name_character, is_userinfo_character, is_path_character, is_query_character}
-use Rattle.document_model.specs.References.{digits_after}
+use Rattle.link_model.specs.Characters.{percent_sign, is_name_character, is_userinfo_character, is_path_character, is_query_character}
+use Rattle.reference_model.specs.References.{digits_after}
 use Rattle.ref_resolve.specs.declared.reach.Class.{Class}
 use Rattle.ref_resolve.specs.declared.reach.Class.TheVariants as class
 

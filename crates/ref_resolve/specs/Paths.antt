@@ -1,8 +1,8 @@
 -- A path as it grows, segment by segment, and its end cut off at a slash.
 use Rattle.std.specs.Prelude.{ℕ, List, [], ◌∷◌, ◌++◌, if◌then◌else◌}
-use Rattle.document_model.specs.Characters.{slash}
-use Rattle.document_model.specs.References.{has_octet}
-use Rattle.document_model.specs.Resolution.{segments_of, is_single_dot, is_double_dot, with_closing_slash}
+use Rattle.link_model.specs.Characters.{slash}
+use Rattle.reference_model.specs.References.{has_octet}
+use Rattle.reference_model.specs.Resolution.{segments_of, is_single_dot, is_double_dot, with_closing_slash}
 
 -- what stands before the last octet of that kind, or nothing
 unfoldable pub before_last : ℕ → List ℕ → List ℕ

@@ -1,6 +1,6 @@
 -- The components that the parts of a reference show.
 use Rattle.std.specs.Prelude.{option_map}
-use Rattle.document_model.specs.References.{Components}
+use Rattle.reference_model.specs.References.{Components}
 use Rattle.ref_resolve.specs.declared.splitting.Parts.{Parts}
 
 -- the components, as octets

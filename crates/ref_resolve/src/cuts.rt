@@ -1,6 +1,6 @@
 // Cutting a text at its first octet of a kind.
 ghost use Rattle.std.specs.Prelude.{◌≡◌, ◌<◌, ◌+◌, ◌∷◌, length, option_map, MatchOption, false};
-ghost use Rattle.document_model.specs.References as references;
+ghost use Rattle.reference_model.specs.References as references;
 
 /// What stands before the first of these marks, or the whole text, and what stands behind it, if there is one.
 pub(crate) fn around(text: &str, mark: char) -> (&str, Option<&str>)

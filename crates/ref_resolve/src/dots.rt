@@ -2,9 +2,9 @@
 ghost use Rattle.std.specs.Prelude.{◌≡◌, ◌<◌, ◌≤◌, [], ◌∷◌, ◌++◌, ◌||◌, true, false, fold, length, take, drop, slice_index, MatchOption, IfSome, OnOk};
 ghost use Rattle.std.specs.String.{string_bytes};
 ghost use Rattle.std.specs.Str.{IsUtf8};
-ghost use Rattle.document_model.specs.Characters.{slash, is_empty};
-ghost use Rattle.document_model.specs.References as references;
-ghost use Rattle.document_model.specs.Resolution as resolution;
+ghost use Rattle.link_model.specs.Characters.{slash, is_empty};
+ghost use Rattle.reference_model.specs.References as references;
+ghost use Rattle.reference_model.specs.Resolution as resolution;
 ghost use Rattle.ref_resolve.specs.Paths.{before_last, path_with, closed_segments};
 
 use crate::cuts::{behind_first, split_from};

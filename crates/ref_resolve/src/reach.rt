@@ -2,9 +2,9 @@
 ghost use Rattle.std.specs.Prelude.{◌≡◌, ◌≤◌, ◌+◌, ◌∷◌, length};
 ghost use Rattle.std.specs.List.{prefix_len, list_all};
 ghost use Rattle.std.specs.Char.{is_ascii_digit};
-ghost use Rattle.document_model.specs.Characters as characters;
-ghost use Rattle.document_model.specs.References as references;
-ghost use Rattle.document_model.specs.ReferenceFaults as faults;
+ghost use Rattle.link_model.specs.Characters as characters;
+ghost use Rattle.reference_model.specs.References as references;
+ghost use Rattle.reference_model.specs.ReferenceFaults as faults;
 ghost use Rattle.ref_resolve.specs.Classes.{stands_in, next_digits};
 
 use crate::cuts::{around, behind_first, split_from};
@@ -251,7 +251,7 @@ fn host_reach(text: &str) -> Reach
 }
 
 /// An authority: user information or none, a host, and a port or none (RFC 3986 section 3.2).
-#[tactic(auto, using(crate::proofs::Reaching::octet_behind, crate::proofs::Cutting::before_nowhere, crate::proofs::Reaching::no_at_sign), unfolding(document_model::specs::ReferenceFaults::authority_prefix))]
+#[tactic(auto, using(crate::proofs::Reaching::octet_behind, crate::proofs::Cutting::before_nowhere, crate::proofs::Reaching::no_at_sign), unfolding(reference_model::specs::ReferenceFaults::authority_prefix))]
 pub(crate) fn authority_reach(text: &str) -> Reach
     ensures whole { result.whole ≡ references.is_authority text.now }
     ensures at { result.at ≡ faults.authority_prefix text.now }

@@ -1,7 +1,7 @@
 // A text read as a URI-reference, or the place of its first fault (RFC 3986 section 4.1).
 ghost use Rattle.std.specs.Prelude.{◌≡◌, ◌+◌, ◌<◌, ◌≤◌, ◌^◌, ℕ, length, option_map, Some, is_some, IfSome, IfOk, IfErr, IsOkAnd, MatchOption, true, false};
-ghost use Rattle.document_model.specs.References as references;
-ghost use Rattle.document_model.specs.ReferenceFaults as faults;
+ghost use Rattle.reference_model.specs.References as references;
+ghost use Rattle.reference_model.specs.ReferenceFaults as faults;
 ghost use Rattle.ref_resolve.specs.Seen.{components_of};
 ghost use Rattle.ref_resolve.specs.Faults.{have_no_fault, size_of};
 
@@ -177,7 +177,7 @@ fn behind_userinfo(authority: &str) -> &str
 }
 
 /// The host in an authority.
-#[tactic(auto, unfolding(document_model::specs::References::host_of))]
+#[tactic(auto, unfolding(reference_model::specs::References::host_of))]
 fn host_of(authority: &str) -> &str
     ensures { result.now ≡ references.host_of authority.now }
 {

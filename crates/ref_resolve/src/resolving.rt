@@ -1,9 +1,9 @@
 // Resolving a reference against a base (RFC 3986 section 5.2, strict).
 ghost use Rattle.std.specs.Prelude.{◌≡◌, ◌++◌, ◌∷◌, [], ◌<◌, ℕ, List, option_map, OnOk, IfOk};
 ghost use Rattle.std.specs.String.{string_bytes};
-ghost use Rattle.document_model.specs.Characters.{slash, is_empty};
-ghost use Rattle.document_model.specs.References as references;
-ghost use Rattle.document_model.specs.Resolution as resolution;
+ghost use Rattle.link_model.specs.Characters.{slash, is_empty};
+ghost use Rattle.reference_model.specs.References as references;
+ghost use Rattle.reference_model.specs.Resolution as resolution;
 ghost use Rattle.ref_resolve.specs.Seen.{components_of};
 ghost use Rattle.ref_resolve.specs.Merging.{front_of};
 
@@ -13,7 +13,7 @@ use rd_base::{Starved, Text};
 use std::alloc::Global;
 
 /// The scheme of the reference, or else that of the base.
-#[tactic(auto, unfolding(document_model::specs::Resolution::resolution))]
+#[tactic(auto, unfolding(reference_model::specs::Resolution::resolution))]
 fn target_scheme<'a>(base: &Parts<'a>, reference: &Parts<'a>) -> Option<&'a str>
     ensures { option_map (λ text. text.now) result ≡ (resolution.resolution (components_of base.now) (components_of reference.now)).scheme }
 {
@@ -24,7 +24,7 @@ fn target_scheme<'a>(base: &Parts<'a>, reference: &Parts<'a>) -> Option<&'a str>
 }
 
 /// The authority of a reference that has a scheme or an authority, or else that of the base.
-#[tactic(auto, unfolding(document_model::specs::Resolution::resolution))]
+#[tactic(auto, unfolding(reference_model::specs::Resolution::resolution))]
 fn target_authority<'a>(base: &Parts<'a>, reference: &Parts<'a>) -> Option<&'a str>
     ensures { option_map (λ text. text.now) result ≡ (resolution.resolution (components_of base.now) (components_of reference.now)).authority }
 {
@@ -38,7 +38,7 @@ fn target_authority<'a>(base: &Parts<'a>, reference: &Parts<'a>) -> Option<&'a s
 }
 
 /// The query of the reference, or that of the base where the reference has nothing before its fragment.
-#[tactic(auto, unfolding(document_model::specs::Resolution::resolution))]
+#[tactic(auto, unfolding(reference_model::specs::Resolution::resolution))]
 fn target_query<'a>(base: &Parts<'a>, reference: &Parts<'a>) -> Option<&'a str>
     ensures { option_map (λ text. text.now) result ≡ (resolution.resolution (components_of base.now) (components_of reference.now)).query }
 {
@@ -68,7 +68,7 @@ fn directory(path: &str) -> &str
 }
 
 /// The path of a reference behind that of the base (RFC 3986 section 5.2.3).
-#[tactic(auto, unfolding(document_model::specs::Resolution::merged))]
+#[tactic(auto, unfolding(reference_model::specs::Resolution::merged))]
 fn merged(alloc: Global, base: &Parts<'_>, path: &str) -> Result<String, Starved>
     ensures { IfOk result (λ text. string_bytes text ≡ resolution.merged (components_of base.now) path.now) }
 {
@@ -89,7 +89,7 @@ fn front_of_merged<'a>(base: &Parts<'a>) -> &'a str
 }
 
 /// Appends the path of a resolved reference.
-#[tactic(auto, unfolding(document_model::specs::Resolution::resolution))]
+#[tactic(auto, unfolding(reference_model::specs::Resolution::resolution))]
 fn append_path(
     alloc: Global,
     text: &mut String,

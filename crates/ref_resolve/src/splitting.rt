@@ -1,6 +1,6 @@
 // The five components of a text, before they are judged.
 ghost use Rattle.std.specs.Prelude.{◌≡◌, option_map};
-ghost use Rattle.document_model.specs.References as references;
+ghost use Rattle.reference_model.specs.References as references;
 ghost use Rattle.ref_resolve.specs.Seen.{components_of};
 
 use crate::cuts::{around, behind_two_slashes, split_from};
@@ -54,7 +54,7 @@ fn authority_of(text: &str) -> (Option<&str>, &str)
 }
 
 /// A text taken apart, whatever its characters (RFC 3986 appendix B).
-#[tactic(auto, unfolding(document_model::specs::References::components))]
+#[tactic(auto, unfolding(reference_model::specs::References::components))]
 pub(crate) fn apart(text: &str) -> Parts<'_>
     ensures { components_of result ≡ references.components text.now }
 {

@@ -11,9 +11,9 @@ use Rattle.std.specs.Char.{is_ascii_digit, digit_char}
 use Rattle.std.specs.Fmt.{digits_onto, digits}
 use Rattle.std.specs.Net.Addr.{octets_of}
 use Rattle.std.specs.Net.Text.{ipv4_text, ipv6_text, hex, hex_groups_text, compressed_text, longest_zero_run, groups_text}
-use Rattle.document_model.specs.Characters.{percent_sign, is_empty, is_name_character, is_literal_character}
-use Rattle.document_model.specs.References.{is_text_of}
-use Rattle.document_model.proofs.ReferenceMarks.{other_octet}
+use Rattle.link_model.specs.Characters.{percent_sign, is_empty, is_name_character, is_literal_character}
+use Rattle.reference_model.specs.References.{is_text_of}
+use Rattle.rd_base.proofs.lemmas.Numbers.{other_octet}
 
 -- every octet of the text passes the test (a record, so that antt reads the text off a goal)
 pub record Passes (test : ℕ → Bool) (text : List ℕ) : Type 0 where

@@ -3,13 +3,13 @@ use Rattle.std.proofs.Common.{◌≡◌, ℕ, suc, ◌+◌, ◌≤◌, Bool, tru
 use Rattle.std.proofs.lemmas.List.Sums.{sum_by-cons}
 use Rattle.std.proofs.lemmas.Bool.Decides.{nat_tests}
 use Rattle.std.specs.List.{join_with_byte, position_or_len}
-use Rattle.document_model.specs.Bodies.{is_reference, is_limited}
-use Rattle.document_model.specs.BodyFaults.{no_reference, not_limited, Placed, placed_behind, link_references, references_of, first_no_reference, reference_or_limited}
-use Rattle.document_model.specs.Characters.{comma}
-use Rattle.document_model.specs.Documents.{Link, link_text, document_text}
-use Rattle.document_model.specs.Faults.{or_else}
-use Rattle.document_model.specs.Quoting.{submitted_link}
-use Rattle.document_model.specs.Refusals.{first_unlimited}
+use Rattle.record_model.specs.Bodies.{is_reference, is_limited}
+use Rattle.record_model.specs.BodyFaults.{no_reference, not_limited, Placed, placed_behind, link_references, references_of, first_no_reference, reference_or_limited}
+use Rattle.link_model.specs.Characters.{comma}
+use Rattle.link_model.specs.Documents.{Link, link_text, document_text}
+use Rattle.record_model.specs.Faults.{or_else}
+use Rattle.link_model.specs.Quoting.{submitted_link}
+use Rattle.record_model.specs.Refusals.{first_unlimited}
 use Rattle.registration.specs.Reading.{first_bad, room_of, fault_with, fault_from, noted}
 
 -- ---- the first reference that is none

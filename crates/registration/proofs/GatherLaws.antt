@@ -1,9 +1,9 @@
 -- What one parameter adds to what is gathered, and what all of them say.
 use Rattle.std.proofs.Common.{◌≡◌, ℕ, ◌+◌, ◌<◌, ◌^◌, Bool, true, false, List, [], ◌∷◌, ◌++◌, length, map, find, Option, Some, None, option_map, refl, sym, ap, ◌∙◌, append_assoc, append-nil, arith, length-append}
 use Rattle.rd_base.specs.declared.attributes.Pair.{Pair}
-use Rattle.document_model.specs.BodyFaults.{Placed, placed_behind, quote_length, anchor_place}
-use Rattle.document_model.specs.Documents.{Parameter, parameter_text, parameters_text}
-use Rattle.document_model.specs.Quoting.{value_of, is_anchor, pair_of}
+use Rattle.record_model.specs.BodyFaults.{Placed, placed_behind, quote_length, anchor_place}
+use Rattle.link_model.specs.Documents.{Parameter, parameter_text, parameters_text}
+use Rattle.link_model.specs.Quoting.{value_of, is_anchor, pair_of}
 use Rattle.registration.specs.Gathering.{without_anchors, anchor_from, IsGathered}
 use Rattle.registration.specs.declared.gathering.Anchor.{Anchor}
 use Rattle.registration.specs.declared.gathering.Gathered.{Gathered}

@@ -7,18 +7,18 @@ use Rattle.rd_base.specs.declared.moments.Moment.{Moment}
 use Rattle.rd_base.specs.declared.parameters.RegParams.{RegParams}
 use Rattle.rd_base.specs.declared.peers.Peer.{Peer}
 use Rattle.rd_base.specs.declared.submitted.SubmittedLink.{SubmittedLink}
-use Rattle.document_model.specs.Bases.{registered_base}
-use Rattle.document_model.specs.Bodies as bodies
-use Rattle.document_model.specs.Bodies.{linked_references}
-use Rattle.document_model.specs.BodyFaults.{no_document, not_limited, is_of_links, first_no_reference, reference_or_limited, body_fault}
-use Rattle.document_model.specs.Documents.{Link, link_text}
-use Rattle.document_model.specs.DocumentReading.{document, good_prefix}
-use Rattle.document_model.specs.Quoting.{submitted_link, submitted_links}
-use Rattle.document_model.specs.Records.{items_of, registered}
-use Rattle.document_model.specs.References.{IsReference}
-use Rattle.document_model.specs.Refusals.{is_refused_as_links}
-use Rattle.document_model.proofs.BodyLaws.{body_fault-links}
-use Rattle.document_model.proofs.DocumentLaws.{document_found}
+use Rattle.record_model.specs.Bases.{registered_base}
+use Rattle.record_model.specs.Bodies as bodies
+use Rattle.record_model.specs.Bodies.{linked_references}
+use Rattle.record_model.specs.BodyFaults.{no_document, not_limited, is_of_links, first_no_reference, reference_or_limited, body_fault}
+use Rattle.link_model.specs.Documents.{Link, link_text}
+use Rattle.link_model.specs.DocumentReading.{document, good_prefix}
+use Rattle.link_model.specs.Quoting.{submitted_link, submitted_links}
+use Rattle.record_model.specs.Records.{items_of, registered}
+use Rattle.reference_model.specs.References.{IsReference}
+use Rattle.record_model.specs.Refusals.{is_refused_as_links}
+use Rattle.record_model.proofs.BodyLaws.{body_fault-links}
+use Rattle.link_model.proofs.DocumentLaws.{document_found}
 use Rattle.ref_resolve.specs.declared.splitting.Parts.{Parts}
 use Rattle.ref_resolve.specs.Seen.{components_of}
 use Rattle.registration.specs.Drafts.{drafted, has_references, recorded}

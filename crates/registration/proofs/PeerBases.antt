@@ -9,12 +9,12 @@ use Rattle.rd_base.specs.declared.peers.Host.TheVariants as host
 use Rattle.rd_base.specs.declared.peers.Peer.{Peer}
 use Rattle.rd_base.specs.Peers.{IsHost}
 use Rattle.rd_base.specs.Bases.{coap_port, host_text, port_text, base_of}
-use Rattle.document_model.specs.Characters.{colon, at_sign, left_bracket, right_bracket, is_empty, is_name_character, is_literal_character}
-use Rattle.document_model.specs.References.{Components, before, behind, from_first, through, has_octet, begins_with, host_in, host_of, recomposed, is_port_text, is_literal_and_port, is_name_and_port, is_host_and_port, is_authority}
-use Rattle.document_model.specs.Parameters.{is_base}
-use Rattle.document_model.proofs.ReferenceCuts.{behind_none, before-marked, behind-marked, has_octet-append}
-use Rattle.document_model.proofs.ReferenceMarks.{no_mark_in_run, no_mark_in_host}
-use Rattle.document_model.proofs.ReferenceReading.{before-append, from_first-append, reference_only}
+use Rattle.link_model.specs.Characters.{colon, at_sign, left_bracket, right_bracket, is_empty, is_name_character, is_literal_character}
+use Rattle.reference_model.specs.References.{Components, before, behind, from_first, through, has_octet, begins_with, host_in, host_of, recomposed, is_port_text, is_literal_and_port, is_name_and_port, is_host_and_port, is_authority}
+use Rattle.record_model.specs.Parameters.{is_base}
+use Rattle.reference_model.proofs.ReferenceCuts.{behind_none, before-marked, behind-marked, has_octet-append}
+use Rattle.reference_model.proofs.ReferenceMarks.{no_mark_in_run, no_mark_in_host}
+use Rattle.reference_model.proofs.ReferenceReading.{before-append, from_first-append, reference_only}
 use Rattle.registration.proofs.Addresses.{Passes, Filled, text_of_run, decimal_passes, ipv4_passes, ipv4_filled, ipv6_passes, ipv6_filled}
 
 -- ---- what stands behind `coap://`

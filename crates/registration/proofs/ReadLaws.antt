@@ -1,13 +1,13 @@
 -- What is read of a link, by its target and by what is gathered of its parameters.
 use Rattle.std.proofs.Common.{◌≡◌, ℕ, ◌+◌, Bool, true, false, not, ◌||◌, List, [], ◌∷◌, length, map, Option, Some, None, option_map, Result, Ok, Err, refl, sym, subst, ap, ◌∙◌, arith, length-append}
 use Rattle.std.specs.Result.{IsErrAnd}
-use Rattle.document_model.specs.Bodies.{is_reference, is_uri}
-use Rattle.document_model.specs.BodyFaults.{placed_behind, anchor_place, link_references}
-use Rattle.document_model.specs.Characters.{greater_than_sign}
-use Rattle.document_model.specs.Documents.{Link, parameters_text}
-use Rattle.document_model.specs.Quoting.{anchor, attributes, pair_of, submitted_link}
-use Rattle.document_model.specs.Records.{based, item_of}
-use Rattle.document_model.specs.References.{IsReference, where_given}
+use Rattle.record_model.specs.Bodies.{is_reference, is_uri}
+use Rattle.record_model.specs.BodyFaults.{placed_behind, anchor_place, link_references}
+use Rattle.link_model.specs.Characters.{greater_than_sign}
+use Rattle.link_model.specs.Documents.{Link, parameters_text}
+use Rattle.link_model.specs.Quoting.{anchor, attributes, pair_of, submitted_link}
+use Rattle.record_model.specs.Records.{based, item_of}
+use Rattle.reference_model.specs.References.{IsReference, where_present}
 use Rattle.ref_resolve.specs.declared.splitting.Parts.{Parts}
 use Rattle.ref_resolve.specs.Seen.{components_of}
 use Rattle.registration.specs.Gathering.{placed_anchor, anchor_from, IsGathered}
@@ -80,7 +80,7 @@ module _ (base : Parts) (start : ℕ) (l : Link) where
     good_where (Some a) None h = absurd h
     good_where (Some a) (Some s) h = rw h.reference refl
 
-    given_where : (o : Option Anchor) (r : Option Referred) → AnchorReads base o (Ok r) → where_given is_reference (anchor_said o) ≡ true
+    given_where : (o : Option Anchor) (r : Option Referred) → AnchorReads base o (Ok r) → where_present is_reference (anchor_said o) ≡ true
     given_where None None h = refl
     given_where None (Some s) h = absurd h
     given_where (Some a) None h = absurd h
@@ -92,7 +92,7 @@ module _ (base : Parts) (start : ℕ) (l : Link) where
     based_where (Some a) None h spelled s = absurd h
     based_where (Some a) (Some q) h spelled s = ap (λ (t : List ℕ). Some t) (h.text spelled s)
 
-    limited_where : (o : Option Anchor) (r : Option Referred) (t : Bool) → AnchorReads base o (Ok r) → is_uri l.target ≡ t → limited_by t r ≡ (is_uri l.target || where_given (λ a. not (is_uri a)) (anchor_said o))
+    limited_where : (o : Option Anchor) (r : Option Referred) (t : Bool) → AnchorReads base o (Ok r) → is_uri l.target ≡ t → limited_by t r ≡ (is_uri l.target || where_present (λ a. not (is_uri a)) (anchor_said o))
     limited_where None None t h e = sym (or_true (is_uri l.target))
     limited_where None (Some q) t h e = absurd h
     limited_where (Some a) None t h e = absurd h
@@ -114,6 +114,6 @@ module _ (base : Parts) (start : ℕ) (l : Link) where
               target_ref (anchor_ref ∙ said) (target_text ∙ target.text spelled s) (anchor_text ∙ based_where g.anchor r h spelled s ∙ ap (option_map (based spelled)) said)
               (raw ∙ all_raw (start + length l.target + 2) l.parameters g known) (pairs ∙ all_pairs (start + length l.target + 2) l.parameters g known);
           references = rw (target_ref, anchor_ref, target.reference) (given_where g.anchor r h);
-          limited = limited ∙ limited_where g.anchor r t.has_scheme h target.scheme ∙ ap (λ o. is_uri l.target || where_given (λ a. not (is_uri a)) o) said;
+          limited = limited ∙ limited_where g.anchor r t.has_scheme h target.scheme ∙ ap (λ o. is_uri l.target || where_present (λ a. not (is_uri a)) o) said;
           end = omega (arith, end, all, text);
         }

@@ -2,18 +2,18 @@
 use Rattle.std.proofs.Common.{◌≡◌, ℕ, true, false, List, Option, Some, None, is_some, option_map, refl, ap, ◌∙◌, inl, inr}
 use Rattle.rd_base.specs.declared.attributes.Pair.{Pair}
 use Rattle.rd_base.specs.declared.records.Item.{Item}
-use Rattle.document_model.specs.Bodies.{is_reference, is_uri}
-use Rattle.document_model.specs.References.{Components, IsReference, reference, has_scheme}
-use Rattle.document_model.specs.Resolution.{resolved}
-use Rattle.document_model.specs.Parameters.{is_base, is_base_of}
-use Rattle.document_model.specs.Records.{based, rebased}
+use Rattle.record_model.specs.Bodies.{is_reference, is_uri}
+use Rattle.reference_model.specs.References.{Components, IsReference, reference, has_scheme}
+use Rattle.reference_model.specs.Resolution.{resolved}
+use Rattle.record_model.specs.Parameters.{is_base, is_base_of}
+use Rattle.record_model.specs.Records.{based, rebased}
 use Rattle.ref_resolve.specs.declared.splitting.Parts.{Parts}
 use Rattle.ref_resolve.specs.Seen.{components_of}
 use Rattle.registration.specs.Drafts.{IsBasis, has_references}
 use Rattle.registration.specs.Rebasing.{IsBased, AreBased, IsRebased}
 use Rattle.registration.proofs.PeerBases.{is_base-base_of}
-use Rattle.document_model.proofs.ReferenceLaws.{reference_found}
-use Rattle.document_model.proofs.ReferenceReading.{reference_only}
+use Rattle.reference_model.proofs.ReferenceLaws.{reference_found}
+use Rattle.reference_model.proofs.ReferenceReading.{reference_only}
 
 -- a text with these components is a reference, with a scheme where they have one
 pub reads : (text : List ℕ) (c : Components) → IsReference text c → is_reference text ≡ true

@@ -4,10 +4,10 @@ use Rattle.std.proofs.lemmas.Grind.{flat_map-append}
 use Rattle.rd_base.specs.declared.attributes.Pair.{Pair}
 use Rattle.rd_base.specs.declared.moments.Moment.{Moment}
 use Rattle.rd_base.specs.declared.records.Item.{Item}
-use Rattle.document_model.specs.Characters.{quote_mark}
-use Rattle.document_model.specs.ListingLines.{link_line, endpoint_line, weight, quoted_attribute, extra_attribute, anchor_text}
-use Rattle.document_model.specs.Matching.{location, sector_pairs}
-use Rattle.document_model.specs.Quoting.{quoted, escaped_character}
+use Rattle.link_model.specs.Characters.{quote_mark}
+use Rattle.record_model.specs.ListingLines.{link_line, endpoint_line, weight, quoted_attribute, extra_attribute, anchor_text}
+use Rattle.record_model.specs.Matching.{location, sector_pairs}
+use Rattle.link_model.specs.Quoting.{quoted, escaped_character}
 use Rattle.registration.specs.Drafts.{recorded}
 use Rattle.registration.specs.Weighing.{capped}
 use Rattle.registration.specs.declared.drafts.Draft.{Draft}

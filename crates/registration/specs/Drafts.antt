@@ -8,12 +8,12 @@ use Rattle.rd_base.specs.declared.peers.Peer.{Peer}
 use Rattle.rd_base.specs.declared.records.Item.{Item}
 use Rattle.rd_base.specs.declared.records.Record.{Record}
 use Rattle.rd_base.specs.declared.submitted.SubmittedLink.{SubmittedLink}
-use Rattle.document_model.specs.Bases.{registered_base}
-use Rattle.document_model.specs.Bodies.{is_reference}
-use Rattle.document_model.specs.BodyFaults.{no_document, no_reference, not_limited, body_fault}
-use Rattle.document_model.specs.Parameters.{is_base}
-use Rattle.document_model.specs.Records.{items_of}
-use Rattle.document_model.specs.References.{where_given}
+use Rattle.record_model.specs.Bases.{registered_base}
+use Rattle.record_model.specs.Bodies.{is_reference}
+use Rattle.record_model.specs.BodyFaults.{no_document, no_reference, not_limited, body_fault}
+use Rattle.record_model.specs.Parameters.{is_base}
+use Rattle.record_model.specs.Records.{items_of}
+use Rattle.reference_model.specs.References.{where_present}
 use Rattle.registration.specs.declared.drafts.Draft.{Draft}
 use Rattle.registration.specs.declared.drafts.DraftFault.{DraftFault}
 use Rattle.registration.specs.declared.drafts.DraftFault.TheVariants as fault
@@ -44,7 +44,7 @@ recorded number now draft = record {
 
 -- the target of an item is a URI-reference as it was submitted, and so is its anchor, where it has one
 abbrev pub has_references : Item → Bool
-has_references item = is_reference item.target_ref && where_given is_reference item.anchor_ref
+has_references item = is_reference item.target_ref && where_present is_reference item.anchor_ref
 
 -- what references are resolved against: a base that may be given, or that of a peer (RFC 9176 section 5)
 abbrev pub IsBasis : List ℕ → Type 0

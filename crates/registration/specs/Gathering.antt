@@ -1,8 +1,8 @@
 -- What is gathered of a link's parameters, where some of them are left (RFC 6690 sections 2 and 3).
 use Rattle.std.specs.Prelude.{◌≡◌, ℕ, ◌+◌, List, [], ◌∷◌, ◌++◌, length, map, filter, not, Option, Some, None}
-use Rattle.document_model.specs.BodyFaults.{Placed, placed_behind, anchor_place}
-use Rattle.document_model.specs.Documents.{Parameter, parameters_text}
-use Rattle.document_model.specs.Quoting.{is_anchor, pair_of}
+use Rattle.record_model.specs.BodyFaults.{Placed, placed_behind, anchor_place}
+use Rattle.link_model.specs.Documents.{Parameter, parameters_text}
+use Rattle.link_model.specs.Quoting.{is_anchor, pair_of}
 use Rattle.registration.specs.declared.gathering.Anchor.{Anchor}
 use Rattle.registration.specs.declared.gathering.Gathered.{Gathered}
 

@@ -4,14 +4,14 @@ use Rattle.std.specs.List.{list_all}
 use Rattle.rd_base.specs.declared.records.Item.{Item}
 use Rattle.ref_resolve.specs.declared.splitting.Parts.{Parts}
 use Rattle.ref_resolve.specs.Seen.{components_of}
-use Rattle.document_model.specs.Bodies.{is_reference, is_limited, linked_references}
-use Rattle.document_model.specs.BodyFaults.{BodyFault, no_reference, not_limited, Placed, link_references, first_no_reference, reference_or_limited, body_fault}
-use Rattle.document_model.specs.Documents.{Link, link_text}
-use Rattle.document_model.specs.Faults.{or_else}
-use Rattle.document_model.specs.Quoting.{submitted_link}
-use Rattle.document_model.specs.Records.{item_of, items_of}
-use Rattle.document_model.specs.References.{IsReference}
-use Rattle.document_model.specs.Refusals.{first_unlimited}
+use Rattle.record_model.specs.Bodies.{is_reference, is_limited, linked_references}
+use Rattle.record_model.specs.BodyFaults.{BodyFault, no_reference, not_limited, Placed, link_references, first_no_reference, reference_or_limited, body_fault}
+use Rattle.link_model.specs.Documents.{Link, link_text}
+use Rattle.record_model.specs.Faults.{or_else}
+use Rattle.link_model.specs.Quoting.{submitted_link}
+use Rattle.record_model.specs.Records.{item_of, items_of}
+use Rattle.reference_model.specs.References.{IsReference}
+use Rattle.record_model.specs.Refusals.{first_unlimited}
 use Rattle.registration.specs.Drafts.{has_references, IsFaultOf}
 use Rattle.registration.specs.Referring.{IsReferred}
 use Rattle.registration.specs.declared.drafts.DraftFault.{DraftFault}

@@ -3,8 +3,8 @@ use Rattle.std.specs.Prelude.{◌≡◌, ⊤, ℕ, List, Option, Some, None}
 use Rattle.rd_base.specs.declared.records.Item.{Item}
 use Rattle.ref_resolve.specs.declared.splitting.Parts.{Parts}
 use Rattle.ref_resolve.specs.Seen.{components_of}
-use Rattle.document_model.specs.Records.{based, rebased}
-use Rattle.document_model.specs.References.{IsReference}
+use Rattle.record_model.specs.Records.{based, rebased}
+use Rattle.reference_model.specs.References.{IsReference}
 
 -- the text against each base that spells these parts
 abbrev pub IsBased : Parts → List ℕ → List ℕ → Type 0

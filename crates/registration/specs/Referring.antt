@@ -3,9 +3,9 @@ use Rattle.std.specs.Prelude.{◌≡◌, ⊤, ℕ, true, false, List, Option, So
 use Rattle.rd_base.specs.declared.starving.Starved.{Starved}
 use Rattle.ref_resolve.specs.declared.splitting.Parts.{Parts}
 use Rattle.ref_resolve.specs.Seen.{components_of}
-use Rattle.document_model.specs.Bodies.{is_reference, is_uri}
-use Rattle.document_model.specs.Records.{based}
-use Rattle.document_model.specs.References.{IsReference}
+use Rattle.record_model.specs.Bodies.{is_reference, is_uri}
+use Rattle.record_model.specs.Records.{based}
+use Rattle.reference_model.specs.References.{IsReference}
 use Rattle.registration.specs.declared.referring.Referred.{Referred}
 
 -- the text is a reference, and this is what it is against each base that spells these parts

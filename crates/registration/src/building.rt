@@ -5,11 +5,11 @@ ghost use Rattle.rd_base.specs.declared.moments.Moment.{Moment};
 ghost use Rattle.rd_base.specs.Bases.{base_of};
 ghost use Rattle.rd_base.specs.Peers.{IsHost};
 ghost use Rattle.rd_base.specs.declared.peers.Host.TheVariants as host;
-ghost use Rattle.document_model.specs.Bases.{registered_base};
-ghost use Rattle.document_model.specs.Bodies.{linked_references};
-ghost use Rattle.document_model.specs.BodyFaults.{body_fault};
-ghost use Rattle.document_model.specs.Parameters.{is_base};
-ghost use Rattle.document_model.specs.Records.{registered};
+ghost use Rattle.record_model.specs.Bases.{registered_base};
+ghost use Rattle.record_model.specs.Bodies.{linked_references};
+ghost use Rattle.record_model.specs.BodyFaults.{body_fault};
+ghost use Rattle.record_model.specs.Parameters.{is_base};
+ghost use Rattle.record_model.specs.Records.{registered};
 ghost use Rattle.registration.specs.Drafts.{IsFaultOf, drafted, has_references, recorded};
 ghost use Rattle.registration.specs.Reading.{BodyReads};
 

@@ -1,8 +1,8 @@
 // What the parameters of a link say: its anchor, and its attributes (RFC 6690 sections 2 and 3).
 ghost use Rattle.std.specs.Prelude.{◌≡◌, ◌<◌, ◌+◌, ◌^◌, ◌∷◌, ℕ, List, [], length, option_map, IfOk, OnOk};
-ghost use Rattle.document_model.specs.BodyFaults as faults;
-ghost use Rattle.document_model.specs.Documents.{Parameter, parameter_text, parameters_text};
-ghost use Rattle.document_model.specs.Quoting as quoting;
+ghost use Rattle.record_model.specs.BodyFaults as faults;
+ghost use Rattle.link_model.specs.Documents.{Parameter, parameter_text, parameters_text};
+ghost use Rattle.link_model.specs.Quoting as quoting;
 ghost use Rattle.link_format.specs.Left.{parameters_in};
 ghost use Rattle.link_format.specs.Views.{parameter_seen};
 ghost use Rattle.registration.specs.Gathering.{IsGathered};

@@ -1,6 +1,6 @@
 // Links of a document, one after the other, against the base of a registration.
 ghost use Rattle.std.specs.Prelude.{◌≡◌, ◌<◌, ◌+◌, ◌≤◌, ◌^◌, length, option_map};
-ghost use Rattle.document_model.specs.Documents.{link_text};
+ghost use Rattle.link_model.specs.Documents.{link_text};
 ghost use Rattle.link_format.specs.Views.{link_seen};
 ghost use Rattle.registration.specs.Reading.{AnchorReads, LinkReads, Reads, limited_by, noted, room_of};
 

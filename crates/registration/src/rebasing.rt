@@ -1,9 +1,9 @@
 // Links against another base (RFC 9176 section 5.3.1).
 ghost use Rattle.std.specs.Prelude.{◌≡◌, true, map, IfOk};
 ghost use Rattle.std.specs.List.{list_all};
-ghost use Rattle.document_model.specs.Bodies.{is_reference};
-ghost use Rattle.document_model.specs.References.{where_given};
-ghost use Rattle.document_model.specs.Records as records;
+ghost use Rattle.record_model.specs.Bodies.{is_reference};
+ghost use Rattle.reference_model.specs.References.{where_present};
+ghost use Rattle.record_model.specs.Records as records;
 ghost use Rattle.registration.specs.Drafts.{IsBasis, has_references};
 ghost use Rattle.registration.specs.Rebasing.{AreBased, IsBased, IsRebased};
 
@@ -52,7 +52,7 @@ fn refer_given(
     base: &Parts<'_>,
     text: &Option<Text>,
 ) -> Result<Option<Text>, Starved>
-    requires { where_given is_reference text.now ≡ true }
+    requires { where_present is_reference text.now ≡ true }
     ensures { IfOk result (λ referred. AreBased base.now text.now referred) }
 {
     match text {

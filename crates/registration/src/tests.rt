@@ -2,7 +2,7 @@
 
 ghost use Rattle.std.specs.Prelude.{◌≡◌, true, IfOk, IfSome};
 ghost use Rattle.std.specs.List.{list_all};
-ghost use Rattle.document_model.specs.Parameters.{is_base};
+ghost use Rattle.record_model.specs.Parameters.{is_base};
 ghost use Rattle.registration.specs.Drafts.{has_references};
 
 use crate::{Draft, DraftFault, build, rebased, weight};

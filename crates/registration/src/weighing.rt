@@ -1,9 +1,9 @@
 // What a draft weighs: the octets of the lines that it gives, each with one more for a comma.
 ghost use Rattle.std.specs.Prelude.{◌≡◌, ◌+◌, ◌<◌, length, flat_map, sum_by, decimal};
 ghost use Rattle.rd_base.specs.declared.moments.Moment.{Moment};
-ghost use Rattle.document_model.specs.ListingLines as listing_model;
-ghost use Rattle.document_model.specs.Matching as matching;
-ghost use Rattle.document_model.specs.Quoting.{escaped_character, quoted};
+ghost use Rattle.record_model.specs.ListingLines as listing_model;
+ghost use Rattle.record_model.specs.Matching as matching;
+ghost use Rattle.link_model.specs.Quoting.{escaped_character, quoted};
 ghost use Rattle.registration.specs.Drafts.{recorded};
 ghost use Rattle.registration.specs.Weighing.{capped};
 

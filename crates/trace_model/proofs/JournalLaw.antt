@@ -15,10 +15,10 @@ use Rattle.journal_model.specs.declared.steps.Step.{Step}
 use Rattle.journal_model.specs.declared.steps.StepKind.{StepKind}
 use Rattle.journal_model.specs.declared.steps.StepKind.TheVariants as step
 use Rattle.journal_model.specs.declared.rows.Row.{Row}
-use Rattle.journal_model.specs.Rows.{row, moment_of}
+use Rattle.journal_model.specs.Rows.{row, row_moment}
 use Rattle.journal_model.specs.Meantime.{is_never, is_left_out, is_left_out_of, is_too_long, is_heard, row_unless, row_where}
 use Rattle.journal_model.specs.Machine.{is_look_datagram, hearing, Job, job_of, hears, goes, ticks, MayMake, IsJournal, begun, made}
-use Rattle.trace_model.specs.Steps.{hearing_where, come_step, go_step, step_of_worker, worker_of, if_worker, step_of_line, Told, untold, told_step, told_unless, told_line, told}
+use Rattle.trace_model.specs.Steps.{hearing_where, come_step, go_step, step_of_worker, worker_of, if_worker, step_of_line, Traced, untraced, traced_step, traced_unless, traced_line, traced}
 
 -- a test and false, and a test and true
 and_false : (b : Bool) → (b && false) ≡ false
@@ -56,8 +56,8 @@ pub row_where_never : (rows : List Row) (s : Step) (starved : Bool) → row_wher
 unfolding row_where
 row_where_never rows s starved = ap (λ b. row_unless b rows s starved) tested
   where
-    tested : (is_heard s.kind && (is_left_out_of is_never (reading s.datagram) || is_too_long is_never s.kind rows (moment_of rows s) (reading s.datagram))) ≡ false
-    tested = rw (none_left_out (reading s.datagram)) (rw (none_too_long s.kind rows (moment_of rows s) (reading s.datagram)) (and_false (is_heard s.kind)))
+    tested : (is_heard s.kind && (is_left_out_of is_never (reading s.datagram) || is_too_long is_never s.kind rows (row_moment rows s) (reading s.datagram))) ≡ false
+    tested = rw (none_left_out (reading s.datagram)) (rw (none_too_long s.kind rows (row_moment rows s) (reading s.datagram)) (and_false (is_heard s.kind)))
 
 -- and each datagram is heard as in the machine
 hearing_never : (datagram : List ℕ) → hearing_where is_never datagram ≡ hearing datagram
@@ -93,23 +93,23 @@ step_of_line-MayGive workers rows (Ok l) = by (nat_lt (worker_of l) workers)
     by false = bad
 
 -- a journal stays one with one line more
-told_line-IsJournal : (workers : ℕ) (t : Told) (text : List ℕ) → IsJournal t.journal → IsJournal (told_line is_never workers t text).journal
+told_line-IsJournal : (workers : ℕ) (t : Traced) (text : List ℕ) → IsJournal t.journal → IsJournal (traced_line is_never workers t text).journal
 told_line-IsJournal workers t text journal = by t.bad
   where
-    stepped : (given : Result (Option Step) Reason) → MayGive t.journal given → IsJournal (told_step is_never t given).journal
+    stepped : (given : Result (Option Step) Reason) → MayGive t.journal given → IsJournal (traced_step is_never t given).journal
     stepped (Err why) bad = journal
     stepped (Ok None) no_step = journal
     stepped (Ok (Some s)) (gives may) = subst (λ (r : Row). IsJournal (r ∷ t.journal)) (sym (row_where_never t.journal s false)) (made false journal may)
 
-    by : (b : Option LineBad) → IsJournal (told_unless b is_never workers t text).journal
+    by : (b : Option LineBad) → IsJournal (traced_unless b is_never workers t text).journal
     by (Some found) = journal
     by None = stepped (step_of_line is_never workers t.journal (line_of text)) (step_of_line-MayGive workers t.journal (line_of text))
 
 -- what a trace gives is a journal of the machine
-pub told-IsJournal : (workers : ℕ) (bytes : List ℕ) → IsJournal (told is_never workers bytes).journal
-unfolding told
-told-IsJournal workers bytes = folded (lines_of bytes) untold begun
+pub traced-IsJournal : (workers : ℕ) (bytes : List ℕ) → IsJournal (traced is_never workers bytes).journal
+unfolding traced
+traced-IsJournal workers bytes = folded (lines_of bytes) untraced begun
   where
-    folded : (texts : List (List ℕ)) (t : Told) → IsJournal t.journal → IsJournal (fold (told_line is_never workers) t texts).journal
+    folded : (texts : List (List ℕ)) (t : Traced) → IsJournal t.journal → IsJournal (fold (traced_line is_never workers) t texts).journal
     folded [] t journal = journal
-    folded (text ∷ texts) t journal = folded texts (told_line is_never workers t text) (told_line-IsJournal workers t text journal)
+    folded (text ∷ texts) t journal = folded texts (traced_line is_never workers t text) (told_line-IsJournal workers t text journal)

@@ -4,7 +4,7 @@ use Rattle.line_model.specs.declared.lines.Reason.{Reason}
 use Rattle.journal_model.specs.declared.rows.Row.{Row}
 use Rattle.journal_model.specs.Meantime.{is_never}
 use Rattle.journal_model.specs.Standing.{observers_of}
-use Rattle.trace_model.specs.Steps.{told}
+use Rattle.trace_model.specs.Steps.{traced}
 use Rattle.trace_model.specs.Output.{Output, ended, out_lines, last_line}
 
 -- lines, each with its line feed
@@ -29,8 +29,8 @@ row_by_row rows = map out_lines (reverse rows) ++ last_line rows ∷ []
 
 -- what each step of a trace writes, and behind them the last line
 abbrev pub by_steps : ℕ → List (List ℕ) → List (List ℕ)
-by_steps workers trace = row_by_row (told is_never workers (lines trace)).journal
+by_steps workers trace = row_by_row (traced is_never workers (lines trace)).journal
 
 -- which of the observers are due behind a trace of one worker
 abbrev pub due_behind : List (List ℕ) → List Bool
-due_behind trace = map (λ w. w.due) (observers_of (told is_never 1 (lines trace)).journal)
+due_behind trace = map (λ w. w.due) (observers_of (traced is_never 1 (lines trace)).journal)

@@ -8,7 +8,7 @@ use Rattle.event_model.specs.Observers.{observers}
 use Rattle.journal_model.specs.declared.rows.Row.{Row}
 use Rattle.journal_model.specs.Journal.{events, entries, latest}
 use Rattle.journal_model.specs.Meantime.{is_not_served, is_never}
-use Rattle.trace_model.specs.Steps.{NotServed, Told, told}
+use Rattle.trace_model.specs.Steps.{NotServed, Traced, traced}
 
 -- a line with its end
 abbrev pub ended : List ℕ → List ℕ
@@ -36,13 +36,13 @@ pub record Output : Type 0 where
   pub bad : Option LineBad
 
 -- the last line is written where no line is bad
-abbrev pub written : Told → Option LineBad → Output
+abbrev pub written : Traced → Option LineBad → Output
 written t (Some bad) = record { text = text t.journal; bad = Some bad }
 written t None = record { text = text t.journal ++ last_line t.journal; bad = None }
 
 -- what a trace gives where some requests are not served
 unfoldable pub output_where : NotServed → ℕ → List ℕ → Output
-output_where not_served workers bytes = written (told not_served workers bytes) (told not_served workers bytes).bad
+output_where not_served workers bytes = written (traced not_served workers bytes) (traced not_served workers bytes).bad
 
 -- what a trace gives for a number of workers
 abbrev pub output : ℕ → List ℕ → Output

@@ -78,30 +78,30 @@ step_of_line not_served workers rows (Err why) = Err why
 step_of_line not_served workers rows (Ok l) = if_worker (nat_lt (worker_of l) workers) not_served rows l
 
 -- what lines of a trace give: the journal, the number of the last line, and the first bad line
-pub record Told : Type 0 where
+pub record Traced : Type 0 where
   pub journal : List Row
   pub number : ℕ
   pub bad : Option LineBad
 
 -- before the first line
-abbrev pub untold : Told
-untold = record { journal = []; number = 0; bad = None }
+abbrev pub untraced : Traced
+untraced = record { journal = []; number = 0; bad = None }
 
 -- a step adds its row
-abbrev pub told_step : NotServed → Told → Result (Option Step) Reason → Told
-told_step not_served t (Err why) = record t { bad = Some (record { line = t.number + 1; why = why }) }
-told_step not_served t (Ok None) = record t { number = t.number + 1 }
-told_step not_served t (Ok (Some s)) = record t { journal = row_where not_served t.journal s false ∷ t.journal; number = t.number + 1 }
+abbrev pub traced_step : NotServed → Traced → Result (Option Step) Reason → Traced
+traced_step not_served t (Err why) = record t { bad = Some (record { line = t.number + 1; why = why }) }
+traced_step not_served t (Ok None) = record t { number = t.number + 1 }
+traced_step not_served t (Ok (Some s)) = record t { journal = row_where not_served t.journal s false ∷ t.journal; number = t.number + 1 }
 
 -- nothing comes behind a bad line
-abbrev pub told_unless : Option LineBad → NotServed → ℕ → Told → List ℕ → Told
-told_unless (Some bad) not_served workers t text = t
-told_unless None not_served workers t text = told_step not_served t (step_of_line not_served workers t.journal (line_of text))
+abbrev pub traced_unless : Option LineBad → NotServed → ℕ → Traced → List ℕ → Traced
+traced_unless (Some bad) not_served workers t text = t
+traced_unless None not_served workers t text = traced_step not_served t (step_of_line not_served workers t.journal (line_of text))
 
 -- one line more
-abbrev pub told_line : NotServed → ℕ → Told → List ℕ → Told
-told_line not_served workers t text = told_unless t.bad not_served workers t text
+abbrev pub traced_line : NotServed → ℕ → Traced → List ℕ → Traced
+traced_line not_served workers t text = traced_unless t.bad not_served workers t text
 
 -- what a trace gives for a number of workers
-unfoldable pub told : NotServed → ℕ → List ℕ → Told
-told not_served workers bytes = fold (told_line not_served workers) untold (lines_of bytes)
+unfoldable pub traced : NotServed → ℕ → List ℕ → Traced
+traced not_served workers bytes = fold (traced_line not_served workers) untraced (lines_of bytes)

@@ -51,11 +51,18 @@ fn printed(alloc: Global, line: &Line) -> Result<String, Starved>
     ensures { IfOk result (λ text. string_bytes text ≡ lines.line_text line.now) }
 {
     match line {
-        Line::Come(worker, moment, peer, octets) => {
-            come_print(alloc, *worker, *moment, peer, octets.as_slice())
-        }
+        Line::Come {
+            worker,
+            moment,
+            peer,
+            datagram: octets,
+        } => { come_print(alloc, *worker, *moment, peer, octets.as_slice()) }
         Line::Go(worker, moment) => go_print(alloc, *worker, *moment),
-        Line::Tick(worker, moment, word) => tick_print(alloc, *worker, *moment, *word),
+        Line::Tick {
+            worker,
+            moment,
+            word,
+        } => tick_print(alloc, *worker, *moment, *word),
     }
 }
 

@@ -39,7 +39,12 @@ fn come_read(
     let moment = number_read(MAX_MOMENT, moment).ok_or(FieldFault::Form)?;
     let peer = peer_read_ascii(peer).ok().ok_or(FieldFault::Form)?;
     let octets = datagram_read(alloc, octets)?;
-    Ok(Line::Come(worker as u8, Moment(moment), peer, octets))
+    Ok(Line::Come {
+        worker: worker as u8,
+        moment: Moment(moment),
+        peer,
+        datagram: octets,
+    })
 }
 
 /// What the fields of a worker that ends its job say.
@@ -59,7 +64,11 @@ fn tick_read(worker: &[u8], moment: &[u8]) -> Option<Line>
 {
     let worker = number_read(MAX_WORKER, worker)?;
     let moment = number_read(MAX_MOMENT, moment)?;
-    Some(Line::Tick(worker as u8, Moment(moment), 0))
+    Some(Line::Tick {
+        worker: worker as u8,
+        moment: Moment(moment),
+        word: 0,
+    })
 }
 
 /// What the fields of time that passes say, with a word.
@@ -70,7 +79,11 @@ fn tick_word_read(worker: &[u8], moment: &[u8], word: &[u8]) -> Option<Line>
     let worker = number_read(MAX_WORKER, worker)?;
     let moment = number_read(MAX_MOMENT, moment)?;
     let word = number_read(MAX_WORD, word)?;
-    Some(Line::Tick(worker as u8, Moment(moment), word as u32))
+    Some(Line::Tick {
+        worker: worker as u8,
+        moment: Moment(moment),
+        word: word as u32,
+    })
 }
 
 /// What three fields say.

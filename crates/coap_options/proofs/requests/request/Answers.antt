@@ -7,16 +7,16 @@ use Rattle.coap_options.proofs.requests.request.Goals as goal
 pub returns-in-Err-clause-refused : goal.returns-in-Err-clause-refused
 returns-in-Err-clause-refused c = refused_option (message_in c.args.view.now) c.in-Err.field-0.0 c.in-Err.ensures.bad
 
-pub later_refusal-requires-clause-block1 : goal.later_refusal-requires-clause-block1
-later_refusal-requires-clause-block1 c = block1_short (message_in c.args.view.now).options c.in-Ok.meant.block1 c.in-Ok.ensures.meaning.block1
+pub refusal_after_options-requires-clause-block1 : goal.refusal_after_options-requires-clause-block1
+refusal_after_options-requires-clause-block1 c = block1_short (message_in c.args.view.now).options c.in-Ok.meant.block1 c.in-Ok.ensures.meaning.block1
 
-pub later_refusal-requires-clause-block2 : goal.later_refusal-requires-clause-block2
-later_refusal-requires-clause-block2 c = block2_short (message_in c.args.view.now).options c.in-Ok.meant.block2 c.in-Ok.ensures.meaning.block2
+pub refusal_after_options-requires-clause-block2 : goal.refusal_after_options-requires-clause-block2
+refusal_after_options-requires-clause-block2 c = block2_short (message_in c.args.view.now).options c.in-Ok.meant.block2 c.in-Ok.ensures.meaning.block2
 
 pub returns-in-Some-clause-refused : goal.returns-in-Some-clause-refused
 returns-in-Some-clause-refused c =
-    refused_later (message_in c.args.view.now) c.in-Ok.meant c.later_refusal.result c.in-Ok.ensures.good c.in-Ok.ensures.meaning c.later_refusal.ensures ∙ c.in-Some.is
+    refused_later (message_in c.args.view.now) c.in-Ok.meant c.refusal_after_options.result c.in-Ok.ensures.good c.in-Ok.ensures.meaning c.refusal_after_options.ensures ∙ c.in-Some.is
 
 pub returns-in-None-clause-accepted : goal.returns-in-None-clause-accepted
 returns-in-None-clause-accepted c =
-    refused_later (message_in c.args.view.now) c.in-Ok.meant c.later_refusal.result c.in-Ok.ensures.good c.in-Ok.ensures.meaning c.later_refusal.ensures ∙ c.in-None.is
+    refused_later (message_in c.args.view.now) c.in-Ok.meant c.refusal_after_options.result c.in-Ok.ensures.good c.in-Ok.ensures.meaning c.refusal_after_options.ensures ∙ c.in-None.is

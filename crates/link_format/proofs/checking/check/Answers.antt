@@ -1,5 +1,5 @@
 use Rattle.std.proofs.Common.{List, Some, is_some, sym, ap, ◌∙◌}
-use Rattle.document_model.specs.Documents.{Link}
+use Rattle.link_model.specs.Documents.{Link}
 use Rattle.link_format.specs.Left.{links_of, links_in}
 use Rattle.link_format.proofs.CheckLemmas.{checked_by}
 use Rattle.link_format.proofs.checking.check.Goals as goal

@@ -1,7 +1,7 @@
 use Rattle.std.proofs.Common.{◌≡◌, false, ◌++◌, length}
 use Rattle.std.specs.String.{string_bytes}
 use Rattle.std.specs.Str.Iter.{chars_rest}
-use Rattle.document_model.specs.Quoting.{content_up_to_quote}
+use Rattle.link_model.specs.Quoting.{content_up_to_quote}
 use Rattle.link_format.proofs.values.content.Given as goal
 
 abbrev pub invariant-characters : goal.invariant-characters

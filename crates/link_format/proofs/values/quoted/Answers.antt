@@ -1,10 +1,10 @@
 use Rattle.std.proofs.Common.{◌≡◌, ℕ, List, ◌∷◌, [], ◌++◌, flat_map, sym, ap, ◌∙◌}
 use Rattle.std.specs.String.{string_bytes}
 use Rattle.std.specs.Str.Iter.{chars_rest}
-use Rattle.document_model.specs.Characters.{quote_mark}
-use Rattle.document_model.specs.Documents.{is_quoted_string}
-use Rattle.document_model.specs.Quoting.{escaped_character, unquoted}
-use Rattle.document_model.proofs.QuotingLaws.{unquoted-quoted, is_quoted_string-quoted}
+use Rattle.link_model.specs.Characters.{quote_mark}
+use Rattle.link_model.specs.Documents.{is_quoted_string}
+use Rattle.link_model.specs.Quoting.{escaped_character, unquoted}
+use Rattle.link_model.proofs.QuotingLaws.{unquoted-quoted, is_quoted_string-quoted}
 use Rattle.link_format.proofs.ValueLemmas.{quoted_closed, nothing_left}
 use Rattle.link_format.proofs.values.quoted.Goals as goal
 

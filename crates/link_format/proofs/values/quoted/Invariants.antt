@@ -1,8 +1,8 @@
 use Rattle.std.proofs.Common.{◌≡◌, ◌∷◌, ◌++◌, length, flat_map}
 use Rattle.std.specs.String.{string_bytes}
 use Rattle.std.specs.Str.Iter.{chars_rest}
-use Rattle.document_model.specs.Characters.{quote_mark}
-use Rattle.document_model.specs.Quoting.{escaped_character}
+use Rattle.link_model.specs.Characters.{quote_mark}
+use Rattle.link_model.specs.Quoting.{escaped_character}
 use Rattle.link_format.proofs.values.quoted.Given as goal
 
 abbrev pub invariant-characters : goal.invariant-characters

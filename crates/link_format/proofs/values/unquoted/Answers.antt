@@ -1,7 +1,7 @@
 use Rattle.std.proofs.Common.{◌≡◌, ℕ, List, IfOk, sym, ap, ◌∙◌, subst}
 use Rattle.std.specs.Str.Iter.{chars_rest}
 use Rattle.link_format.proofs.ValueLemmas.{unquoted_empty, unquoted_first, unquoted_opened}
-use Rattle.document_model.specs.Quoting.{content_up_to_quote}
+use Rattle.link_model.specs.Quoting.{content_up_to_quote}
 use Rattle.link_format.proofs.values.unquoted.Goals as goal
 use Rattle.std.specs.Prelude.{false, length}
 

@@ -1,5 +1,5 @@
 use Rattle.std.proofs.Common.{◌≡◌, ◌++◌, take, flat_map}
-use Rattle.document_model.specs.ListingLines.{extra_attribute}
+use Rattle.record_model.specs.ListingLines.{extra_attribute}
 use Rattle.listing.proofs.appending.append_attributes.Given as goal
 
 abbrev pub invariant-pairs : goal.invariant-pairs

@@ -1,5 +1,5 @@
 use Rattle.std.proofs.Common.{◌≡◌, ◌++◌, take, flat_map}
-use Rattle.document_model.specs.Quoting.{escaped_character}
+use Rattle.link_model.specs.Quoting.{escaped_character}
 use Rattle.listing.proofs.appending.append_escaped.Given as goal
 
 abbrev pub invariant-octets : goal.invariant-octets

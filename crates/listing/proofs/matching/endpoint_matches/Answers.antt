@@ -1,5 +1,5 @@
 use Rattle.std.proofs.Common.{◌≡◌, ◌∙◌, sym, true, refl, ap}
-use Rattle.document_model.specs.Matching.{matches_pairs}
+use Rattle.record_model.specs.Matching.{matches_pairs}
 use Rattle.listing.proofs.EndpointLaws.{endpoint_by_parts}
 use Rattle.listing.proofs.matching.endpoint_matches.Goals as goal
 

@@ -2,8 +2,8 @@ use Rattle.std.proofs.Common.{rules, ◌==◌, ◌&&◌, not}
 use borrow.Author.Tests.{tests}
 use Rattle.std.proofs.lemmas.Iterator.Search.{any_from_yields_List}
 use Rattle.std.proofs.lemmas.Iterator.Splits.{YieldsList-from_slice_split}
-use Rattle.document_model.specs.Characters.{is_empty}
-use Rattle.document_model.specs.Matching as model
+use Rattle.link_model.specs.Characters.{is_empty}
+use Rattle.record_model.specs.Matching as model
 use Rattle.listing.proofs.patterns.matches_part.Goals as goal
 
 pub returns : goal.returns

@@ -1,7 +1,7 @@
 -- What `strip_prefix` leaves.
 use Rattle.std.proofs.Common.{rules}
 use Rattle.std.proofs.lemmas.Str.Pattern.{strip_prefix_char}
-use Rattle.document_model.specs.Characters.{left_bracket}
+use Rattle.link_model.specs.Characters.{left_bracket}
 use Rattle.ref_resolve.proofs.Cutting.{stripped}
 use Rattle.query_text.proofs.bases.behind_bracket.Goals as goal
 

@@ -1,6 +1,6 @@
 -- What `parts` reads.
 use Rattle.std.proofs.Common.{sym}
-use Rattle.document_model.proofs.ReferenceReading.{reference_only}
+use Rattle.reference_model.proofs.ReferenceReading.{reference_only}
 use Rattle.ref_resolve.specs.Seen.{components_of}
 use Rattle.query_text.proofs.BaseReading.{no_reference}
 use Rattle.query_text.proofs.bases.reference.Goals as goal

@@ -1,5 +1,5 @@
 use Rattle.std.proofs.Common.{◌≡◌, ◌+◌, ◌<◌, ◌^◌, length}
-use Rattle.document_model.specs.declared.readings.Reading.TheVariants as reading
+use Rattle.record_model.specs.declared.readings.Reading.TheVariants as reading
 use Rattle.query_text.specs.Walking.{start_of, faults_from}
 use Rattle.query_text.specs.Asking.{wanted_in, wanted_of}
 use Rattle.query_text.proofs.OptionsKept.{joined}

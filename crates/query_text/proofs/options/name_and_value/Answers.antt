@@ -1,7 +1,7 @@
 -- What stands round the first equals sign, from what `split_once` finds.
 use Rattle.std.proofs.Common.{ℕ, List, [], Some, None, Option, unwrap_or, rules, sym, ap}
 use Rattle.std.proofs.lemmas.Str.Pattern.{split_parts}
-use Rattle.document_model.specs.Characters.{equals_sign}
+use Rattle.link_model.specs.Characters.{equals_sign}
 use Rattle.ref_resolve.proofs.Cutting.{octet_nowhere, before_nowhere, behind_nowhere, before_parts, behind_parts}
 use Rattle.query_text.proofs.options.name_and_value.Goals as goal
 

@@ -8,9 +8,9 @@ pub returns-in_ok-come-in-Come : goal.returns-in_ok-come-in-Come
 returns-in_ok-come-in-Come c rows st =
     let below : worker_in c.in_ok-step.step < workers = omega (arith, c.worker_in.ensures) in
     let none = free rows c.is_busy.result (c.is_busy.ensures rows st) c.if-is_busy.false in
-    performs_come rows _ c.in-Come.field-0 c.in-Come.field-1 c.in-Come.peer c.in-Come.datagram _ _ (c.in_ok-step.ensures.read ∙ ap Ok c.in-Come.is)
+    performs_come rows _ c.in-Come.worker c.in-Come.moment c.in-Come.peer c.in-Come.datagram _ _ (c.in_ok-step.ensures.read ∙ ap Ok c.in-Come.is)
     (subst (λ (step : Line). worker_in step < workers) c.in-Come.is below) none
-    (rw c.as_slice.ensures.value at (c.in_ok-come-in-Come.ensures rows c.in-Come.field-0 c.in-Come.field-1 st none))
+    (rw c.as_slice.ensures.value at (c.in_ok-come-in-Come.ensures rows c.in-Come.worker c.in-Come.moment st none))
 
 pub returns-in_ok-go-in-Go : goal.returns-in_ok-go-in-Go
 returns-in_ok-go-in-Go c rows st =

@@ -1,7 +1,7 @@
 -- Two slashes, one by one.
 use Rattle.std.proofs.Common.{Some, None, sym, arith}
 use Rattle.std.proofs.lemmas.Str.Pattern.{strip_prefix_char}
-use Rattle.document_model.specs.Characters.{slash}
+use Rattle.link_model.specs.Characters.{slash}
 use Rattle.ref_resolve.proofs.Cutting.{not_two_slashes, behind_one_slash}
 use Rattle.ref_resolve.proofs.cuts.behind_two_slashes.Goals as goal
 

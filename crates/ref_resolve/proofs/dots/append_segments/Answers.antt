@@ -2,9 +2,9 @@
 use Rattle.std.proofs.Common.{sym, ap, ◌∙◌, ◌||◌, [], ◌∷◌, drop, rules}
 use Rattle.std.specs.Prelude.{fold}
 use Rattle.std.specs.String.{string_bytes}
-use Rattle.document_model.specs.Characters.{slash, is_empty}
-use Rattle.document_model.specs.References.{begins_with}
-use Rattle.document_model.specs.Resolution.{with_closing_slash}
+use Rattle.link_model.specs.Characters.{slash, is_empty}
+use Rattle.reference_model.specs.References.{begins_with}
+use Rattle.reference_model.specs.Resolution.{with_closing_slash}
 use Rattle.ref_resolve.specs.Paths.{path_with, closed_segments}
 use Rattle.ref_resolve.proofs.Segments.{from_slash}
 use Rattle.ref_resolve.proofs.Growing.{one_segment, more_segments, no_segments, then_same, grown_last, grown_more, grown_all}

@@ -3,8 +3,8 @@ use Rattle.std.proofs.Common.{◌≡◌, ◌≤◌, ◌||◌, true, length, take
 use Rattle.std.specs.Prelude.{fold}
 use Rattle.std.specs.Str.{IsUtf8}
 use Rattle.std.specs.String.{string_bytes}
-use Rattle.document_model.specs.Characters.{slash, is_empty}
-use Rattle.document_model.specs.References.{begins_with}
+use Rattle.link_model.specs.Characters.{slash, is_empty}
+use Rattle.reference_model.specs.References.{begins_with}
 use Rattle.ref_resolve.specs.Paths.{path_with, closed_segments}
 use Rattle.ref_resolve.proofs.dots.append_segments.Given as goal
 

@@ -3,8 +3,8 @@ use Rattle.std.proofs.Common.{sym, ap, ◌∙◌, ◌||◌, subst}
 use Rattle.std.specs.Str.{IsUtf8}
 use Rattle.std.specs.String.{string_bytes}
 use Rattle.std.proofs.lemmas.Str.{IsUtf8-string_bytes}
-use Rattle.document_model.specs.Characters.{slash, is_empty}
-use Rattle.document_model.specs.References.{begins_with}
+use Rattle.link_model.specs.Characters.{slash, is_empty}
+use Rattle.reference_model.specs.References.{begins_with}
 use Rattle.ref_resolve.proofs.Segments.{from_slash}
 use Rattle.ref_resolve.proofs.Growing.{front_kept, dots_left_out}
 use Rattle.ref_resolve.proofs.dots.append_without_dots.Goals as goal

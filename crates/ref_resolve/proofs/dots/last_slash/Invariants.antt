@@ -1,6 +1,6 @@
 -- The text is what is left and octets behind it, of which none is a slash.
 use Rattle.std.proofs.Common.{◌≡◌, ◌++◌, ℕ, List, length}
-use Rattle.document_model.specs.Characters.{slash}
+use Rattle.link_model.specs.Characters.{slash}
 use Rattle.ref_resolve.specs.Paths.{before_last}
 use Rattle.ref_resolve.proofs.dots.last_slash.Given as goal
 

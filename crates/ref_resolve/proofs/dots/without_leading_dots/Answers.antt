@@ -1,8 +1,8 @@
 -- One dot segment less, and the path that begins with none.
 use Rattle.std.proofs.Common.{sym, ap, ◌∙◌, refl, rules}
-use Rattle.document_model.specs.Characters.{slash}
-use Rattle.document_model.specs.References.{before, begins_with}
-use Rattle.document_model.specs.Resolution.{is_dot_segment}
+use Rattle.link_model.specs.Characters.{slash}
+use Rattle.reference_model.specs.References.{before, begins_with}
+use Rattle.reference_model.specs.Resolution.{is_dot_segment}
 use Rattle.ref_resolve.proofs.Segments.{leading_more, leading_last, not_leading}
 use Rattle.ref_resolve.proofs.dots.without_leading_dots.Goals as goal
 

@@ -1,7 +1,7 @@
 -- What is left has the same segments, but for the dot segments that stand first.
 use Rattle.std.proofs.Common.{◌≡◌, length}
 use Rattle.std.specs.Str.{IsUtf8}
-use Rattle.document_model.specs.Resolution.{segments_of, with_closing_slash, without_leading_dots}
+use Rattle.reference_model.specs.Resolution.{segments_of, with_closing_slash, without_leading_dots}
 use Rattle.ref_resolve.proofs.dots.without_leading_dots.Given as goal
 
 abbrev pub decreases-segments : goal.decreases-segments

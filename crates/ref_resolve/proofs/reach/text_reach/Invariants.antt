@@ -1,7 +1,7 @@
 -- The octets left are judged behind so many missing digits, and as many as were read stand before them.
 use Rattle.std.proofs.Common.{◌≡◌, ◌+◌, length}
-use Rattle.document_model.specs.References.{is_text_of, is_text_behind_digits}
-use Rattle.document_model.specs.ReferenceFaults.{text_prefix, prefix_behind_digits}
+use Rattle.reference_model.specs.References.{is_text_of, is_text_behind_digits}
+use Rattle.reference_model.specs.ReferenceFaults.{text_prefix, prefix_behind_digits}
 use Rattle.ref_resolve.specs.Classes.{stands_in}
 use Rattle.ref_resolve.proofs.reach.text_reach.Given as goal
 

@@ -1,5 +1,5 @@
 -- What is read of a text, and where its fault is.
-use Rattle.document_model.proofs.ReferenceFaultLaws.{reference_fault_at-IsReferenceFault}
+use Rattle.reference_model.proofs.ReferenceFaultLaws.{reference_fault_at-IsReferenceFault}
 use Rattle.ref_resolve.specs.Seen.{components_of}
 use Rattle.ref_resolve.proofs.Judging.{read_reference, read_alone, not_read, place_of_fault, size_taken_apart}
 use Rattle.ref_resolve.proofs.reading.parts.Goals as goal

@@ -1,7 +1,7 @@
 -- A path up to the place that `rfind` gives.
 use Rattle.std.proofs.Common.{Some, None, sym, ◌∙◌, arith}
 use Rattle.std.proofs.lemmas.Str.Pattern.{rfind_char}
-use Rattle.document_model.specs.Characters.{slash}
+use Rattle.link_model.specs.Characters.{slash}
 use Rattle.ref_resolve.proofs.Cutting.{front_range}
 use Rattle.ref_resolve.proofs.Merged.{up_to_place, up_to_nowhere}
 use Rattle.ref_resolve.proofs.resolving.directory.Goals as goal

@@ -1,4 +1,4 @@
-use Rattle.document_model.specs.Bodies.{linked_references}
+use Rattle.record_model.specs.Bodies.{linked_references}
 use Rattle.registration.proofs.LinksLaws.{drafts, records}
 use Rattle.registration.proofs.building.build.Goals as goal
 

@@ -1,5 +1,5 @@
 use Rattle.std.proofs.Common.{ℕ, Some, sym, ap, ◌∙◌, arith}
-use Rattle.document_model.specs.BodyFaults.{no_document}
+use Rattle.record_model.specs.BodyFaults.{no_document}
 use Rattle.registration.proofs.ReferLaws.{base_reads}
 use Rattle.registration.proofs.LinksLaws.{document_room, fault_of_no_document, body_reads}
 use Rattle.registration.proofs.building.items_of.Goals as goal

@@ -1,6 +1,6 @@
 use Rattle.std.proofs.Common.{◌≡◌, ℕ, List, true, ap, ◌∙◌}
 use Rattle.std.proofs.lemmas.Result.{IfOk-weaker}
-use Rattle.document_model.specs.Parameters.{is_base}
+use Rattle.record_model.specs.Parameters.{is_base}
 use Rattle.registration.proofs.PeerBases.{is_base-base_of}
 use Rattle.registration.proofs.building.peer_base.Goals as goal
 

@@ -1,5 +1,5 @@
 use Rattle.std.proofs.Common.{List, subst}
-use Rattle.document_model.specs.Documents.{Parameter}
+use Rattle.link_model.specs.Documents.{Parameter}
 use Rattle.link_format.specs.Left.{parameters_in}
 use Rattle.link_format.specs.Views.{parameter_seen}
 use Rattle.registration.specs.Gathering.{IsGathered}

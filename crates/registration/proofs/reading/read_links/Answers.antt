@@ -1,10 +1,10 @@
 use Rattle.std.proofs.Common.{◌+◌, ◌++◌, ◌∷◌, [], ℕ, List, map, option_map, refl, sym, ap, ◌∙◌, arith, append-nil}
 use Rattle.std.specs.List.{list_all}
 use Rattle.rd_base.specs.declared.records.Item.{Item}
-use Rattle.document_model.specs.BodyFaults.{not_limited}
-use Rattle.document_model.specs.Documents.{Link}
-use Rattle.document_model.specs.Quoting.{submitted_link}
-use Rattle.document_model.specs.Records.{items_of, item_of}
+use Rattle.record_model.specs.BodyFaults.{not_limited}
+use Rattle.link_model.specs.Documents.{Link}
+use Rattle.link_model.specs.Quoting.{submitted_link}
+use Rattle.record_model.specs.Records.{items_of, item_of}
 use Rattle.link_format.specs.Views.{link_seen}
 use Rattle.registration.specs.Drafts.{has_references}
 use Rattle.registration.specs.Reading.{Reads, fault_from}

@@ -1,8 +1,8 @@
 use Rattle.std.proofs.Common.{◌≡◌, ◌+◌, ◌≤◌, ◌++◌, true, None, ℕ, List, length, map}
 use Rattle.std.specs.List.{list_all}
-use Rattle.document_model.specs.Quoting.{submitted_link}
-use Rattle.document_model.specs.Records.{items_of}
-use Rattle.document_model.specs.References.{IsReference}
+use Rattle.link_model.specs.Quoting.{submitted_link}
+use Rattle.record_model.specs.Records.{items_of}
+use Rattle.reference_model.specs.References.{IsReference}
 use Rattle.ref_resolve.specs.Seen.{components_of}
 use Rattle.registration.specs.Drafts.{has_references}
 use Rattle.registration.specs.Reading.{fault_from, room_of}

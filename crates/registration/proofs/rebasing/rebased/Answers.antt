@@ -2,7 +2,7 @@ use Rattle.std.proofs.Common.{◌++◌, ◌∷◌, [], List, map, sym, ap, ◌�
 use Rattle.std.specs.List.{list_all}
 use Rattle.std.proofs.lemmas.Bool.{and_parts}
 use Rattle.rd_base.specs.declared.records.Item.{Item}
-use Rattle.document_model.specs.Records.{rebased}
+use Rattle.record_model.specs.Records.{rebased}
 use Rattle.registration.specs.Drafts.{has_references}
 use Rattle.registration.proofs.ReferLaws.{base_reads, basis_is_base, keeps_references}
 use Rattle.registration.proofs.LinksLaws.{one_more, all_more}

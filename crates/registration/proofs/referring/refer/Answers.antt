@@ -1,5 +1,5 @@
 use Rattle.std.proofs.Common.{◌≡◌, true, false, sym, ◌∙◌}
-use Rattle.document_model.specs.Bodies.{is_uri}
+use Rattle.record_model.specs.Bodies.{is_uri}
 use Rattle.ref_resolve.specs.Seen.{components_of}
 use Rattle.registration.proofs.ReferLaws.{reads, reads_uri, reads_not, stays, is_resolved}
 use Rattle.registration.proofs.referring.refer.Goals as goal

@@ -1,8 +1,8 @@
 use Rattle.std.proofs.Common.{◌≡◌, ℕ, List, true, refl, ap, ◌∙◌}
 use Rattle.std.specs.Prelude.{codes}
 use Rattle.std.proofs.lemmas.Result.{IfOk-weaker}
-use Rattle.document_model.specs.Parameters.{is_base}
-use Rattle.document_model.proofs.RecordLiterals.{record_on_literals}
+use Rattle.record_model.specs.Parameters.{is_base}
+use Rattle.record_model.proofs.RecordLiterals.{record_on_literals}
 use Rattle.registration.proofs.tests.path_base.Goals as goal
 
 computed : is_base (codes "coap://h/c/d") ≡ true

@@ -1,5 +1,5 @@
 use Rattle.std.proofs.Common.{◌≡◌, ◌+◌, ◌<◌, ◌^◌, length, drop, flat_map}
-use Rattle.document_model.specs.ListingLines.{extra_attribute}
+use Rattle.record_model.specs.ListingLines.{extra_attribute}
 use Rattle.registration.specs.Weighing.{capped}
 use Rattle.registration.proofs.weighing.add_extras.Given as goal
 

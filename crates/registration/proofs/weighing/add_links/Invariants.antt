@@ -1,5 +1,5 @@
 use Rattle.std.proofs.Common.{◌≡◌, ◌+◌, ◌<◌, ◌^◌, length, drop, sum_by}
-use Rattle.document_model.specs.ListingLines.{link_line}
+use Rattle.record_model.specs.ListingLines.{link_line}
 use Rattle.registration.specs.Weighing.{capped}
 use Rattle.registration.proofs.weighing.add_links.Given as goal
 

@@ -1,6 +1,6 @@
 use Rattle.std.proofs.Common.{◌≡◌, List, ℕ, length, flat_map, ap, arith}
 use Rattle.std.proofs.lemmas.List.{drop_all}
-use Rattle.document_model.specs.Quoting.{escaped_character}
+use Rattle.link_model.specs.Quoting.{escaped_character}
 use Rattle.registration.proofs.WeightLaws.{quoted_size}
 use Rattle.registration.proofs.weighing.add_quoted.Goals as goal
 

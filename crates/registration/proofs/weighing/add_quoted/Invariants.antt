@@ -1,5 +1,5 @@
 use Rattle.std.proofs.Common.{◌≡◌, ◌+◌, ◌<◌, ◌^◌, length, drop, flat_map}
-use Rattle.document_model.specs.Quoting.{escaped_character}
+use Rattle.link_model.specs.Quoting.{escaped_character}
 use Rattle.registration.specs.Weighing.{capped}
 use Rattle.registration.proofs.weighing.add_quoted.Given as goal
 

@@ -1,7 +1,7 @@
 use Rattle.std.proofs.Common.{◌≤◌, ap, subst, sym, ◌∙◌, length, arith}
 use Rattle.exchange_core.specs.Rows.{Table, InOrder, young}
 use Rattle.exchange_core.proofs.RowLaws.{InOrder-later, InOrder-young, length-young}
-use Rattle.exchange_core.proofs.StandingLaws.{StandsFor-aged}
+use Rattle.exchange_core.proofs.StandingLaws.{ExchangesStandFor-aged}
 use Rattle.exchange_core.proofs.table.Exchanges.age.Goals as goal
 
 pub drop_old-requires : goal.drop_old-requires
@@ -25,5 +25,5 @@ returns-clause-left c = c.drop_old.ensures.items ∙ ap (λ (t : Table). young c
 
 pub returns-clause-stands : goal.returns-clause-stands
 returns-clause-stands c at events h stands =
-    StandsFor-aged at c.args.now.0 events c.args.self.now (record { moment = c.args.now.0; exchanges = c.drop_old.new.rows.items }) h
+    ExchangesStandFor-aged at c.args.now.0 events c.args.self.now (record { moment = c.args.now.0; exchanges = c.drop_old.new.rows.items }) h
     (c.drop_old.ensures.items ∙ ap (λ (t : Table). young c.args.now.0 t.exchanges) c.self.view_is) stands

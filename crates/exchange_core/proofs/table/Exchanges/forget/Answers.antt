@@ -1,8 +1,8 @@
 use Rattle.std.proofs.Common.{◌≡◌, ap, subst, sym, ◌∙◌, length, arith}
 use Rattle.exchange_core.specs.Rows.{Table, InOrder, is_admitted_at, without_first}
-use Rattle.exchange_core.specs.Standing.{StandsFor}
+use Rattle.exchange_core.specs.Standing.{ExchangesStandFor}
 use Rattle.exchange_core.proofs.RowLaws.{InOrder-without, length-without}
-use Rattle.exchange_core.proofs.StandingLaws.{StandsFor-failed}
+use Rattle.exchange_core.proofs.StandingLaws.{ExchangesStandFor-failed}
 use Rattle.exchange_core.proofs.table.Exchanges.forget.Goals as goal
 
 pub invariant_of-self : goal.invariant_of-self
@@ -23,8 +23,8 @@ invariant_of-self c =
 
 pub returns-clause-stands : goal.returns-clause-stands
 returns-clause-stands c at events e place orderly there is stands =
-    StandsFor-failed at place c.args.peer c.args.mid c.args.admitted.0 e events (record { moment = c.self.inside.moment.0; exchanges = c.self.inside.rows.items })
-    (record { moment = c.self.inside.moment.0; exchanges = c.drop_first.new.rows.items }) is orderly there c.drop_first.ensures.items (subst (StandsFor at events) (sym c.self.view_is) stands)
+    ExchangesStandFor-failed at place c.args.peer c.args.mid c.args.admitted.0 e events (record { moment = c.self.inside.moment.0; exchanges = c.self.inside.rows.items })
+    (record { moment = c.self.inside.moment.0; exchanges = c.drop_first.new.rows.items }) is orderly there c.drop_first.ensures.items (subst (ExchangesStandFor at events) (sym c.self.view_is) stands)
 
 pub returns-clause-forgotten : goal.returns-clause-forgotten
 returns-clause-forgotten c = c.drop_first.ensures.items ∙ ap (λ (t : Table). without_first (is_admitted_at c.args.peer c.args.mid c.args.admitted.0) t.exchanges) c.self.view_is

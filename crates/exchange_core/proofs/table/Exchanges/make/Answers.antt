@@ -1,5 +1,5 @@
-use Rattle.exchange_core.proofs.StandingLaws.{StandsFor-none}
+use Rattle.exchange_core.proofs.StandingLaws.{ExchangesStandFor-none}
 use Rattle.exchange_core.proofs.table.Exchanges.make.Goals as goal
 
 pub returns-clause-stands : goal.returns-clause-stands
-returns-clause-stands c = StandsFor-none 0 (record { moment = 0; exchanges = c.in_ok-rows.rows.items }) c.in_ok-rows.ensures.items
+returns-clause-stands c = ExchangesStandFor-none 0 (record { moment = 0; exchanges = c.in_ok-rows.rows.items }) c.in_ok-rows.ensures.items

@@ -1,8 +1,8 @@
 use Rattle.std.proofs.Common.{◌≡◌, ap, subst, sym, ◌∙◌, length, arith}
 use Rattle.exchange_core.specs.Rows.{Table, InOrder, is_admitted_at, answered_first}
-use Rattle.exchange_core.specs.Standing.{StandsFor}
+use Rattle.exchange_core.specs.Standing.{ExchangesStandFor}
 use Rattle.exchange_core.proofs.RowLaws.{InOrder-answered, length-answered}
-use Rattle.exchange_core.proofs.StandingLaws.{StandsFor-settled}
+use Rattle.exchange_core.proofs.StandingLaws.{ExchangesStandFor-settled}
 use Rattle.exchange_core.proofs.table.Exchanges.settle.Goals as goal
 
 pub invariant_of-self : goal.invariant_of-self
@@ -23,8 +23,8 @@ invariant_of-self c =
 
 pub returns-clause-stands : goal.returns-clause-stands
 returns-clause-stands c at events e place orderly there is stands =
-    StandsFor-settled at place c.args.peer c.args.mid c.args.admitted.0 c.args.reply e events (record { moment = c.self.inside.moment.0; exchanges = c.self.inside.rows.items })
-    (record { moment = c.self.inside.moment.0; exchanges = c.answer_first.new.rows.items }) is orderly there c.answer_first.ensures.items (subst (StandsFor at events) (sym c.self.view_is) stands)
+    ExchangesStandFor-settled at place c.args.peer c.args.mid c.args.admitted.0 c.args.reply e events (record { moment = c.self.inside.moment.0; exchanges = c.self.inside.rows.items })
+    (record { moment = c.self.inside.moment.0; exchanges = c.answer_first.new.rows.items }) is orderly there c.answer_first.ensures.items (subst (ExchangesStandFor at events) (sym c.self.view_is) stands)
 
 pub returns-clause-answered : goal.returns-clause-answered
 returns-clause-answered c = c.answer_first.ensures.items ∙ ap (λ (t : Table). answered_first (is_admitted_at c.args.peer c.args.mid c.args.admitted.0) c.args.reply t.exchanges) c.self.view_is

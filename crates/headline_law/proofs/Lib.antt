@@ -1,0 +1,6 @@
+pub mod notes
+pub mod entries
+pub mod observers
+pub mod sends
+pub mod flights
+pub mod rows

@@ -1,0 +1,11 @@
+pub mod ChangingSteps
+pub mod QuietSteps
+pub mod RowLaws
+pub mod JournalLaws
+pub mod AnswerLaws
+pub mod Origins
+pub mod TagStates
+pub mod CommitLaws
+pub mod Admitting
+pub mod FailedLaws
+pub mod HoldsEachOnce

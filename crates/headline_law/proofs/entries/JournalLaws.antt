@@ -1,0 +1,99 @@
+-- Laws of the journals of the machine: each row is that of its step, the entries are a legal history, and moments do not fall.
+use Rattle.std.proofs.Common.{◌≡◌, ◌≤◌, Bool, List, [], ◌∷◌, ◌++◌, length, refl, sym, ap, subst, ◌∙◌, append-nil, append_assoc, arith}
+use Rattle.std.proofs.Math.Nat.{le-max_left, le-max_right}
+use Rattle.history_model.specs.Live.{IsFront, last_moment}
+use Rattle.history_model.specs.Legal.{IsLegal}
+use Rattle.history_model.proofs.LegalLaws.{IsLegalFrom-nil, IsLegalFrom_push}
+use Rattle.history_model.proofs.ReplayLaws.{last_moment-nil, last_moment_push}
+use Rattle.journal_model.specs.declared.steps.Step.{Step}
+use Rattle.journal_model.specs.declared.rows.Row.{Row}
+use Rattle.journal_model.specs.Journal.{entries, entries_of, latest}
+use Rattle.journal_model.specs.Rows.{row}
+use Rattle.journal_model.specs.Machine.{MayMake, IsJournal, begun, made}
+use Rattle.journal_model.specs.Headline.{Within}
+use Rattle.journal_model.proofs.EntriesNoted.{entries_in, NotesNext, none, one}
+use Rattle.headline_law.proofs.entries.RowLaws.{row-TellsNext, row-single, row-moment_latest}
+
+-- a row of a journal: it is that of a step that might be made behind the rows before it, which are a journal too
+pub record Made (before : List Row) (r : Row) : Type 0 where
+  pub step : Step
+  pub starved : Bool
+  pub is : r ≡ row before step starved
+  pub may : MayMake before step
+  pub journal : IsJournal before
+
+-- the newest row of a journal
+pub newest : (before : List Row) (r : Row) → IsJournal (r ∷ before) → Made before r
+newest before r (made {rows} {s} starved journal may) = record { step = s; starved = starved; is = refl; may = may; journal = journal }
+
+-- each row of a journal
+pub each_row : (rows before : List Row) (r : Row) → IsJournal rows → Within rows before r → Made before r
+each_row rows before r journal within = newest before r (behind within.later (subst IsJournal within.whole journal))
+  where
+    behind : (later : List Row) → IsJournal (later ++ r ∷ before) → IsJournal (r ∷ before)
+    behind [] j = j
+    behind (x ∷ later) j = behind later (newest (later ++ r ∷ before) x j).journal
+
+-- the entries with one row more
+pub entries-row : (before : List Row) (r : Row) → entries (r ∷ before) ≡ entries before ++ entries_in r.notes
+unfolding entries
+entries-row before r = refl
+
+-- the greatest moment with one row more
+pub latest-row : (before : List Row) (r : Row) → r.moment.0 ≤ latest (r ∷ before)
+unfolding latest
+latest-row before r = le-max_left r.moment.0 (latest before)
+
+pub latest-before : (before : List Row) (r : Row) → latest before ≤ latest (r ∷ before)
+unfolding latest
+latest-before before r = le-max_right r.moment.0 (latest before)
+
+-- the entries of a journal are a legal history that ends no later than its rows
+pub record HasHistory (rows : List Row) : Type 0 where
+  pub legal : IsLegal (entries rows)
+  pub in_time : last_moment (entries rows) ≤ latest rows
+
+-- so it is with one row more
+history_step : (before : List Row) (r : Row) → NotesNext (entries before) r.moment.0 r.notes → latest before ≤ r.moment.0 → HasHistory before → HasHistory (r ∷ before)
+history_step before r (none h) at behind =
+    let same : entries before ≡ entries (r ∷ before) = sym (entries-row before r ∙ (ap (λ more. entries before ++ more) h ∙ append-nil (entries before))) in
+    record {
+      legal = subst IsLegal same behind.legal;
+      in_time = subst (λ history. last_moment history ≤ latest (r ∷ before)) same (omega (arith, behind.in_time, latest-before before r));
+    }
+history_step before r (one entry h at_moment good accepted) at behind =
+    let more : entries before ++ entry ∷ [] ≡ entries (r ∷ before) = sym (entries-row before r ∙ ap (λ more. entries before ++ more) h) in
+    record {
+      legal = subst IsLegal more (IsLegalFrom_push 0 (entries before) entry behind.legal (record { in_time = omega (arith, behind.in_time, at, at_moment); body = good; accepted = accepted }));
+      in_time = subst (λ history. last_moment history ≤ latest (r ∷ before)) more (rw (last_moment_push (entries before) entry) (omega (arith, at_moment, latest-row before r)));
+    }
+
+-- the entries of each journal are a legal history
+pub journal-HasHistory : (rows : List Row) → IsJournal rows → HasHistory rows
+unfolding entries latest
+journal-HasHistory [] begun = record { legal = IsLegalFrom-nil 0; in_time = rw last_moment-nil (omega arith) }
+journal-HasHistory (r ∷ before) (made {rows} {s} starved journal may) =
+    history_step before (row before s starved) (row-TellsNext before s starved) (row-moment_latest before s starved) (journal-HasHistory before journal)
+
+-- each row of a journal has at most one entry
+pub journal-single : (rows before : List Row) (r : Row) → IsJournal rows → Within rows before r → length (entries_of r) ≤ 1
+journal-single rows before r journal within =
+    let it : Made before r = each_row rows before r journal within in
+    subst (λ (x : Row). length (entries_of x) ≤ 1) (sym it.is) (row-single before it.step it.starved)
+
+-- the moment of each row of a journal is not below those of the rows before it
+pub journal-moments : (rows before : List Row) (r : Row) → IsJournal rows → Within rows before r → latest before ≤ r.moment.0
+journal-moments rows before r journal within =
+    let it : Made before r = each_row rows before r journal within in
+    subst (λ (x : Row). latest before ≤ x.moment.0) (sym it.is) (row-moment_latest before it.step it.starved)
+
+-- the entries up to a row are a front of those of the journal
+pub entries-IsFront : (rows before : List Row) (r : Row) → Within rows before r → IsFront (entries (r ∷ before)) (entries rows)
+unfolding entries
+entries-IsFront rows before r within = subst (λ all. IsFront (entries (r ∷ before)) (entries all)) (sym within.whole) (behind within.later)
+  where
+    behind : (later : List Row) → IsFront (entries (r ∷ before)) (entries (later ++ r ∷ before))
+    behind [] = ([], append-nil (entries (r ∷ before)))
+    behind (x ∷ later) =
+        let h : IsFront (entries (r ∷ before)) (entries (later ++ r ∷ before)) = behind later in
+        (h.0 ++ entries_of x, sym (append_assoc (entries (r ∷ before)) h.0 (entries_of x)) ∙ ap (λ front. front ++ entries_of x) h.1)

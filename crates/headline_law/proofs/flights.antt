@@ -1,0 +1,9 @@
+pub mod AgainFacts
+pub mod Standing
+pub mod TickNotices
+pub mod FreshNotices
+pub mod TickFolds
+pub mod KnownFlights
+pub mod TickCarries
+pub mod TickFlights
+pub mod TickTold

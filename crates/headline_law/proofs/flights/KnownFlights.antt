@@ -1,0 +1,107 @@
+-- What is known of each notice in flight: the row that formed it, and that it bears the listing there.
+use Rattle.std.proofs.Common.{◌≡◌, ℕ, ◌<◌, Bool, true, false, List, [], ◌∷◌, length, Some, None, refl, sym, ◌∙◌, arith}
+use Rattle.std.specs.List.{list_any, AllByRecursion}
+use Rattle.std.proofs.lemmas.Bool.{false≢true, ne_eqb}
+use Rattle.rd_base.specs.declared.peers.Peer.{Peer}
+use Rattle.history_model.specs.Listing.{listing, tag}
+use Rattle.history_model.proofs.Pairs.{each_weaker}
+use Rattle.event_model.specs.declared.notes.Note.{Note}
+use Rattle.event_model.specs.declared.notes.Note.TheVariants as note
+use Rattle.event_model.specs.declared.notes.Observer.{Observer}
+use Rattle.event_model.specs.Same.{is_same_peer}
+use Rattle.event_model.specs.Events.{noted}
+use Rattle.event_model.specs.Observers.{name_of, observers}
+use Rattle.event_model.specs.Flights.{is_forming_for}
+use Rattle.event_model.proofs.Noting.{Found, last_event-here}
+use Rattle.journal_model.specs.declared.rows.Row.{Row}
+use Rattle.journal_model.specs.Journal.{events, entries, row_at}
+use Rattle.journal_model.specs.Headline.{Placed, last_row, forms_notice, former_of_notice}
+use Rattle.headline_law.proofs.sends.BodyAnswers.{IsBodyOf}
+use Rattle.journal_model.proofs.EventRows.{found_in}
+use Rattle.headline_law.proofs.notes.Asking.{OfWatched, observers_all}
+use Rattle.journal_model.proofs.FlightKeys.{flight_key, key_before_all, is_notice, key_none}
+use Rattle.rd_base.proofs.lemmas.Booleans.{neither}
+use Rattle.journal_model.proofs.Among.{all_among}
+
+-- the row that formed the notice to an observer under a Message ID, at a place
+pub record NoticeOf (rows : List Row) (o : Observer) (mid place : ℕ) : Type 0 where
+  pub placed : Placed
+  pub last : former_of_notice o.peer mid rows ≡ Some placed
+  pub below : place < length rows
+  pub at_place : row_at place rows ≡ Some placed.row
+  pub sent : AllByRecursion (λ (d : Peer × List ℕ). is_same_peer d.0 o.peer ≡ true
+      → IsBodyOf o.token (listing o.query (entries (placed.row ∷ placed.before)) placed.row.moment.0) (tag (entries (placed.row ∷ placed.before)) placed.row.moment.0) d.1) placed.row.sent
+
+-- whatever notice is in flight to an observer
+abbrev pub FlightKnown : List Row → Observer → Type 0
+FlightKnown rows o = (mid place : ℕ) → flight_key o (events rows) ≡ Some (mid, place) → NoticeOf rows o mid place
+
+-- and to all that stand
+abbrev pub FlightsKnown : List Row → Type 0
+FlightsKnown rows = AllByRecursion (FlightKnown rows) (observers (events rows))
+
+-- behind a row that forms no notice to the peer with this Message ID
+pub notice_of_row : (rows : List Row) (r : Row) (o : Observer) (mid place : ℕ) → list_any (forms_notice o.peer mid) r.notes ≡ false → NoticeOf rows o mid place → NoticeOf (r ∷ rows) o mid place
+unfolding last_row row_at
+notice_of_row rows r o mid place none it = record {
+  placed = it.placed;
+  last = rw none it.last;
+  below = omega (arith, it.below);
+  at_place = rw (ne_eqb place (length rows) (λ same. absurd (omega (arith, same, it.below)))) it.at_place;
+  sent = it.sent;
+}
+
+-- notes that form no notice form none to a peer
+no_notice_to : (peer : Peer) (mid : ℕ) (notes : List Note) → list_any is_notice notes ≡ false → list_any (forms_notice peer mid) notes ≡ false
+no_notice_to peer mid [] none = refl
+no_notice_to peer mid (n ∷ notes) none =
+    let both = neither (is_notice n) (list_any is_notice notes) none in
+    rw (by n both.0, no_notice_to peer mid notes both.1) refl
+  where
+    by : (x : Note) → is_notice x ≡ false → forms_notice peer mid x ≡ false
+    by (note.Formed p token body None) h = refl
+    by (note.Formed p token body (Some m)) h = absurd (false≢true (sym h))
+    by _ h = refl
+
+-- each of them forms none
+each_no : (notes : List Note) → list_any is_notice notes ≡ false → AllByRecursion (λ n. is_notice n ≡ false) notes
+each_no [] none = tt
+each_no (n ∷ notes) none =
+    let both = neither (is_notice n) (list_any is_notice notes) none in
+    (both.0, each_no notes both.1)
+
+-- where a row forms something for an observer, and no notice, none is in flight to it
+none_in_flight : (rows : List Row) (r : Row) (o : Observer) → list_any is_notice r.notes ≡ false → list_any (is_forming_for (name_of o)) r.notes ≡ true → flight_key o (events (r ∷ rows)) ≡ None
+unfolding events
+none_in_flight rows r o none forms =
+    let found : Found (is_forming_for (name_of o)) (noted (length rows) r.moment.0 r.step.word r.notes (events rows)) (length rows) r.moment.0 =
+    last_event-here (is_forming_for (name_of o)) (length rows) r.moment.0 r.step.word r.notes (events rows) forms in
+    let it = found_in (is_forming_for (name_of o)) (length rows) r.moment.0 r.step.word r.notes (events rows) found.event forms found.last in
+    key_none o (noted (length rows) r.moment.0 r.step.word r.notes (events rows)) found.event found.last
+    (all_among (λ n. is_notice n ≡ false) found.event.note r.notes (each_no r.notes none) it.0)
+
+-- behind a row that forms no notice, and whatever observer it adds is formed for
+pub flights_row : (rows : List Row) (r : Row) → list_any is_notice r.notes ≡ false → AllByRecursion (OfWatched (λ o. list_any (is_forming_for (name_of o)) r.notes ≡ true)) r.notes → FlightsKnown rows → FlightsKnown (r ∷ rows)
+unfolding events
+flights_row rows r none added all =
+    observers_all (FlightKnown (r ∷ rows)) (length rows) r.moment.0 r.step.word r.notes (events rows) (each_added r.notes added) (each_weaker (FlightKnown rows) (FlightKnown (r ∷ rows)) stays (observers (events rows)) all)
+  where
+    vacuous : (o : Observer) → list_any (is_forming_for (name_of o)) r.notes ≡ true → FlightKnown (r ∷ rows) o
+    vacuous o forms mid place found = absurd (let both : None ≡ Some (mid, place) = sym (none_in_flight rows r o none forms) ∙ found in cc)
+
+    new : (n : Note) → OfWatched (λ o. list_any (is_forming_for (name_of o)) r.notes ≡ true) n → OfWatched (FlightKnown (r ∷ rows)) n
+    new (note.Watched o) h = vacuous o h
+    new _ h = tt
+
+    each_added : (notes : List Note) → AllByRecursion (OfWatched (λ o. list_any (is_forming_for (name_of o)) r.notes ≡ true)) notes → AllByRecursion (OfWatched (FlightKnown (r ∷ rows))) notes
+    each_added [] h = tt
+    each_added (n ∷ notes) h = (new n h.0, each_added notes h.1)
+
+    stays : (o : Observer) → FlightKnown rows o → FlightKnown (r ∷ rows) o
+    stays o known = by (list_any (is_forming_for (name_of o)) r.notes) refl
+      where
+        by : (b : Bool) → list_any (is_forming_for (name_of o)) r.notes ≡ b → FlightKnown (r ∷ rows) o
+        by true forms = vacuous o forms
+        by false quiet = λ mid place found.
+            notice_of_row rows r o mid place (no_notice_to o.peer mid r.notes none)
+            (known mid place (key_before_all o (length rows) r.moment.0 r.step.word r.notes (events rows) (mid, place) quiet found))

@@ -1,0 +1,115 @@
+-- What a tick sends carries the listing of the row that formed it, and what is in flight behind it is known.
+use Rattle.std.proofs.Common.{◌≡◌, ℕ, ◌||◌, ◌&&◌, ◌==◌, Bool, true, false, cond, List, [], ◌∷◌, length, Some, option_map, Ok, refl, sym, ap, ap₂, subst, ◌∙◌}
+use Rattle.std.specs.List.{list_any, AllByRecursion}
+use Rattle.std.proofs.lemmas.Bool.{false≢true}
+use Rattle.rd_base.specs.declared.peers.Peer.{Peer}
+use Rattle.message_model.specs.Message.{Message}
+use Rattle.message_model.specs.Reading.{reading}
+use Rattle.history_model.specs.Listing.{listing, tag}
+use Rattle.event_model.specs.declared.notes.Note.{Note}
+use Rattle.event_model.specs.declared.notes.Note.TheVariants as note
+use Rattle.event_model.specs.declared.notes.Observer.{Observer}
+use Rattle.event_model.specs.Same.{RequestName, is_same_peer, is_same_request}
+use Rattle.event_model.specs.Observers.{name_of, observers}
+use Rattle.event_model.specs.Flights.{is_again_of}
+use Rattle.event_model.proofs.SameLaws.{is_same_request-refl}
+use Rattle.event_model.proofs.ObserverLaws.{observers-apart, Only, apart_only}
+use Rattle.journal_model.specs.declared.steps.StepKind.TheVariants as step
+use Rattle.journal_model.specs.declared.rows.Row.{Row}
+use Rattle.journal_model.specs.Journal.{events, entries}
+use Rattle.journal_model.specs.Ticks.{notices_again}
+use Rattle.journal_model.specs.Headline.{Placed, has_listing, former_noted, former_of_notice, former_at, observer_named, query_answered, FormedAs}
+use Rattle.headline_law.proofs.sends.BodyAnswers.{Bears, bears_carries}
+use Rattle.journal_model.proofs.Among.{Among, all_among, among_all, find_only}
+use Rattle.headline_law.proofs.notes.Asking.{OfWatched, observers_all}
+use Rattle.headline_law.proofs.flights.AgainFacts.{behind_again, again_none}
+use Rattle.rd_base.proofs.lemmas.Booleans.{neither}
+
+-- whatever listing a datagram of a row is read to have was formed as the headline says
+abbrev pub Carried : Placed → Peer × List ℕ → Type 0
+Carried here d = (m : Message) → reading d.1 ≡ Ok m → has_listing m ≡ true → FormedAs here d.0 m
+
+-- ---- which note tells of the former
+
+-- the note tells that a kept answer was read
+abbrev pub is_used : Note → Bool
+is_used (note.Used peer key) = true
+is_used _ = false
+
+-- where the notice is noted to be sent again, it is the one that was formed last
+pub noted_again : (peer : Peer) (mid : ℕ) (notes : List Note) (here : Placed) → list_any is_used notes ≡ false → list_any (is_again_of peer mid) notes ≡ true
+    → former_noted peer mid notes here ≡ former_of_notice peer mid here.before
+noted_again peer mid [] here unused again = absurd (false≢true again)
+noted_again peer mid (n ∷ notes) here unused again = by n (neither (is_used n) (list_any is_used notes) unused) again (λ u a. noted_again peer mid notes here u a)
+  where
+    Rest : Type 0
+    Rest = list_any is_used notes ≡ false → list_any (is_again_of peer mid) notes ≡ true → former_noted peer mid notes here ≡ former_of_notice peer mid here.before
+
+    test : (p : Peer) (m : ℕ) (b : Bool) → (is_same_peer p peer && m == mid) ≡ b → list_any is_used notes ≡ false → (b || list_any (is_again_of peer mid) notes) ≡ true → Rest
+        → cond b (former_of_notice peer mid here.before) (former_noted peer mid notes here) ≡ former_of_notice peer mid here.before
+    test p m true e u a more = refl
+    test p m false e u a more = more u a
+
+    by : (x : Note) → (is_used x ≡ false) × (list_any is_used notes ≡ false) → (is_again_of peer mid x || list_any (is_again_of peer mid) notes) ≡ true → Rest
+        → former_noted peer mid (x ∷ notes) here ≡ former_of_notice peer mid here.before
+    by (note.Used p key) u a more = absurd (false≢true (sym u.0))
+    by (note.Again p m) u a more = test p m (is_same_peer p peer && m == mid) refl u.1 a more
+    by _ u a more = more u.1 a
+
+-- where none is, it was formed here
+pub noted_here : (peer : Peer) (mid : ℕ) (notes : List Note) (here : Placed) → list_any is_used notes ≡ false → list_any (is_again_of peer mid) notes ≡ false → former_noted peer mid notes here ≡ Some here
+noted_here peer mid [] here unused none = refl
+noted_here peer mid (n ∷ notes) here unused none =
+    by n (neither (is_used n) (list_any is_used notes) unused).0 (neither (is_again_of peer mid n) (list_any (is_again_of peer mid) notes) none).0
+    (noted_here peer mid notes here (neither (is_used n) (list_any is_used notes) unused).1 (neither (is_again_of peer mid n) (list_any (is_again_of peer mid) notes) none).1)
+  where
+    by : (x : Note) → is_used x ≡ false → is_again_of peer mid x ≡ false → former_noted peer mid notes here ≡ Some here → former_noted peer mid (x ∷ notes) here ≡ Some here
+    by (note.Used p key) u a more = absurd (false≢true (sym u))
+    by (note.Again p m) u a more = rw a more
+    by _ u a more = more
+
+-- ---- who stands
+
+-- who stands behind the first part stood before it
+pub stood : (rows : List Row) (moment word : ℕ) (P : Observer → Type 0) → AllByRecursion P (observers (events rows)) → AllByRecursion P (observers (behind_again rows moment word))
+stood rows moment word P all = observers_all P (length rows) moment word (notices_again rows moment).notes (events rows) (each (notices_again rows moment).notes (again_none is_added (λ p t. refl) (λ p m. refl) rows moment)) all
+  where
+    is_added : Note → Bool
+    is_added (note.Watched o) = true
+    is_added _ = false
+
+    one : (n : Note) → is_added n ≡ false → OfWatched P n
+    one (note.Watched o) h = absurd (false≢true (sym h))
+    one _ h = tt
+
+    each : (notes : List Note) → list_any is_added notes ≡ false → AllByRecursion (OfWatched P) notes
+    each [] h = tt
+    each (n ∷ notes) h = (one n (neither (is_added n) (list_any is_added notes) h).0, each notes (neither (is_added n) (list_any is_added notes) h).1)
+
+-- so an observer that stands stood before
+pub stood_before : (rows : List Row) (moment word : ℕ) (o : Observer) → Among o (observers (behind_again rows moment word)) → Among o (observers (events rows))
+stood_before rows moment word o stands =
+    all_among (λ x. Among x (observers (events rows))) o (observers (behind_again rows moment word))
+    (stood rows moment word (λ x. Among x (observers (events rows))) (among_all (λ x. Among x (observers (events rows))) (observers (events rows)) (λ x h. h))) stands
+
+-- an observer that stands is found by its name
+pub found_by_name : (rows : List Row) (o : Observer) → Among o (observers (events rows)) → observer_named (name_of o) rows ≡ Some o
+found_by_name rows o stands =
+    find_only (λ x. is_same_request (name_of x) (name_of o)) o (observers (events rows)) stands (is_same_request-refl (name_of o))
+    (all_among (λ x. Only x (observers (events rows))) o (observers (events rows)) (apart_only (observers (events rows)) (observers-apart (events rows))) stands)
+
+-- ---- a message of a tick
+
+-- a message that an observer is sent, as the headline has it
+pub observer_formed : (here former : Placed) (o : Observer) (d : Peer × List ℕ) (m : Message) → here.row.step.kind ≡ step.Tick → Among o (observers (events here.before)) → d.0 ≡ o.peer
+    → Bears o.token (listing o.query (entries (former.row ∷ former.before)) former.row.moment.0) (tag (entries (former.row ∷ former.before)) former.row.moment.0) m
+    → former_noted d.0 m.mid here.row.notes here ≡ Some former → FormedAs here d.0 m
+observer_formed here former o d m tick stands same bears formed = record {
+  former = former;
+  formed = subst (λ k. former_at k d.0 m.mid here ≡ Some former) (sym tick) formed;
+  query = o.query;
+  asked = subst (λ k. query_answered k (d.0, m.token) here ≡ Some o.query) (sym tick)
+      (ap (λ (name : RequestName). option_map (λ (x : Observer). x.query) (observer_named name here.before)) (ap₂ (λ p t. (p, t)) same bears.token_is)
+      ∙ ap (λ found. option_map (λ (x : Observer). x.query) found) (found_by_name here.before o stands));
+  carries = bears_carries o.token o.query (entries (former.row ∷ former.before)) former.row.moment.0 m bears;
+}

@@ -1,0 +1,111 @@
+-- What a tick forms: at most one notice for a peer, and none while one is in flight to it.
+use Rattle.std.proofs.Common.{◌≡◌, ◌⊎◌, ℕ, ◌&&◌, Bool, true, false, List, [], ◌∷◌, ◌++◌, length, Some, Ok, refl, sym, ap, subst, ◌∙◌, append-nil}
+use Rattle.std.specs.Prelude.{is_some}
+use Rattle.std.specs.List.{list_any, AllByRecursion}
+use Rattle.std.proofs.lemmas.List.Folds.{list_any-append}
+use Rattle.rd_base.specs.declared.peers.Peer.{Peer}
+use Rattle.message_model.specs.Message.{Message}
+use Rattle.message_model.specs.Reading.{reading}
+use Rattle.history_model.specs.Listing.{listing, tag}
+use Rattle.event_model.specs.declared.notes.Note.{Note}
+use Rattle.event_model.specs.declared.notes.Note.TheVariants as note
+use Rattle.event_model.specs.declared.notes.Observer.{Observer}
+use Rattle.event_model.specs.Same.{is_same_peer}
+use Rattle.event_model.specs.Events.{Event, noted}
+use Rattle.event_model.specs.Observers.{name_of, observers}
+use Rattle.event_model.specs.Flights.{is_forming_for}
+use Rattle.event_model.proofs.Noting.{noted-append}
+use Rattle.journal_model.specs.declared.rows.Row.{Row}
+use Rattle.journal_model.specs.Journal.{events, entries}
+use Rattle.journal_model.specs.Sending.{Effects}
+use Rattle.journal_model.specs.Ticks.{notices}
+use Rattle.journal_model.specs.Ticks.{notices_again}
+use Rattle.journal_model.specs.Headline.{has_listing, forms_notice}
+use Rattle.headline_law.proofs.sends.BodyAnswers.{IsBodyOf}
+use Rattle.headline_law.proofs.sends.PlainSteps.{each_append}
+use Rattle.journal_model.proofs.Among.{Among}
+use Rattle.journal_model.proofs.FlightKeys.{flight_key, is_landing, key_same_all}
+use Rattle.headline_law.proofs.flights.Standing.{is_turning, observers_same, Waits, flies_key}
+use Rattle.headline_law.proofs.flights.AgainFacts.{AgainSent, AgainNoted, behind_again}
+use Rattle.rd_base.proofs.lemmas.Booleans.{or_left}
+
+-- the note forms a notice to a peer
+abbrev pub is_notice_to : Peer → Note → Bool
+is_notice_to peer (note.Formed p token body mid) = is_some mid && is_same_peer p peer
+is_notice_to peer _ = false
+
+-- the datagram has whatever listing it has from the listing of an observer now
+abbrev pub IsNoticeOf : List Row → ℕ → Observer → List ℕ → Type 0
+IsNoticeOf rows moment o octets = IsBodyOf o.token (listing o.query (entries rows) moment) (tag (entries rows) moment) octets
+
+-- what a tick did so far to an observer that stands: its flight is as before, and where it has one its peer got no notice; or it was given a notice
+pub data Stat (rows : List Row) (moment word : ℕ) (o : Observer) (done : Effects) : Type 0 where
+  as_before : flight_key o (noted (length rows) moment word done.notes (events rows)) ≡ flight_key o (events rows)
+      → (is_some (flight_key o (events rows)) ≡ true → list_any (is_notice_to o.peer) done.notes ≡ false) → Stat rows moment word o done
+  given : (mid : ℕ) → flight_key o (noted (length rows) moment word done.notes (events rows)) ≡ Some (mid, length rows) → list_any (forms_notice o.peer mid) done.notes ≡ true
+      → AllByRecursion (λ (d : Peer × List ℕ). is_same_peer d.0 o.peer ≡ true → IsNoticeOf rows moment o d.1) done.sent → Stat rows moment word o done
+
+-- a new notice: of an observer that stands, whose peer was not waited for
+pub record FreshSent (rows : List Row) (moment word : ℕ) (d : Peer × List ℕ) : Type 0 where
+  pub observer : Observer
+  pub stands : Among observer (observers (behind_again rows moment word))
+  pub of_peer : d.0 ≡ observer.peer
+  pub body : IsNoticeOf rows moment observer d.1
+  pub free : Waits observer.peer (behind_again rows moment word) → ⊥
+
+-- what holds of a tick so far
+pub record TickSoFar (rows : List Row) (moment word : ℕ) (done : Effects) : Type 0 where
+  pub stand : observers (noted (length rows) moment word done.notes (events rows)) ≡ observers (behind_again rows moment word)
+  pub sends : AllByRecursion (λ (d : Peer × List ℕ). (m : Message) → reading d.1 ≡ Ok m → has_listing m ≡ true → Waits d.0 (noted (length rows) moment word done.notes (events rows))) done.sent
+  pub waits_on : (peer : Peer) → Waits peer (behind_again rows moment word) → Waits peer (noted (length rows) moment word done.notes (events rows))
+  pub origins : AllByRecursion (λ (d : Peer × List ℕ). AgainSent rows moment d ⊎ FreshSent rows moment word d) done.sent
+  pub stats : (o : Observer) → Among o (observers (behind_again rows moment word)) → Stat rows moment word o done
+  pub agains : AllByRecursion (AgainNoted rows moment) done.notes
+  pub keeps : (test : Note → Bool) → list_any test (notices_again rows moment).notes ≡ true → list_any test done.notes ≡ true
+
+-- ---- notes that do nothing
+
+-- where nothing is sent, and what is noted does nothing for flights and observers
+pub so_far_quiet : (rows : List Row) (moment word : ℕ) (done : Effects) (more : List Note) (drew : ℕ) → ((o : Observer) → list_any (is_forming_for (name_of o)) more ≡ false) → list_any is_landing more ≡ false
+    → list_any is_turning more ≡ false → ((peer : Peer) → list_any (is_notice_to peer) more ≡ false) → AllByRecursion (AgainNoted rows moment) more → TickSoFar rows moment word done
+    → TickSoFar rows moment word (record { sent = done.sent ++ []; notes = done.notes ++ more; drew = drew })
+so_far_quiet rows moment word done more drew forming landing turning notices agains it = record {
+  stand = ap observers split ∙ (observers_same (length rows) moment word more Before turning ∙ it.stand);
+  sends = subst (AllByRecursion (λ (d : Peer × List ℕ). (m : Message) → reading d.1 ≡ Ok m → has_listing m ≡ true → Waits d.0 After)) (sym (append-nil done.sent))
+      (each_weak (λ d h m e listed. on d.0 (h m e listed)) done.sent it.sends);
+  waits_on = λ peer w. on peer (it.waits_on peer w);
+  origins = subst (AllByRecursion (λ (d : Peer × List ℕ). AgainSent rows moment d ⊎ FreshSent rows moment word d)) (sym (append-nil done.sent)) it.origins;
+  stats = λ o stands. stat o (it.stats o stands);
+  agains = each_append (AgainNoted rows moment) done.notes more it.agains agains;
+  keeps = λ test h. list_any-append test done.notes more ∙ or_left (list_any test done.notes) (list_any test more) (it.keeps test h);
+}
+  where
+    Before : List Event
+    Before = noted (length rows) moment word done.notes (events rows)
+
+    After : List Event
+    After = noted (length rows) moment word (done.notes ++ more) (events rows)
+
+    split : noted (length rows) moment word (done.notes ++ more) (events rows) ≡ noted (length rows) moment word more (noted (length rows) moment word done.notes (events rows))
+    split = noted-append (length rows) moment word done.notes more (events rows)
+
+    key : (o : Observer) → flight_key o (noted (length rows) moment word (done.notes ++ more) (events rows)) ≡ flight_key o (noted (length rows) moment word done.notes (events rows))
+    key o = ap (flight_key o) split ∙ key_same_all o (length rows) moment word more (noted (length rows) moment word done.notes (events rows)) (forming o) landing
+
+    on : (peer : Peer) → Waits peer (noted (length rows) moment word done.notes (events rows)) → Waits peer (noted (length rows) moment word (done.notes ++ more) (events rows))
+    on peer w = record {
+      observer = w.observer;
+      stands = subst (Among w.observer) (sym (ap observers split ∙ observers_same (length rows) moment word more (noted (length rows) moment word done.notes (events rows)) turning)) w.stands;
+      of_peer = w.of_peer;
+      flies = flies_key w.observer (noted (length rows) moment word (done.notes ++ more) (events rows)) ∙ (ap is_some (key w.observer) ∙ (sym (flies_key w.observer (noted (length rows) moment word done.notes (events rows))) ∙ w.flies));
+    }
+
+    each_weak : {P Q : Peer × List ℕ → Type 0} → ((d : Peer × List ℕ) → P d → Q d) → (ds : List (Peer × List ℕ)) → AllByRecursion P ds → AllByRecursion Q ds
+    each_weak h [] all = tt
+    each_weak h (d ∷ ds) all = (h d all.0, each_weak h ds all.1)
+
+    stat : (o : Observer) → Stat rows moment word o done → Stat rows moment word o (record { sent = done.sent ++ []; notes = done.notes ++ more; drew = drew })
+    stat o (as_before same none) = as_before (key o ∙ same) (λ some. list_any-append (is_notice_to o.peer) done.notes more ∙ rw (none some, notices o.peer) refl)
+    stat o (given mid flies noted_so sent) =
+        given mid (key o ∙ flies) (list_any-append (forms_notice o.peer mid) done.notes more ∙ or_left (list_any (forms_notice o.peer mid) done.notes) (list_any (forms_notice o.peer mid) more) noted_so)
+        (subst (AllByRecursion (λ (d : Peer × List ℕ). is_same_peer d.0 o.peer ≡ true → IsNoticeOf rows moment o d.1)) (sym (append-nil done.sent)) sent)

@@ -1,0 +1,2 @@
+pub mod ChangingNotes
+pub mod Asking

@@ -1,0 +1,4 @@
+pub mod Knowing
+pub mod Observing
+pub mod TickKnowing
+pub mod ObserversKnow

@@ -1,0 +1,171 @@
+-- Each lookup answers the listing of the history at the row that formed it, in each journal of the machine.
+use Rattle.std.proofs.Common.{◌≡◌, ◌≤◌, Bool, true, false, List, [], ◌∷◌, ◌++◌, length, refl, sym, ap, subst, ◌∙◌}
+use Rattle.std.specs.List.{list_any, AllByRecursion}
+use Rattle.std.proofs.lemmas.Bool.{false≢true}
+use Rattle.message_model.specs.Message.{longest_token}
+use Rattle.message_model.specs.Reading.{reading}
+use Rattle.history_model.proofs.Pairs.{each_weaker}
+use Rattle.event_model.specs.declared.notes.Note.{Note}
+use Rattle.event_model.specs.declared.notes.Note.TheVariants as note
+use Rattle.event_model.specs.declared.notes.Observer.{Observer}
+use Rattle.event_model.specs.Observers.{observers}
+use Rattle.journal_model.specs.declared.steps.Step.{Step}
+use Rattle.journal_model.specs.declared.steps.StepKind.{StepKind}
+use Rattle.journal_model.specs.declared.steps.StepKind.TheVariants as step
+use Rattle.journal_model.specs.declared.rows.Row.{Row}
+use Rattle.journal_model.specs.Journal.{events, entries}
+use Rattle.journal_model.specs.Sending.{Effects}
+use Rattle.journal_model.specs.Ticks.{ticking, notices_again, notices, requests_again, tick_effects}
+use Rattle.journal_model.specs.Rows.{effects, row_moment, row}
+use Rattle.journal_model.specs.Meantime.{is_heard}
+use Rattle.journal_model.specs.Machine.{MayMake, MayBegin, IsJournal, begun, made}
+use Rattle.journal_model.specs.Headline.{former_by, AnswersAsFormed}
+use Rattle.journal_model.proofs.NoteKinds.{of_tick, none_of}
+use Rattle.journal_model.proofs.StepNotes.{requests_again-notes, tick_effects-notes}
+use Rattle.journal_model.proofs.EntriesNoted.{entries_in}
+use Rattle.headline_law.proofs.observers.Knowing.{is_observing}
+use Rattle.headline_law.proofs.sends.PlainSteps.{ArePlain}
+use Rattle.headline_law.proofs.entries.QuietSteps.{tick_effects-entries_in}
+use Rattle.headline_law.proofs.observers.Observing.{entries-none_noted}
+use Rattle.headline_law.proofs.observers.ObserversKnow.{Shows, quiet, heard_shows, done_shows, kept_shows, looked_notes, of_all}
+use Rattle.headline_law.proofs.sends.TickSends.{requests_plain}
+use Rattle.headline_law.proofs.sends.ValidLaw.{before_all, journal_sends, looks_are_validated}
+use Rattle.headline_law.proofs.sends.RowSends.{Before}
+use Rattle.journal_model.proofs.EventRows.{AllRows, row_within}
+use Rattle.journal_model.proofs.Among.{Among, all_among}
+use Rattle.headline_law.proofs.notes.Asking.{IsAsking, AreTold, OfWatched, observers_all}
+use Rattle.headline_law.proofs.flights.AgainFacts.{behind_again}
+use Rattle.headline_law.proofs.flights.TickNotices.{TickSoFar}
+use Rattle.headline_law.proofs.flights.TickFolds.{tick_begins, tick_notifies}
+use Rattle.headline_law.proofs.flights.TickCarries.{Carried, is_used, stood}
+use Rattle.headline_law.proofs.rows.TickRows.{TickRow, tick_carried}
+use Rattle.headline_law.proofs.flights.TickFlights.{tick_flights}
+use Rattle.headline_law.proofs.flights.TickTold.{FormsFirst, shows_first, tick_told_so}
+use Rattle.headline_law.proofs.flights.KnownFlights.{FlightsKnown, flights_row}
+use Rattle.headline_law.proofs.sends.StepGives.{is_keeping, Gives, plain, look, lookup, keep, heard_gives, looked_gives, done_gives, kept_gives}
+use Rattle.headline_law.proofs.rows.RowCarries.{NoteAs, RowCarries, plain_row, look_row, told_noted}
+use Rattle.headline_law.proofs.rows.KeptRows.{lookup_row}
+use Rattle.headline_law.proofs.rows.KeepRows.{keep_row}
+
+-- what is known of a journal: each of its rows, its observers, and the notices in flight
+record CarriesAll (rows : List Row) : Type 0 where
+  each : AllRows RowCarries rows
+  asking : AllByRecursion IsAsking (observers (events rows))
+  flights : FlightsKnown rows
+
+-- the observers that a row adds ask for their queries
+asking_row : (rows : List Row) (r : Row) → RowCarries rows r → AllByRecursion IsAsking (observers (events rows)) → AllByRecursion IsAsking (observers (events (r ∷ rows)))
+unfolding events
+asking_row rows r carries all = observers_all IsAsking (length rows) r.moment.0 r.step.word r.notes (events rows) (each_weaker (NoteAs (record { row = r; before = rows })) (OfWatched IsAsking) by r.notes carries.noted) all
+  where
+    by : (n : Note) → NoteAs (record { row = r; before = rows }) n → OfWatched IsAsking n
+    by (note.Watched o) h = h
+    by _ h = tt
+
+-- a row that is no tick, by what its step gives
+row_gives : (rows : List Row) (r : Row) (e : Effects) → AllRows RowCarries rows → IsJournal rows → MayBegin rows r.step → r.sent ≡ e.sent → r.notes ≡ e.notes → Gives rows r.moment.0 r.step e → RowCarries rows r
+row_gives rows r e all journal may sent notes (plain sends none) = plain_row rows r (subst ArePlain (sym sent) sends) (ap (list_any is_keeping) notes ∙ none)
+row_gives rows r e all journal may sent notes (look m heard_so read is) = look_row rows r m heard_so read (sent ∙ ap (λ x. x.sent) is) (notes ∙ ap (λ x. x.notes) is)
+row_gives rows r e all journal may sent notes (lookup m heard_so read lookups is) = lookup_row rows r m all heard_so read lookups (sent ∙ ap (λ x. x.sent) is) (notes ∙ ap (λ x. x.notes) is)
+row_gives rows r e all journal may sent notes (keep m body current read kind is) =
+    keep_row rows r m body current journal may kind read (sent ∙ ap (λ x. x.sent) is) (notes ∙ ap (λ x. x.notes) is)
+
+-- so what is known is known with it
+quiet_step : (rows : List Row) (r : Row) → RowCarries rows r → FormsFirst r.notes → CarriesAll rows → CarriesAll (r ∷ rows)
+quiet_step rows r carries first all = record {
+  each = (carries, all.each);
+  asking = asking_row rows r carries all.asking;
+  flights = flights_row rows r first.none first.added all.flights;
+}
+
+-- a row of a tick
+tick_of : (rows : List Row) (r : Row) (starved : Bool) → Before rows → CarriesAll rows → r.step.kind ≡ step.Tick → r.sent ≡ (tick_effects starved rows r.moment.0 r.step).sent
+    → r.notes ≡ (tick_effects starved rows r.moment.0 r.step).notes → TickRow rows r
+unfolding tick_effects
+tick_of rows r starved past all tick sent notes = by starved sent notes
+  where
+    untold : entries (r ∷ rows) ≡ entries rows
+    untold = entries-none_noted rows r (ap entries_in notes ∙ tick_effects-entries_in starved rows r.moment.0 r.step)
+
+    unused : list_any is_used r.notes ≡ false
+    unused = ap (list_any is_used) notes ∙ none_of of_tick is_used never (tick_effects starved rows r.moment.0 r.step).notes (tick_effects-notes starved rows r.moment.0 r.step)
+      where
+        never : (n : Note) → of_tick n ≡ true → is_used n ≡ false
+        never (note.Used peer key) h = absurd (false≢true h)
+        never _ h = refl
+
+    small : (o : Observer) → Among o (observers (behind_again rows r.moment.0 r.step.word)) → length o.token ≤ longest_token
+    small o stands = (all_among IsAsking o (observers (behind_again rows r.moment.0 r.step.word)) (stood rows r.moment.0 r.step.word IsAsking all.asking) stands).token
+
+    with_parts : (notified : Effects) → TickSoFar rows r.moment.0 r.step.word notified → r.sent ≡ notified.sent ++ (requests_again rows r.moment.0).sent → r.notes ≡ notified.notes ++ (requests_again rows r.moment.0).notes → TickRow rows r
+    with_parts notified so_far sends noted = record {
+      notified = notified;
+      requests = requests_again rows r.moment.0;
+      tick = tick;
+      sent = sends;
+      notes = noted;
+      so_far = so_far;
+      plain = requests_plain rows r.moment.0 past.asked;
+      resent = requests_again-notes rows r.moment.0;
+      untold = untold;
+      unused = unused;
+      known = all.flights;
+    }
+
+    by : (b : Bool) → r.sent ≡ (tick_effects b rows r.moment.0 r.step).sent → r.notes ≡ (tick_effects b rows r.moment.0 r.step).notes → TickRow rows r
+    by true s n = with_parts (notices_again rows r.moment.0) (tick_begins rows r.moment.0 r.step.word) s n
+    by false s n = with_parts (notices (ticking rows r.moment.0 r.step) (notices_again rows r.moment.0)) (tick_notifies rows r.moment.0 r.step small) s n
+
+-- what is known is known with a row of a tick
+tick_step : (rows : List Row) (r : Row) (starved : Bool) → Before rows → CarriesAll rows → r.step.kind ≡ step.Tick → r.sent ≡ (tick_effects starved rows r.moment.0 r.step).sent
+    → r.notes ≡ (tick_effects starved rows r.moment.0 r.step).notes → CarriesAll (r ∷ rows)
+tick_step rows r starved past all tick sent notes =
+    let t : TickRow rows r = tick_of rows r starved past all tick sent notes in
+    let told_now = subst (AreTold rows r.moment.0) (sym notes) (tick_told_so starved rows r.moment.0 r.step (stood rows r.moment.0 r.step.word IsAsking all.asking)) in
+    let carries : RowCarries rows r = record { carried = tick_carried rows r t; noted = told_noted rows r (ap (λ k. former_by k (record { row = r; before = rows })) tick) t.untold r.notes told_now } in
+    record { each = (carries, all.each); asking = asking_row rows r carries all.asking; flights = tick_flights rows r t }
+
+-- any row
+row_step : (rows : List Row) (s : Step) (starved : Bool) → IsJournal rows → MayMake rows s → CarriesAll rows → CarriesAll (row rows s starved ∷ rows)
+unfolding row effects
+row_step rows s starved journal may all = by s.kind refl
+  where
+    past : Before rows
+    past = before_all rows (journal_sends rows journal)
+
+    sent_of : (k : StepKind) → s.kind ≡ k → (row rows s starved).sent ≡ (effects k starved rows (row_moment rows s) s).sent
+    sent_of k is = ap (λ x. (effects x starved rows (row_moment rows s) s).sent) is
+
+    notes_of : (k : StepKind) → s.kind ≡ k → (row rows s starved).notes ≡ (effects k starved rows (row_moment rows s) s).notes
+    notes_of k is = ap (λ x. (effects x starved rows (row_moment rows s) s).notes) is
+
+    given : (k : StepKind) → s.kind ≡ k → Gives rows (row_moment rows s) s (effects k starved rows (row_moment rows s) s) → Shows rows (row_moment rows s) (effects k starved rows (row_moment rows s) s).notes
+        → CarriesAll (row rows s starved ∷ rows)
+    given k is gives shows =
+        quiet_step rows (row rows s starved) (row_gives rows (row rows s starved) (effects k starved rows (row_moment rows s) s) all.each journal may.begin (sent_of k is) (notes_of k is) gives)
+        (subst FormsFirst (sym (notes_of k is)) (shows_first rows (row_moment rows s) (effects k starved rows (row_moment rows s) s).notes shows)) all
+
+    by : (k : StepKind) → s.kind ≡ k → CarriesAll (row rows s starved ∷ rows)
+    by step.Admit is =
+        given step.Admit is (heard_gives starved rows (row_moment rows s) s (reading s.datagram) past.settled (ap is_heard is) refl) (heard_shows starved rows (row_moment rows s) s (reading s.datagram))
+    by step.Look is =
+        given step.Look is (looked_gives starved rows (row_moment rows s) s (reading s.datagram) (ap is_heard is) refl)
+        (quiet (ap (list_any is_observing) (looked_notes starved rows (row_moment rows s) s (reading s.datagram))))
+    by (step.Commit place) is = given (step.Commit place) is (done_gives starved rows (row_moment rows s) place s (reading s.datagram)) (done_shows starved rows (row_moment rows s) place s (reading s.datagram))
+    by (step.Keep body current) is =
+        given (step.Keep body current) is (kept_gives starved rows (row_moment rows s) s (reading s.datagram) body current refl is) (kept_shows starved rows (row_moment rows s) s (reading s.datagram) body current)
+    by step.Tick is = tick_step rows (row rows s starved) starved past all is (sent_of step.Tick is) (notes_of step.Tick is)
+
+-- each journal
+journal_carries : (rows : List Row) → IsJournal rows → CarriesAll rows
+unfolding events observers
+journal_carries [] begun = record { each = tt; asking = tt; flights = tt }
+journal_carries (r ∷ before) (made {rows} {s} starved journal may) = row_step before s starved journal may (journal_carries before journal)
+
+-- each lookup answers the listing of the history at the row that formed it, and 2.03 is given exactly where a look names the tag
+pub answers_as_formed : (rows : List Row) → IsJournal rows → AnswersAsFormed rows
+answers_as_formed rows journal = record {
+  carried = λ before r peer octets m within among read listed.
+      of_all (Carried (record { row = r; before = before })) r.sent (peer, octets) among (row_within RowCarries rows before r (journal_carries rows journal).each within).carried m read listed;
+  valid = λ before r within fed. looks_are_validated rows before r journal within fed;
+}

@@ -1,0 +1,165 @@
+-- Rows of keeps: what they send and keep was formed by the look whose job they end.
+use Rattle.std.proofs.Common.{◌≡◌, ℕ, ◌≤◌, Bool, true, false, cond, List, [], ◌∷◌, length, Some, Result, Ok, refl, sym, ap, subst, ◌∙◌}
+use Rattle.std.specs.Prelude.{is_none}
+use Rattle.std.specs.List.{AllByRecursion}
+use Rattle.std.proofs.lemmas.Bool.{and_parts}
+use Rattle.rd_base.specs.declared.peers.Peer.{Peer}
+use Rattle.message_model.specs.declared.messages.Unread.{Unread}
+use Rattle.message_model.specs.Message.{Message}
+use Rattle.message_model.specs.Reading.{reading}
+use Rattle.message_model.specs.RequestKey.{key_in}
+use Rattle.history_model.specs.Listing.{listing, tag}
+use Rattle.journal_model.specs.declared.steps.Step.{Step}
+use Rattle.journal_model.specs.declared.steps.StepKind.{StepKind}
+use Rattle.journal_model.specs.declared.steps.StepKind.TheVariants as step
+use Rattle.journal_model.specs.declared.rows.Row.{Row}
+use Rattle.journal_model.specs.Journal.{entries}
+use Rattle.journal_model.specs.Requests.{refusal_by_request, query_of, only_looks, is_look_request}
+use Rattle.journal_model.specs.Looks.{keep_effects}
+use Rattle.journal_model.specs.Rows.{effects, row_moment, row}
+use Rattle.journal_model.specs.Machine.{keep_kind, Job, job_of, MayBegin, hears, goes, ticks, is_look_datagram, is_look_reading, IsJournal}
+use Rattle.journal_model.specs.Headline.{Placed, look_of, former_by, former_at, query_read, query_answered, Carries}
+use Rattle.journal_model.proofs.EntriesNoted.{entries_in}
+use Rattle.journal_model.proofs.StepNotes.{keep_effects-notes}
+use Rattle.headline_law.proofs.observers.Observing.{entries-none_noted}
+use Rattle.headline_law.proofs.observers.ObserversKnow.{looked_notes}
+use Rattle.headline_law.proofs.entries.JournalLaws.{Made, each_row}
+use Rattle.journal_model.proofs.Jobs.{KeepsOf, keeps_of}
+use Rattle.headline_law.proofs.sends.ReadAgain.{header_read}
+use Rattle.headline_law.proofs.sends.BodyAnswers.{Bears, IsBodyOf, tag-length, bears_carries}
+use Rattle.headline_law.proofs.sends.LookupSends.{AreBodiesOf, keep_bears}
+use Rattle.headline_law.proofs.notes.Asking.{look_fits, KeptAt}
+use Rattle.headline_law.proofs.sends.ValidLaw.{LooksAt, a_look_reads, looked_a_look}
+use Rattle.headline_law.proofs.flights.TickCarries.{Carried}
+use Rattle.headline_law.proofs.rows.RowCarries.{NoteAs, RowCarries}
+
+-- ---- a row of a keep
+
+-- two keeps of one body are equal in both parts
+same_keep : (body current others other : List ℕ) → step.Keep body current ≡ step.Keep others other → (body ≡ others) × (current ≡ other)
+same_keep body current others other e = (ap body_of e, ap tag_of e)
+  where
+    body_of : StepKind → List ℕ
+    body_of (step.Keep b t) = b
+    body_of _ = []
+
+    tag_of : StepKind → List ℕ
+    tag_of (step.Keep b t) = t
+    tag_of _ = []
+
+-- a request that is looked at only looks
+look_only : (m : Message) → is_look_request m ≡ true → only_looks m ≡ true
+unfolding is_look_request
+look_only m h = (and_parts (is_none (refusal_by_request m)) (only_looks m) h).1
+
+-- one message is read of a datagram
+ok_is : (m n : Message) → ◌≡◌ {A = Result Message Unread} (Ok m) (Ok n) → m ≡ n
+ok_is m n e = cc
+
+-- the look whose job a keep ends
+record KeepOf (rows : List Row) (worker : ℕ) (m : Message) (body current : List ℕ) : Type 0 where
+  look : Placed
+  found : look_of worker rows ≡ Some look
+  is_kept : KeptAt (entries (look.row ∷ look.before)) look.row.moment.0 (key_in m) body current
+  query_is : is_kept.query ≡ query_of m
+
+-- a row of a look notes nothing, and its datagram is that of a look
+record LookRow (before : List Row) (r : Row) : Type 0 where
+  silent : r.notes ≡ []
+  looks : is_look_reading (reading r.step.datagram) ≡ true
+
+-- so it is of each row of a look
+row_of_look : (before : List Row) (r : Row) → Made before r → r.step.kind ≡ step.Look → LookRow before r
+unfolding row effects
+row_of_look before r it is =
+    let kind : it.step.kind ≡ step.Look = sym (ap (λ (x : Row). x.step.kind) it.is) ∙ is in
+    subst (λ (x : Row). LookRow before x) (sym it.is) (record {
+      silent = ap (λ k. (effects k it.starved before (row_moment before it.step) it.step).notes) kind ∙ looked_notes it.starved before (row_moment before it.step) it.step (reading it.step.datagram);
+      looks = looked_a_look before it.step it.may kind;
+    })
+
+-- the job that a keep ends
+keep_job_of : (rows : List Row) (s : Step) (body current : List ℕ) → MayBegin rows s → s.kind ≡ step.Keep body current → job_of s.worker rows ≡ Some (record { kind = s.kind; peer = s.peer; datagram = s.datagram })
+keep_job_of rows s body current (hears none heard) kind = absurd (by (is_look_datagram s.datagram) (sym heard ∙ kind))
+  where
+    by : (b : Bool) → cond b step.Look step.Admit ≡ step.Keep body current → ⊥
+    by true e = let h : step.Look ≡ step.Keep body current = e in cc
+    by false e = let h : step.Admit ≡ step.Keep body current = e in cc
+keep_job_of rows s body current (goes holds) kind = holds
+keep_job_of rows s body current (ticks tick) kind = absurd (let h : step.Tick ≡ step.Keep body current = sym tick ∙ kind in cc)
+
+-- so it is of each keep
+keep_of : (rows : List Row) (s : Step) (m : Message) (body current : List ℕ) → IsJournal rows → MayBegin rows s → s.kind ≡ step.Keep body current → reading s.datagram ≡ Ok m → KeepOf rows s.worker m body current
+keep_of rows s m body current journal may kind read = record {
+  look = held.look;
+  found = held.found;
+  is_kept = record {
+    query = query_of m;
+    asks = record { request = m; fits = look_fits m only; key_is = refl; query_is = refl };
+    body_is = parts.0 ∙ ap (λ history. listing (query_of m) history held.look.row.moment.0) (sym untold);
+    tag_is = parts.1 ∙ ap (λ history. tag history held.look.row.moment.0) (sym untold);
+  };
+  query_is = refl;
+}
+  where
+    job : Job
+    job = record { kind = s.kind; peer = s.peer; datagram = s.datagram }
+
+    held : KeepsOf rows s.worker job
+    held = keeps_of s.worker rows job body current (keep_job_of rows s body current may kind) kind
+
+    its : LookRow held.look.before held.look.row
+    its = row_of_look held.look.before held.look.row (each_row rows held.look.before held.look.row journal held.within) held.is_one
+
+    same_read : reading held.look.row.step.datagram ≡ Ok m
+    same_read = ap reading (sym held.keeps.datagram) ∙ read
+
+    untold : entries (held.look.row ∷ held.look.before) ≡ entries held.look.before
+    untold = entries-none_noted held.look.before held.look.row (ap entries_in its.silent)
+
+    parts : (body ≡ listing (query_of m) (entries held.look.before) held.look.row.moment.0) × (current ≡ tag (entries held.look.before) held.look.row.moment.0)
+    parts = same_keep body current (listing (query_of m) (entries held.look.before) held.look.row.moment.0) (tag (entries held.look.before) held.look.row.moment.0)
+        (sym kind ∙ (held.keeps.kind ∙ ap (λ (x : Result Message Unread). keep_kind x held.look.before held.look.row.moment.0) same_read))
+
+    looks_at : LooksAt (reading held.look.row.step.datagram)
+    looks_at = a_look_reads (reading held.look.row.step.datagram) its.looks
+
+    only : only_looks m ≡ true
+    only = let same : looks_at.message ≡ m = ok_is looks_at.message m (sym looks_at.read_is ∙ same_read) in
+        subst (λ x. only_looks x ≡ true) same (look_only looks_at.message looks_at.looks)
+
+-- any row of a keep
+pub keep_row : (rows : List Row) (r : Row) (m : Message) (body current : List ℕ) → IsJournal rows → MayBegin rows r.step → r.step.kind ≡ step.Keep body current → reading r.step.datagram ≡ Ok m
+    → r.sent ≡ (keep_effects r.step m body current).sent → r.notes ≡ (keep_effects r.step m body current).notes → RowCarries rows r
+keep_row rows r m body current journal may kind read sent notes = record {
+  carried = subst (AllByRecursion (Carried here)) (sym sent) (each (keep_effects r.step m body current).sent (keep_bears r.step m body current small short));
+  noted = subst (AllByRecursion (NoteAs here)) (sym (notes ∙ keep_effects-notes r.step m body current)) (record { former = it.look; formed = ap (λ k. former_by k here) kind ∙ it.found; is_kept = it.is_kept }, tt);
+}
+  where
+    here : Placed
+    here = record { row = r; before = rows }
+
+    it : KeepOf rows r.step.worker m body current
+    it = keep_of rows r.step m body current journal may kind read
+
+    small : length m.token ≤ 8
+    small = (header_read r.step.datagram m read).token
+
+    short : length current ≡ 8
+    short = ap length it.is_kept.tag_is ∙ tag-length (entries (it.look.row ∷ it.look.before)) it.look.row.moment.0
+
+    one : (d : Peer × List ℕ) → IsBodyOf m.token body current d.1 → Carried here d
+    one d bears n e listed = record {
+      former = it.look;
+      formed = ap (λ k. former_at k d.0 n.mid here) kind ∙ it.found;
+      query = query_of m;
+      asked = ap (λ k. query_answered k (d.0, n.token) here) kind ∙ ap query_read read;
+      carries = subst (λ q. Carries n q (entries (it.look.row ∷ it.look.before)) it.look.row.moment.0) it.query_is
+          (bears_carries m.token it.is_kept.query (entries (it.look.row ∷ it.look.before)) it.look.row.moment.0 n
+          (subst (λ t. Bears m.token (listing it.is_kept.query (entries (it.look.row ∷ it.look.before)) it.look.row.moment.0) t n) it.is_kept.tag_is
+          (subst (λ b. Bears m.token b current n) it.is_kept.body_is (bears n e listed))));
+    }
+
+    each : (ds : List (Peer × List ℕ)) → AreBodiesOf m.token body current ds → AllByRecursion (Carried here) ds
+    each [] h = tt
+    each (d ∷ ds) h = (one d h.0, each ds h.1)

@@ -1,0 +1,128 @@
+-- Rows of lookups: what they send was formed as the headline says, also where it is read from a kept answer.
+use Rattle.std.proofs.Common.{◌≡◌, ℕ, ◌≤◌, Bool, true, false, cond, List, [], ◌∷◌, length, Option, Some, None, option_and_then, Ok, refl, sym, ap, subst, ◌∙◌}
+use Rattle.std.specs.Prelude.{is_some}
+use Rattle.std.specs.List.{list_any, AllByRecursion}
+use Rattle.std.proofs.lemmas.Option.{same_Some}
+use Rattle.rd_base.specs.declared.peers.Peer.{Peer}
+use Rattle.message_model.specs.Message.{Message}
+use Rattle.message_model.specs.Reading.{reading}
+use Rattle.message_model.specs.Request.{path_in}
+use Rattle.message_model.specs.RequestKey.{key_in}
+use Rattle.history_model.specs.Listing.{listing}
+use Rattle.event_model.specs.declared.notes.Note.{Note}
+use Rattle.event_model.specs.declared.notes.Note.TheVariants as note
+use Rattle.event_model.specs.Same.{RequestName, is_same_request}
+use Rattle.event_model.specs.Events.{Event, last_said}
+use Rattle.event_model.specs.KeptAnswers.{Answer, answer_kept, is_live_answer, kept_answer}
+use Rattle.event_model.proofs.SameLaws.{is_same_request-Decides}
+use Rattle.journal_model.specs.declared.rows.Row.{Row}
+use Rattle.journal_model.specs.Journal.{events, entries}
+use Rattle.journal_model.specs.Requests.{query_of, is_lookup}
+use Rattle.journal_model.specs.Lookups.{lookup_effects}
+use Rattle.journal_model.specs.Meantime.{is_heard}
+use Rattle.journal_model.specs.Headline.{Placed, former_by, former_of_kept, former_noted, query_read, Carries}
+use Rattle.journal_model.proofs.EntriesNoted.{entries_in}
+use Rattle.headline_law.proofs.entries.QuietSteps.{lookup_effects-entries_in}
+use Rattle.headline_law.proofs.observers.Observing.{entries-none_noted}
+use Rattle.headline_law.proofs.sends.ReadAgain.{header_read}
+use Rattle.headline_law.proofs.sends.BodyAnswers.{Bears, IsBodyOf, tag-length, bears_carries}
+use Rattle.headline_law.proofs.sends.LookupSends.{AreListings, AreBodiesOf, tells_earlier, LookupGives, now, kept, lookup_gives}
+use Rattle.journal_model.proofs.EventRows.{AllRows, row_of, row_within, said_by}
+use Rattle.headline_law.proofs.notes.Asking.{asks_once, lookup_fits, KeptAt, AreTold, lookup_told_so}
+use Rattle.headline_law.proofs.flights.TickCarries.{Carried}
+use Rattle.headline_law.proofs.rows.RowCarries.{KeptBy, NoteAs, RowCarries, heard_former, heard_query, heard_by, now_carried, told_noted}
+use Rattle.journal_model.proofs.Among.{all_among}
+
+-- ---- kept answers
+
+-- the note that keeps an answer under a name
+kept_note : (here : Placed) (name : RequestName) (answer : Answer) (n : Note) → NoteAs here n → answer_kept name n ≡ Some answer → KeptBy here name.1 answer.body answer.tag
+kept_note here name answer (note.Kept peer key body current) k said = by (is_same_request (peer, key) name) refl said
+  where
+    by : (b : Bool) → is_same_request (peer, key) name ≡ b → cond b (Some (record { body = body; tag = current })) None ≡ Some answer → KeptBy here name.1 answer.body answer.tag
+    by true same e =
+        subst (λ (a : Answer). KeptBy here name.1 a.body a.tag) (same_Some (record { body = body; tag = current }) answer e)
+        (subst (λ other. KeptBy here other body current) (ap (λ (x : RequestName). x.1) ((is_same_request-Decides (peer, key) name).0 same)) k)
+    by false other e = absurd (let no_one : None ≡ Some answer = e in cc)
+kept_note here name answer _ k said = absurd (let no_one : None ≡ Some answer = said in cc)
+
+-- a kept answer that lives was kept
+was_kept : (moment : ℕ) (name : RequestName) (past : List Event) (answer : Answer) → kept_answer moment name past ≡ Some answer → last_said (answer_kept name) past ≡ Some answer
+unfolding kept_answer
+was_kept moment name past answer e = by (last_said (answer_kept name) past) e
+  where
+    live : (b : Bool) (a : Answer) → cond b (Some a) None ≡ Some answer → Some a ≡ Some answer
+    live true a h = h
+    live false a h = absurd (let no_one : None ≡ Some answer = h in cc)
+
+    by : (o : Option Answer) → option_and_then (λ a. cond (is_live_answer moment name past) (Some a) None) o ≡ Some answer → o ≡ Some answer
+    by None h = absurd (let no_one : None ≡ Some answer = h in cc)
+    by (Some a) h = live (is_live_answer moment name past) a h
+
+-- a kept answer, with the row that formed it
+pub record KeptFrom (rows : List Row) (name : RequestName) (answer : Answer) : Type 0 where
+  pub former : Placed
+  pub formed : former_of_kept name rows ≡ Some former
+  pub is_kept : KeptAt (entries (former.row ∷ former.before)) former.row.moment.0 name.1 answer.body answer.tag
+
+-- so it is of each kept answer that lives
+pub kept_from : (rows : List Row) (moment : ℕ) (name : RequestName) (answer : Answer) → AllRows RowCarries rows → kept_answer moment name (events rows) ≡ Some answer → KeptFrom rows name answer
+kept_from rows moment name answer all e =
+    let found = said_by (answer_kept name) (events rows) answer (was_kept moment name (events rows) answer e) in
+    let it = row_of (λ n. is_some (answer_kept name n)) rows found.0 found.1 in
+    let noted = all_among (NoteAs it.placed) found.0.note it.placed.row.notes (row_within RowCarries rows it.placed.before it.placed.row all it.within).noted it.note in
+    let by = kept_note it.placed name answer found.0.note noted found.2 in
+    record {
+      former = by.former;
+      formed = ap (λ (o : Option Placed). option_and_then (λ (p : Placed). former_by p.row.step.kind p) o) it.last ∙ by.formed;
+      is_kept = by.is_kept;
+    }
+
+-- ---- a row of a lookup
+
+-- one that reads a kept answer
+used_carried : (rows : List Row) (r : Row) (m : Message) (answer : Answer) → is_heard r.step.kind ≡ true → reading r.step.datagram ≡ Ok m → is_lookup (path_in m) ≡ true
+    → r.notes ≡ note.Used r.step.peer (key_in m) ∷ [] → KeptFrom rows (r.step.peer, key_in m) answer → AreBodiesOf m.token answer.body answer.tag r.sent → AllByRecursion (Carried (record { row = r; before = rows })) r.sent
+used_carried rows r m answer heard read lookup notes from all = each r.sent all
+  where
+    same_query : from.is_kept.query ≡ query_of m
+    same_query = asks_once (key_in m) from.is_kept.query m from.is_kept.asks (lookup_fits (path_in m) lookup) refl
+
+    one : (d : Peer × List ℕ) → IsBodyOf m.token answer.body answer.tag d.1 → Carried (record { row = r; before = rows }) d
+    one d body n e listed = record {
+      former = from.former;
+      formed = heard_former r.step.kind d.0 n.mid (record { row = r; before = rows }) heard
+          ∙ (ap (λ ns. former_noted d.0 n.mid ns (record { row = r; before = rows })) notes ∙ from.formed);
+      query = query_of m;
+      asked = heard_query r.step.kind (d.0, n.token) (record { row = r; before = rows }) heard ∙ ap query_read read;
+      carries = subst (λ q. Carries n q (entries (from.former.row ∷ from.former.before)) from.former.row.moment.0) same_query
+          (bears_carries m.token from.is_kept.query (entries (from.former.row ∷ from.former.before)) from.former.row.moment.0 n
+          (subst (λ t. Bears m.token (listing from.is_kept.query (entries (from.former.row ∷ from.former.before)) from.former.row.moment.0) t n) from.is_kept.tag_is
+          (subst (λ b. Bears m.token b answer.tag n) from.is_kept.body_is (body n e listed))));
+    }
+
+    each : (ds : List (Peer × List ℕ)) → AreBodiesOf m.token answer.body answer.tag ds → AllByRecursion (Carried (record { row = r; before = rows })) ds
+    each [] h = tt
+    each (d ∷ ds) h = (one d h.0, each ds h.1)
+
+-- any row of a lookup
+pub lookup_row : (rows : List Row) (r : Row) (m : Message) → AllRows RowCarries rows → is_heard r.step.kind ≡ true → reading r.step.datagram ≡ Ok m → is_lookup (path_in m) ≡ true
+    → r.sent ≡ (lookup_effects rows r.moment.0 r.step m).sent → r.notes ≡ (lookup_effects rows r.moment.0 r.step m).notes → RowCarries rows r
+lookup_row rows r m all heard read lookup sent notes = record {
+  carried = by (lookup_gives rows r.moment.0 r.step m small);
+  noted = told_noted rows r (heard_by r.step.kind (record { row = r; before = rows }) heard) untold r.notes (subst (AreTold rows r.moment.0) (sym notes) (lookup_told_so rows r.moment.0 r.step m lookup small));
+}
+  where
+    small : length m.token ≤ 8
+    small = (header_read r.step.datagram m read).token
+
+    untold : entries (r ∷ rows) ≡ entries rows
+    untold = entries-none_noted rows r (ap entries_in notes ∙ lookup_effects-entries_in rows r.moment.0 r.step m)
+
+    by : LookupGives rows r.moment.0 r.step m (lookup_effects rows r.moment.0 r.step m) → AllByRecursion (Carried (record { row = r; before = rows })) r.sent
+    by (now none listed) = now_carried rows r m heard read untold (ap (list_any tells_earlier) notes ∙ none) (subst (AreListings m (entries rows) r.moment.0) (sym sent) listed)
+    by (kept answer found used bodies) =
+        let from = kept_from rows r.moment.0 (r.step.peer, key_in m) answer all found in
+        used_carried rows r m answer heard read lookup (notes ∙ used) from
+        (subst (AreBodiesOf m.token answer.body answer.tag) (sym sent)
+        (bodies (ap length from.is_kept.tag_is ∙ tag-length (entries (from.former.row ∷ from.former.before)) from.former.row.moment.0)))

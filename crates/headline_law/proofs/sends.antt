@@ -1,0 +1,10 @@
+pub mod ReadAgain
+pub mod BodyAnswers
+pub mod PlainSteps
+pub mod PlainCommits
+pub mod LookupSends
+pub mod ValidSends
+pub mod TickSends
+pub mod RowSends
+pub mod StepGives
+pub mod ValidLaw

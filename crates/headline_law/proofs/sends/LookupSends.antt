@@ -1,0 +1,123 @@
+-- What looks and lookups send: blocks of the listing now, or of the kept answer.
+use Rattle.std.proofs.Common.{◌≡◌, ℕ, ◌≤◌, ◌==◌, Bool, true, false, cond, List, [], ◌∷◌, length, Option, Some, None, refl, ap, ◌∙◌}
+use Rattle.std.specs.List.{list_any, AllByRecursion}
+use Rattle.std.proofs.lemmas.List.Folds.{list_any-append}
+use Rattle.rd_base.specs.declared.peers.Peer.{Peer}
+use Rattle.message_model.specs.Message.{Message, longest_token}
+use Rattle.message_model.specs.Request.{path_in, observe_in}
+use Rattle.message_model.specs.RequestKey.{key_in}
+use Rattle.message_model.specs.Blocks.{block_of}
+use Rattle.message_model.specs.Spelling.{header_spelling, spelling}
+use Rattle.record_model.specs.Discovery.{discovery}
+use Rattle.history_model.specs.declared.entries.Entry.{Entry}
+use Rattle.history_model.specs.Listing.{listing, tag}
+use Rattle.event_model.specs.declared.notes.Note.{Note}
+use Rattle.event_model.specs.declared.notes.Note.TheVariants as note
+use Rattle.event_model.specs.KeptAnswers.{Answer, kept_answer}
+use Rattle.event_model.specs.Observers.{observers, is_observer, has_room_for, observe_value}
+use Rattle.journal_model.specs.declared.steps.Step.{Step}
+use Rattle.journal_model.specs.declared.rows.Row.{Row}
+use Rattle.journal_model.specs.Journal.{events, entries}
+use Rattle.journal_model.specs.Sending.{Effects, answer_kind, answer_mid, answering}
+use Rattle.journal_model.specs.Bodies.{is_long}
+use Rattle.journal_model.specs.Requests.{query_of, asked_block, number_of, szx_of, is_discovery, is_later_block, register, deregister}
+use Rattle.journal_model.specs.Looks.{names_tag, unless_held, unless_valid, looked_at, look_effects, keep_effects}
+use Rattle.journal_model.specs.Lookups.{listing_now, block_now, block_of_kept, later_block, removal, without, keeping, observed_if, observed, unobserved, observed_by, by_observe, by_block, lookup_effects}
+use Rattle.headline_law.proofs.sends.BodyAnswers.{IsBodyOf, other_code, none_of_any, tag-length, part_bears, body_bears, body_untagged}
+use Rattle.journal_model.proofs.StepNotes.{look_effects-notes}
+
+-- whatever listing is sent is of this body under this tag, to this token
+abbrev pub AreBodiesOf : List ℕ → List ℕ → List ℕ → List (Peer × List ℕ) → Type 0
+AreBodiesOf token body tag sent = AllByRecursion (λ (d : Peer × List ℕ). IsBodyOf token body tag d.1) sent
+
+-- the listing of a request, from a history at a moment
+abbrev pub AreListings : Message → List Entry → ℕ → List (Peer × List ℕ) → Type 0
+AreListings m history moment sent = AreBodiesOf m.token (listing (query_of m) history moment) (tag history moment) sent
+
+-- a look
+pub look_lists : (history : List Entry) (moment : ℕ) (s : Step) (m : Message) → length m.token ≤ longest_token → AreListings m history moment (look_effects history moment s m).sent
+unfolding look_effects answering spelling header_spelling
+look_lists history moment s m small = by (is_discovery (path_in m))
+  where
+    held : (b : Bool) → AreListings m history moment (unless_held b s m (tag history moment) (listing (query_of m) history moment)).sent
+    held true = tt
+    held false = (body_bears (answer_kind m.kind) (answer_mid s m m.kind) m.token (tag history moment) None (asked_block m) (listing (query_of m) history moment) small (tag-length history moment), tt)
+
+    valid : (b : Bool) → AreListings m history moment (unless_valid b s m (tag history moment) (listing (query_of m) history moment)).sent
+    valid true = (none_of_any m.token (listing (query_of m) history moment) (tag history moment) _ (other_code _ refl), tt)
+    valid false = held (is_long (asked_block m) (listing (query_of m) history moment))
+
+    by : (b : Bool) → AreListings m history moment (looked_at b history moment s m).sent
+    by true = (none_of_any m.token (listing (query_of m) history moment) (tag history moment) _ (body_untagged (answer_kind m.kind) (answer_mid s m m.kind) m.token None (asked_block m) (discovery (query_of m)) small), tt)
+    by false = valid (names_tag (tag history moment) m)
+
+-- a keep
+pub keep_bears : (s : Step) (m : Message) (body tag : List ℕ) → length m.token ≤ longest_token → length tag ≡ 8 → AreBodiesOf m.token body tag (keep_effects s m body tag).sent
+unfolding keep_effects answering
+keep_bears s m body tag small short = (body_bears (answer_kind m.kind) (answer_mid s m m.kind) m.token tag None (asked_block m) body small short, tt)
+
+-- the note tells of a body that was formed earlier
+abbrev pub tells_earlier : Note → Bool
+tells_earlier (note.Used peer key) = true
+tells_earlier (note.Again peer mid) = true
+tells_earlier _ = false
+
+-- what a lookup sends: of the listing now, or of the kept answer, which it then uses
+pub data LookupGives (rows : List Row) (moment : ℕ) (s : Step) (m : Message) (e : Effects) : Type 0 where
+  now : list_any tells_earlier e.notes ≡ false → AreListings m (entries rows) moment e.sent → LookupGives rows moment s m e
+  kept : (answer : Answer) → kept_answer moment (s.peer, key_in m) (events rows) ≡ Some answer → e.notes ≡ note.Used s.peer (key_in m) ∷ []
+      → (length answer.tag ≡ 8 → AreBodiesOf m.token answer.body answer.tag e.sent) → LookupGives rows moment s m e
+
+-- so it is of each lookup that the journal takes part in
+pub lookup_gives : (rows : List Row) (moment : ℕ) (s : Step) (m : Message) → length m.token ≤ longest_token → LookupGives rows moment s m (lookup_effects rows moment s m)
+unfolding lookup_effects later_block observed unobserved answering
+lookup_gives rows moment s m small = by (is_later_block m)
+  where
+    now_block : (part : Option (List ℕ × Bool)) → block_of (listing (query_of m) (entries rows) moment) (number_of (asked_block m)) (szx_of (asked_block m)) ≡ part
+        → LookupGives rows moment s m (block_now s m (listing_now rows moment m) part)
+    now_block None cut = now refl
+        (part_bears (answer_kind m.kind) (answer_mid s m m.kind) m.token (tag (entries rows) moment) None (asked_block m) (listing (query_of m) (entries rows) moment) _ _ None small (tag-length (entries rows) moment) cut, tt)
+    now_block (Some part) cut = now refl
+        (part_bears (answer_kind m.kind) (answer_mid s m m.kind) m.token (tag (entries rows) moment) None (asked_block m) (listing (query_of m) (entries rows) moment) _ _ (Some part) small (tag-length (entries rows) moment) cut, tt)
+
+    later : (found : Option Answer) → kept_answer moment (s.peer, key_in m) (events rows) ≡ found → LookupGives rows moment s m (block_of_kept s m (listing_now rows moment m) found)
+    later (Some answer) e = kept answer e refl (λ short. (body_bears (answer_kind m.kind) (answer_mid s m m.kind) m.token answer.tag None (asked_block m) answer.body small short, tt))
+    later None e = now_block (block_of (listing (query_of m) (entries rows) moment) (number_of (asked_block m)) (szx_of (asked_block m))) refl
+
+    removed : (b : Bool) (peer : Peer) (token : List ℕ) → list_any tells_earlier (cond b (note.Unwatched peer token ∷ []) []) ≡ false
+    removed true peer token = refl
+    removed false peer token = refl
+
+    keeps : (b : Bool) (a : Answer) → list_any tells_earlier (cond b (note.Kept s.peer (key_in m) a.body a.tag ∷ []) []) ≡ false
+    keeps true a = refl
+    keeps false a = refl
+
+    ends : list_any tells_earlier (removal (s.peer, m.token) (observers (events rows))) ≡ false
+    ends = removed (is_observer (s.peer, m.token) (observers (events rows))) s.peer m.token
+
+    keeping_now : list_any tells_earlier (keeping s m (listing_now rows moment m)) ≡ false
+    keeping_now = keeps (is_long (asked_block m) (listing_now rows moment m).body) (listing_now rows moment m)
+
+    added : (b : Bool) → LookupGives rows moment s m (observed_if b rows s m (listing_now rows moment m))
+    added true = now
+        (list_any-append tells_earlier (removal (s.peer, m.token) (observers (events rows))) _ ∙ rw (ends, keeping_now) refl)
+        (body_bears (answer_kind m.kind) (answer_mid s m m.kind) m.token (tag (entries rows) moment) (Some (observe_value (events rows))) (asked_block m) (listing (query_of m) (entries rows) moment) small (tag-length (entries rows) moment), tt)
+    added false = now
+        (list_any-append tells_earlier (removal (s.peer, m.token) (observers (events rows))) _ ∙ rw (ends, keeping_now) refl)
+        (body_bears (answer_kind m.kind) (answer_mid s m m.kind) m.token (tag (entries rows) moment) None (asked_block m) (listing (query_of m) (entries rows) moment) small (tag-length (entries rows) moment), tt)
+
+    only_looked : LookupGives rows moment s m (look_effects (entries rows) moment s m)
+    only_looked = now (ap (list_any tells_earlier) (look_effects-notes (entries rows) moment s m)) (look_lists (entries rows) moment s m small)
+
+    valued : (b c : Bool) → LookupGives rows moment s m (observed_by b c rows moment s m)
+    valued true c = added (has_room_for (query_of m) (without (s.peer, m.token) (observers (events rows))))
+    valued false true = added false
+    valued false false = only_looked
+
+    observe : (o : Option ℕ) → LookupGives rows moment s m (by_observe o rows moment s m)
+    observe None = only_looked
+    observe (Some value) = valued (value == register) (value == deregister)
+
+    by : (b : Bool) → LookupGives rows moment s m (by_block b rows moment s m)
+    by true = later (kept_answer moment (s.peer, key_in m) (events rows)) refl
+    by false = observe (observe_in m)

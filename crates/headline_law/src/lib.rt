@@ -1,0 +1,2 @@
+//! The laws of the headline: what holds of every journal of the machine. No function.
+#![tactic(auto)]

@@ -1,0 +1,4 @@
+mod LeaseExamples
+mod ListingExamples
+mod LimitExamples
+mod TextExamples

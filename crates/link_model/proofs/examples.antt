@@ -1,0 +1,2 @@
+mod DocumentExamples
+mod LongExamples

@@ -1,0 +1,67 @@
+-- What a link's parameters say: values without quotes, anchors, attributes, and links as a device submitted them (RFC 6690 sections 2 and 3).
+use Rattle.std.specs.Prelude.{ℕ, Bool, true, false, ◌||◌, ◌==◌, List, [], ◌∷◌, ◌++◌, map, flat_map, filter, find, not, codes, Option, Some, None, option_map, bytes_eq, if◌then◌else◌}
+use Rattle.rd_base.specs.declared.attributes.Pair.{Pair}
+use Rattle.rd_base.specs.declared.submitted.SubmittedLink.{SubmittedLink}
+use Rattle.link_model.specs.Characters.{quote_mark, backslash}
+use Rattle.link_model.specs.Documents.{Parameter, Link, parameters_text}
+use Rattle.link_model.specs.DocumentReading.{document}
+
+-- the text that an octet goes before, but for a backslash that escapes
+abbrev pub kept_before : ℕ → List ℕ → List ℕ
+kept_before c rest = if c == backslash then rest else c ∷ rest
+
+-- the characters up to the closing quote, each escape replaced by the character that it escapes; the flag tells that a backslash stands before
+abbrev pub content_up_to_quote : Bool → List ℕ → List ℕ
+content_up_to_quote escaped [] = []
+content_up_to_quote true (c ∷ cs) = c ∷ content_up_to_quote false cs
+content_up_to_quote false (c ∷ cs) = if c == quote_mark then [] else kept_before c (content_up_to_quote (c == backslash) cs)
+
+-- what a value says: a token says itself, and a quoted string its content without escapes
+unfoldable pub unquoted : List ℕ → List ℕ
+unquoted [] = []
+unquoted (c ∷ cs) = if c == quote_mark then content_up_to_quote false cs else c ∷ cs
+
+-- a character in a quoted string, with a backslash before a quote and a backslash
+abbrev pub escaped_character : ℕ → List ℕ
+escaped_character c = if c == quote_mark || c == backslash then backslash ∷ c ∷ [] else c ∷ []
+
+-- the text in quotes (RFC 6690 section 2, quoted-string)
+unfoldable pub quoted : List ℕ → List ℕ
+quoted text = quote_mark ∷ (flat_map escaped_character text ++ quote_mark ∷ [])
+
+-- the value of a parameter, which is empty where it has none
+abbrev pub value_of : Parameter → List ℕ
+value_of p = unquoted_value p.value
+  where
+    unquoted_value : Option (List ℕ) → List ℕ
+    unquoted_value None = []
+    unquoted_value (Some value) = unquoted value
+
+-- the parameter is named `anchor`
+abbrev pub is_anchor : Parameter → Bool
+is_anchor p = bytes_eq p.name (codes "anchor")
+
+-- a link's anchor: the value of its first parameter `anchor`; later ones do not count (RFC 6690 section 3.2)
+abbrev pub anchor : Link → Option (List ℕ)
+anchor l = option_map value_of (find is_anchor l.parameters)
+
+-- a link's attributes: its parameters but for anchors, in order
+abbrev pub attributes : Link → List Parameter
+attributes l = filter (λ p. not (is_anchor p)) l.parameters
+
+-- an attribute's name with its value
+abbrev pub pair_of : Parameter → Pair
+pair_of p = record { name = p.name; value = value_of p }
+
+-- a link as a device submitted it
+unfoldable pub submitted_link : Link → SubmittedLink
+submitted_link l = record {
+  target_ref = l.target;
+  anchor_ref = anchor l;
+  raw = parameters_text (attributes l);
+  pairs = map pair_of (attributes l);
+}
+
+-- the links of a body as a device submitted them, and None where the body is no document
+unfoldable pub submitted_links : List ℕ → Option (List SubmittedLink)
+submitted_links body = option_map (map submitted_link) (document body)

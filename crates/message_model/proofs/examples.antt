@@ -1,0 +1,3 @@
+pub mod BlockExamples
+pub mod ReadingExamples
+pub mod RequestExamples

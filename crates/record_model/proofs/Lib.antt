@@ -1,0 +1,5 @@
+pub mod BodyLaws
+pub mod MatchingLaws
+pub mod RecordLiterals
+pub mod Weights
+mod examples

@@ -1,0 +1,5 @@
+mod BodyExamples
+mod BodyFaultExamples
+mod ParameterExamples
+mod RecordExamples
+mod WeightExamples

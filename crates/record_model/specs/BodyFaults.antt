@@ -1,0 +1,73 @@
+-- The first fault of a registration's body, with its place (RFC 6690 section 2, RFC 3986 section 4.1, RFC 9176 appendix C).
+use Rattle.std.specs.Prelude.{ℕ, ◌+◌, Bool, true, false, not, List, [], ◌∷◌, ◌++◌, length, map, find, Option, Some, None, option_map, if◌then◌else◌}
+use Rattle.link_model.specs.Characters.{quote_mark}
+use Rattle.reference_model.specs.References.{begins_with}
+use Rattle.link_model.specs.Documents.{Parameter, Link, parameter_text, link_text}
+use Rattle.link_model.specs.DocumentReading.{document, good_prefix}
+use Rattle.link_model.specs.Quoting.{value_of, is_anchor, submitted_link}
+use Rattle.record_model.specs.Bodies.{is_reference}
+use Rattle.record_model.specs.Refusals.{first_unlimited}
+
+-- what is wrong with a body: it is no document from this octet on; the reference that begins at this octet is none;
+-- or this link, counted from 0, is not in the Limited Link Format
+pub data BodyFault : Type 0 where
+  no_document : ℕ → BodyFault
+  no_reference : ℕ → BodyFault
+  not_limited : ℕ → BodyFault
+
+-- a text with its place
+abbrev pub Placed : Type 0
+Placed = ℕ × List ℕ
+
+-- the places behind so many octets more
+abbrev pub placed_behind : ℕ → List Placed → List Placed
+placed_behind n references = map (λ r. (n + r.0, r.1)) references
+
+-- where a value says something: behind its quote, where it has one
+abbrev pub quote_length : Option (List ℕ) → ℕ
+quote_length None = 0
+quote_length (Some value) = if begins_with quote_mark value then 1 else 0
+
+-- the anchor among parameters, with its place: behind the semicolon, the name, the equals sign, and the quote
+abbrev pub anchor_place : List Parameter → List Placed
+anchor_place [] = []
+anchor_place (p ∷ parameters) =
+    if is_anchor p then (length p.name + 2 + quote_length p.value, value_of p) ∷ []
+    else placed_behind (length (parameter_text p)) (anchor_place parameters)
+
+-- the references of a link with their places: its target, and its anchor where it has one
+abbrev pub link_references : Link → List Placed
+link_references l = (1, l.target) ∷ placed_behind (length l.target + 2) (anchor_place l.parameters)
+
+-- the references of links with their places in the document, a comma between each two links
+unfoldable pub references_of : List Link → List Placed
+references_of [] = []
+references_of (l ∷ links) = link_references l ++ placed_behind (length (link_text l) + 1) (references_of links)
+
+-- the first of them that is no URI-reference
+unfoldable pub first_no_reference : List Link → Option ℕ
+first_no_reference links = option_map (λ r. r.0) (find (λ r. not (is_reference r.1)) (references_of links))
+
+-- the first fault of links: of their references, and else of the Limited Link Format
+abbrev pub reference_or_limited : Option ℕ → List Link → Option BodyFault
+reference_or_limited (Some place) links = Some (no_reference place)
+reference_or_limited None links = option_map not_limited (first_unlimited (map submitted_link links))
+
+-- the fault of what was read of a body: that it is no document comes before all
+abbrev pub document_or_links : Option (List Link) → List ℕ → Option BodyFault
+document_or_links None body = Some (no_document (good_prefix body))
+document_or_links (Some links) body = reference_or_limited (first_no_reference links) links
+
+-- the fault of a body
+unfoldable pub body_fault : List ℕ → Option BodyFault
+body_fault body = document_or_links (document body) body
+
+-- the fault is one of the document or of a reference; or it is one of the Limited Link Format
+abbrev pub is_of_links : Option BodyFault → Bool
+is_of_links (Some (no_document place)) = true
+is_of_links (Some (no_reference place)) = true
+is_of_links _ = false
+
+abbrev pub is_of_limits : Option BodyFault → Bool
+is_of_limits (Some (not_limited place)) = true
+is_of_limits _ = false

@@ -1,0 +1,28 @@
+-- The first fault of query options, with its place.
+use Rattle.std.specs.Prelude.{ℕ, Bool, List, [], ◌∷◌, length, Option, Some, None, option_map, if◌then◌else◌}
+use Rattle.record_model.specs.declared.readings.Why.{Why}
+
+-- a fault: its place, counted from 0, and why
+abbrev pub Fault : Type 0
+Fault = ℕ × Why
+
+-- the first, where there is one, else the second
+abbrev pub or_else : {A : Type 0} → Option A → Option A → Option A
+or_else None other = other
+or_else (Some x) other = Some x
+
+-- the first reason of a list whose test holds
+abbrev pub first_reason : List (Bool × Why) → Option Why
+first_reason [] = None
+first_reason (row ∷ rows) = if row.0 then Some row.1 else first_reason rows
+
+-- the fault of options that stand behind others: the first one that is refused, where each is judged by those before it,
+-- latest first; and else what is found behind the last, which has their number as its place
+abbrev pub first_fault_behind : (List (List ℕ) → List ℕ → Option Why) → (List (List ℕ) → Option Why) → List (List ℕ) → List (List ℕ) → Option Fault
+first_fault_behind judge at_end others [] = option_map (λ why. (length others, why)) (at_end others)
+first_fault_behind judge at_end others (query ∷ queries) =
+    or_else (option_map (λ why. (length others, why)) (judge others query)) (first_fault_behind judge at_end (query ∷ others) queries)
+
+-- the first fault of options
+abbrev pub first_fault : (List (List ℕ) → List ℕ → Option Why) → (List (List ℕ) → Option Why) → List (List ℕ) → Option Fault
+first_fault judge at_end queries = first_fault_behind judge at_end [] queries

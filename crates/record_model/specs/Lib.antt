@@ -1,0 +1,12 @@
+pub mod Bodies
+pub mod Options
+pub mod Faults
+pub mod Parameters
+pub mod Criteria
+pub mod Bases
+pub mod Matching
+pub mod ListingLines
+pub mod Records
+pub mod Refusals
+pub mod Discovery
+pub mod BodyFaults

@@ -1,0 +1,74 @@
+-- The lines of a listing: what one record gives, how a line is written, and what a record weighs (RFC 9176 sections 6.3 and 6.4).
+use Rattle.std.specs.Prelude.{ℕ, ◌+◌, ◌*◌, Bool, ◌||◌, List, [], ◌∷◌, ◌++◌, length, take, drop, map, filter, flat_map, sum_by, codes, Option, Some, None, unwrap_or, if◌then◌else◌}
+use Rattle.std.specs.List.{list_any, list_all, join_with_byte}
+use Rattle.rd_base.specs.declared.attributes.Pair.{Pair}
+use Rattle.rd_base.specs.declared.queries.Kind.{Kind}
+use Rattle.rd_base.specs.declared.queries.Kind.TheVariants as kind
+use Rattle.rd_base.specs.declared.queries.Query.{Query}
+use Rattle.rd_base.specs.declared.records.Item.{Item}
+use Rattle.rd_base.specs.declared.records.Record.{Record}
+use Rattle.link_model.specs.Characters.{comma, is_empty}
+use Rattle.link_model.specs.Quoting.{quoted}
+use Rattle.record_model.specs.Matching.{link_matches, endpoint_matches, endpoint_type, location, sector_pairs}
+
+-- each criterion matches the link by itself or its endpoint by itself (RFC 9176 section 6.2)
+unfoldable pub link_listed : Query → Record → Item → Bool
+link_listed query r item = list_all (λ criterion. link_matches criterion item || endpoint_matches criterion r) query.criteria
+
+-- each criterion matches the endpoint by itself or any one of its links by itself
+unfoldable pub endpoint_listed : Query → Record → Bool
+endpoint_listed query r = list_all (λ criterion. endpoint_matches criterion r || list_any (link_matches criterion) r.items) query.criteria
+
+-- a target between its brackets
+abbrev pub bracketed : List ℕ → List ℕ
+bracketed target = codes "<" ++ (target ++ codes ">")
+
+-- the anchor of a link, where it has one
+abbrev pub anchor_text : Option (List ℕ) → List ℕ
+anchor_text None = []
+anchor_text (Some anchor) = codes ";anchor=" ++ quoted anchor
+
+-- the line of a link: its target, its attributes as they were submitted, and its anchor
+unfoldable pub link_line : Item → List ℕ
+link_line item = bracketed item.target ++ (item.raw ++ anchor_text item.anchor)
+
+-- an attribute with its value in quotes
+abbrev pub quoted_attribute : Pair → List ℕ
+quoted_attribute pair = codes ";" ++ (pair.name ++ (codes "=" ++ quoted pair.value))
+
+-- an extra attribute: its name alone where its value is empty
+abbrev pub extra_attribute : Pair → List ℕ
+extra_attribute pair = if is_empty pair.value then codes ";" ++ pair.name else quoted_attribute pair
+
+-- the attributes of an endpoint that each registration has
+abbrev pub own_pairs : Record → List Pair
+own_pairs r =
+    record { name = codes "base"; value = r.base } ∷ record { name = codes "ep"; value = r.name.ep }
+    ∷ (sector_pairs r.name.sector ++ (record { name = codes "rt"; value = endpoint_type } ∷ []))
+
+-- the line of an endpoint: its location, base, name, sector where it has one, type, and its extra attributes
+unfoldable pub endpoint_line : Record → List ℕ
+endpoint_line r = bracketed (location r.number) ++ (flat_map quoted_attribute (own_pairs r) ++ flat_map extra_attribute r.attrs)
+
+-- the lines that a record gives to a query of each kind
+abbrev pub part_of_kind : Kind → Query → Record → List (List ℕ)
+part_of_kind kind.Resource query r = map link_line (filter (link_listed query r) r.items)
+part_of_kind kind.Endpoint query r = if endpoint_listed query r then endpoint_line r ∷ [] else []
+part_of_kind kind.Discovery query r = []
+
+-- the lines that a record gives to a query
+unfoldable pub part : Query → Record → List (List ℕ)
+part query r = part_of_kind query.kind query r
+
+-- what a record weighs: its endpoint line and each of its link lines, each with one octet more for a comma
+unfoldable pub weight : Record → ℕ
+weight r = length (endpoint_line r) + 1 + sum_by (λ item. length (link_line item) + 1) r.items
+
+-- the lines of one page, of at most so many, counted from 0; without a count all of them
+abbrev pub page_of : Option ℕ → Option ℕ → List (List ℕ) → List (List ℕ)
+page_of page None lines = lines
+page_of page (Some count) lines = take count (drop (unwrap_or page 0 * count) lines)
+
+-- the listing that a query shows of its lines: cut by page and count, and joined by commas
+unfoldable pub shown : Query → List (List ℕ) → List ℕ
+shown query lines = join_with_byte comma (page_of query.page query.count lines)

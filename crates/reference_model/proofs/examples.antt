@@ -1,0 +1,2 @@
+mod ReferenceExamples
+mod ResolutionExamples

@@ -1,0 +1,218 @@
+-- References: the five components of a URI-reference, and which characters may stand in each (RFC 3986 sections 3 and 4).
+use Rattle.std.specs.Prelude.{◌≡◌, ℕ, zero, suc, Bool, true, false, not, ◌&&◌, ◌||◌, ◌==◌, List, [], ◌∷◌, ◌++◌, Option, Some, None, is_some, unwrap_or, if◌then◌else◌}
+use Rattle.std.specs.List.{list_any, list_all}
+use Rattle.std.specs.Char.{is_ascii_alphabetic, is_ascii_digit, is_ascii_hexdigit}
+use Rattle.link_model.specs.Characters.{number_sign, percent_sign, slash, colon, question_mark, at_sign, left_bracket, right_bracket, is_empty, is_run_of, is_scheme_character, is_name_character, is_userinfo_character, is_literal_character, is_path_character, is_query_character}
+
+-- the five components of a reference (RFC 3986 section 3)
+pub record Components : Type 0 where
+  pub scheme : Option (List ℕ)
+  pub authority : Option (List ℕ)
+  pub path : List ℕ
+  pub query : Option (List ℕ)
+  pub fragment : Option (List ℕ)
+
+-- the text before the first octet of that kind, or all of it
+unfoldable pub before : ℕ → List ℕ → List ℕ
+before mark [] = []
+before mark (c ∷ cs) = if c == mark then [] else c ∷ before mark cs
+
+-- the text behind the first octet of that kind, where there is one
+unfoldable pub behind : ℕ → List ℕ → Option (List ℕ)
+behind mark [] = None
+behind mark (c ∷ cs) = if c == mark then Some cs else behind mark cs
+
+-- the octet stands in the text
+abbrev pub has_octet : ℕ → List ℕ → Bool
+has_octet mark text = list_any (λ c. c == mark) text
+
+-- the text begins with the octet
+abbrev pub begins_with : ℕ → List ℕ → Bool
+begins_with mark [] = false
+begins_with mark (c ∷ cs) = c == mark
+
+-- ---- taking a reference apart (RFC 3986 appendix B)
+
+-- the text without its fragment, and that without its query
+abbrev pub without_fragment : List ℕ → List ℕ
+without_fragment text = before number_sign text
+
+abbrev pub without_query : List ℕ → List ℕ
+without_query text = before question_mark (without_fragment text)
+
+-- a colon stands before the first slash
+abbrev pub has_colon_in_first_segment : List ℕ → Bool
+has_colon_in_first_segment text = has_octet colon (before slash text)
+
+-- a scheme is what stands before a colon in the first segment
+abbrev pub scheme_in : List ℕ → Option (List ℕ)
+scheme_in text = if has_colon_in_first_segment text then Some (before colon text) else None
+
+-- what follows the scheme and its colon
+abbrev pub behind_scheme : List ℕ → List ℕ
+behind_scheme text = if has_colon_in_first_segment text then unwrap_or (behind colon text) [] else text
+
+-- what follows two slashes at the beginning, where they stand there
+abbrev pub behind_two_slashes : List ℕ → Option (List ℕ)
+behind_two_slashes [] = None
+behind_two_slashes (c ∷ []) = None
+behind_two_slashes (c ∷ d ∷ cs) = if c == slash && d == slash then Some cs else None
+
+-- an authority is what stands between two slashes at the beginning and the next slash
+abbrev pub authority_in : List ℕ → Option (List ℕ)
+authority_in text = up_to_slash (behind_two_slashes text)
+  where
+    up_to_slash : Option (List ℕ) → Option (List ℕ)
+    up_to_slash None = None
+    up_to_slash (Some rest) = Some (before slash rest)
+
+-- the text from the first octet of that kind on, or nothing
+unfoldable pub from_first : ℕ → List ℕ → List ℕ
+from_first mark [] = []
+from_first mark (c ∷ cs) = if c == mark then c ∷ cs else from_first mark cs
+
+-- a path is what follows the authority, or all of the text where there is none
+abbrev pub path_in : List ℕ → List ℕ
+path_in text = behind_authority (behind_two_slashes text)
+  where
+    behind_authority : Option (List ℕ) → List ℕ
+    behind_authority None = text
+    behind_authority (Some rest) = from_first slash rest
+
+-- the components of a text
+unfoldable pub components : List ℕ → Components
+components text = record {
+  scheme = scheme_in (without_query text);
+  authority = authority_in (behind_scheme (without_query text));
+  path = path_in (behind_scheme (without_query text));
+  query = behind question_mark (without_fragment text);
+  fragment = behind number_sign text;
+}
+
+-- ---- putting it together (RFC 3986 section 5.3)
+
+-- the text of a scheme and of an authority with their delimiters, where there is one
+abbrev pub scheme_text : Option (List ℕ) → List ℕ
+scheme_text None = []
+scheme_text (Some scheme) = scheme ++ colon ∷ []
+
+abbrev pub authority_text : Option (List ℕ) → List ℕ
+authority_text None = []
+authority_text (Some authority) = slash ∷ slash ∷ authority
+
+-- the text behind its mark, where there is one
+abbrev pub marked : ℕ → Option (List ℕ) → List ℕ
+marked mark None = []
+marked mark (Some text) = mark ∷ text
+
+abbrev pub query_text : Option (List ℕ) → List ℕ
+query_text query = marked question_mark query
+
+abbrev pub fragment_text : Option (List ℕ) → List ℕ
+fragment_text fragment = marked number_sign fragment
+
+-- the text that the components spell
+unfoldable pub recomposed : Components → List ℕ
+recomposed c = scheme_text c.scheme ++ (authority_text c.authority ++ (c.path ++ (query_text c.query ++ fragment_text c.fragment)))
+
+-- ---- what may stand in each component
+
+-- the test, where there is a text
+abbrev pub where_present : (List ℕ → Bool) → Option (List ℕ) → Bool
+where_present test None = true
+where_present test (Some text) = test text
+
+-- how many hexadecimal digits must follow the octet: two behind a percent sign (RFC 3986 section 2.1)
+abbrev pub digits_after : ℕ → ℕ
+digits_after c = if c == percent_sign then 2 else 0
+
+-- the text has as many hexadecimal digits at its beginning, and then characters that pass the test and percent escapes
+abbrev pub is_text_behind_digits : (ℕ → Bool) → ℕ → List ℕ → Bool
+is_text_behind_digits test zero [] = true
+is_text_behind_digits test (suc n) [] = false
+is_text_behind_digits test zero (c ∷ cs) = (c == percent_sign || test c) && is_text_behind_digits test (digits_after c) cs
+is_text_behind_digits test (suc n) (c ∷ cs) = is_ascii_hexdigit c && is_text_behind_digits test n cs
+
+-- the text has only characters that pass the test, and percent escapes of two hexadecimal digits
+abbrev pub is_text_of : (ℕ → Bool) → List ℕ → Bool
+is_text_of test text = is_text_behind_digits test 0 text
+
+-- a letter, and then letters, digits, plus signs, hyphens and full stops (RFC 3986 section 3.1)
+abbrev pub is_scheme : List ℕ → Bool
+is_scheme [] = false
+is_scheme (c ∷ cs) = is_ascii_alphabetic c && list_all is_scheme_character cs
+
+-- the parts of an authority: what stands before its first `@`, and the rest (RFC 3986 section 3.2)
+abbrev pub userinfo_of : List ℕ → Option (List ℕ)
+userinfo_of authority = if has_octet at_sign authority then Some (before at_sign authority) else None
+
+abbrev pub behind_userinfo : List ℕ → List ℕ
+behind_userinfo authority = unwrap_or (behind at_sign authority) authority
+
+-- the text up to and with the first octet of that kind, or all of it
+unfoldable pub through : ℕ → List ℕ → List ℕ
+through mark [] = []
+through mark (c ∷ cs) = if c == mark then c ∷ [] else c ∷ through mark cs
+
+-- the host at the beginning of a text, an IP literal with its brackets (RFC 3986 section 3.2.2)
+abbrev pub host_in : List ℕ → List ℕ
+host_in text = if begins_with left_bracket text then through right_bracket text else before colon text
+
+-- a colon, and then digits or none; or nothing (RFC 3986 section 3.2.3)
+abbrev pub is_port_text : List ℕ → Bool
+is_port_text [] = true
+is_port_text (c ∷ cs) = c == colon && list_all is_ascii_digit cs
+
+-- what begins with a bracket: one or more hexadecimal digits, colons and full stops, a closing bracket, and a port or none
+abbrev pub is_literal_and_port : List ℕ → Bool
+is_literal_and_port [] = false
+is_literal_and_port (c ∷ cs) = c == left_bracket && is_run_of is_literal_character (before right_bracket cs) && where_present is_port_text (behind right_bracket cs) && has_octet right_bracket cs
+
+-- a registered name, and a port or none
+abbrev pub is_name_and_port : List ℕ → Bool
+is_name_and_port text = is_text_of is_name_character (before colon text) && is_port_text (from_first colon text)
+
+-- a host, and a port or none
+abbrev pub is_host_and_port : List ℕ → Bool
+is_host_and_port text = is_literal_and_port text || is_name_and_port text
+
+-- user information or none, a host, and a port or none (RFC 3986 section 3.2)
+abbrev pub is_authority : List ℕ → Bool
+is_authority authority = where_present (is_text_of is_userinfo_character) (userinfo_of authority) && is_host_and_port (behind_userinfo authority)
+
+-- the path may stand beside the scheme and the authority: behind an authority it begins with a slash or is empty,
+-- without one it does not begin with two, and without a scheme its first segment has no colon (RFC 3986 section 3.3)
+abbrev pub path_fits : Components → Bool
+path_fits c =
+    if is_some c.authority then is_empty c.path || begins_with slash c.path
+    else not (is_some (behind_two_slashes c.path)) && (is_some c.scheme || not (has_colon_in_first_segment c.path))
+
+-- each component has only what may stand in it
+abbrev pub is_allowed : Components → Bool
+is_allowed c = where_present is_scheme c.scheme && where_present is_authority c.authority && is_text_of is_path_character c.path && path_fits c
+    && where_present (is_text_of is_query_character) c.query && where_present (is_text_of is_query_character) c.fragment
+
+-- the octets are a URI-reference with these components (RFC 3986 section 4.1)
+pub record IsReference (bytes : List ℕ) (c : Components) : Type 0 where
+  pub spelled : bytes ≡ recomposed c
+  pub allowed : is_allowed c ≡ true
+
+-- the components of a URI-reference, and None where the octets are none: `IsReference` as a function
+unfoldable pub reference : List ℕ → Option Components
+reference bytes = if is_allowed (components bytes) then Some (components bytes) else None
+
+-- a reference with a scheme is a URI (RFC 3986 section 4.3)
+abbrev pub has_scheme : Components → Bool
+has_scheme c = is_some c.scheme
+
+-- the host of an authority, as it is spelled
+unfoldable pub host_of : List ℕ → List ℕ
+host_of authority = host_in (behind_userinfo authority)
+
+-- the host of a reference, where it has an authority
+abbrev pub host : Components → Option (List ℕ)
+host c = host_where c.authority
+  where
+    host_where : Option (List ℕ) → Option (List ℕ)
+    host_where None = None
+    host_where (Some authority) = Some (host_of authority)

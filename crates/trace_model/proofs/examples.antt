@@ -1,0 +1,10 @@
+mod RegistrationTraces
+mod LookupTraces
+mod BlockTraces
+mod ObserverTraces
+mod FetchTraces
+mod FullTableTraces
+mod StepTraces
+mod DueExamples
+mod BadLineTraces
+mod MeantimeTraces
