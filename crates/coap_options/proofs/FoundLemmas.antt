@@ -4,6 +4,8 @@ use Rattle.std.specs.Prelude.{◌==◌}
 use Rattle.std.specs.Option.{option_or}
 use Rattle.std.proofs.lemmas.List.{append-nil}
 use Rattle.std.proofs.lemmas.List.Folds.{list_any-append}
+use Rattle.std.proofs.Math.Bool.{or-false}
+use Rattle.std.proofs.lemmas.Bool.{and_left}
 use Rattle.message_model.specs.Message.{Opt}
 use Rattle.message_model.specs.OptionTable as table
 use Rattle.message_model.specs.OptionTable.{definition_of, stands_in, is_allowed_by, is_recognized, is_critical, recognized_options, first_bad_option, values, first_of}
@@ -49,15 +51,11 @@ values_without number options option other =
     ∙ ap (λ (b : Bool). values number options ++ cond (b && (option.0 == number)) (option.1 ∷ []) []) other
     ∙ append-nil (values number options)
 
-or_none : (b : Bool) → (b || false) ≡ b
-or_none true = refl
-or_none false = refl
-
 stands_with : (number : ℕ) (options : List Opt) (option : Opt) → is_recognized options option.0 (length option.1) ≡ true → stands_in number (recognized_options (options ++ option ∷ [])) ≡ (stands_in number (recognized_options options) || (option.0 == number))
 stands_with number options option good =
     ap (stands_in number) (recognized_options-push options option ∙ ap (λ (b : Bool). recognized_options options ++ cond b (option ∷ []) []) good)
     ∙ list_any-append (λ (o : Opt). o.0 == number) (recognized_options options) (option ∷ [])
-    ∙ ap (λ (b : Bool). stands_in number (recognized_options options) || b) (or_none (option.0 == number))
+    ∙ ap (λ (b : Bool). stands_in number (recognized_options options) || b) (or-false (option.0 == number))
 
 or_four : (a b c d : Bool) → ((a || b) || (c || d)) ≡ ((a || c) || (b || d))
 or_four true b c d = refl
@@ -81,10 +79,6 @@ and_not : (a b : Bool) → b ≡ true → (a && not b) ≡ false
 and_not true true e = refl
 and_not false true e = refl
 and_not a false e = absurd cc
-
-no_and : (a b : Bool) → a ≡ false → (a && b) ≡ false
-no_and true b e = absurd cc
-no_and false b e = refl
 
 -- ---- the three cases
 
@@ -112,7 +106,7 @@ pub found_passed : (options : List Opt) (option : Opt) (found more : Found) → 
 found_passed options option found more so other elective e =
     subst (λ (f : Found). IsFound (options ++ option ∷ []) f) (sym e) (record {
       last = last_number-push options option;
-      good = good_kept options option so.good (no_and (is_critical option.0) (not (is_recognized options option.0 (length option.1))) elective);
+      good = good_kept options option so.good (and_left (is_critical option.0) (not (is_recognized options option.0 (length option.1))) elective);
       segments = subst (λ (segments : List (List ℕ)). AreSegments found.segments segments) (sym (values_without table.uri_path options option other)) so.segments;
       observe = so.observe ∙ ap first_of (sym (values_without table.observe options option other));
       accept = so.accept ∙ ap first_of (sym (values_without table.accept options option other));

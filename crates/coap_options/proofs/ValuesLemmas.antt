@@ -3,6 +3,7 @@ use Rattle.std.proofs.Common.{◌≡◌, ℕ, Bool, true, false, ◌&&◌, cond,
 use Rattle.std.specs.Prelude.{◌==◌}
 use Rattle.std.proofs.lemmas.Bool.{cases_Bool, eqb-true}
 use Rattle.std.proofs.lemmas.List.{append-nil}
+use Rattle.std.proofs.Math.Bool.{and-false, and-true}
 use Rattle.message_model.specs.Message.{Opt}
 use Rattle.message_model.specs.OptionTable as table
 use Rattle.message_model.specs.OptionTable.{definition_of, stands_in, is_allowed_by, is_recognized, placed_options, recognized_options, values}
@@ -42,24 +43,16 @@ pub etags_repeat : MayRepeat table.etag
 unfolding definition_of
 etags_repeat is_further size = refl
 
-and_false : (b : Bool) → (b && false) ≡ false
-and_false true = refl
-and_false false = refl
-
-and_true : (b : Bool) → (b && true) ≡ b
-and_true true = refl
-and_true false = refl
-
 same_test : (number : ℕ) (before : List Opt) (option : Opt) → MayRepeat number → (is_recognized before option.0 (length option.1) && (option.0 == number)) ≡ is_value number option
 same_test number before option repeats =
     elim (cases_Bool (eqb option.0 number)) [
       | inl same ↦
           rw same (
-          and_true (is_recognized before option.0 (length option.1))
+          and-true (is_recognized before option.0 (length option.1))
           ∙ ap (λ (n : ℕ). is_allowed_by (definition_of n) (stands_in option.0 before) (length option.1)) (eqb-true _ _ same)
           ∙ repeats (stands_in option.0 before) (length option.1)
           )
-      | inr other ↦ rw other (and_false (is_recognized before option.0 (length option.1)))
+      | inr other ↦ rw other (and-false (is_recognized before option.0 (length option.1)))
     ]
 
 further : (before : List Opt) (option : Opt) (left : List Opt) → (before ++ option ∷ []) ++ left ≡ before ++ option ∷ left

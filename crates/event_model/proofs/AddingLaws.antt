@@ -3,8 +3,9 @@
 use Rattle.std.proofs.Common.{◌≡◌, ℕ, ◌||◌, Bool, true, false, not, cond, List, [], ◌∷◌, ◌++◌, filter, flat_map, refl, ap, subst, sym, ◌∙◌, append-nil, append_assoc}
 use Rattle.std.specs.List.{AllByRecursion}
 use Rattle.std.proofs.lemmas.Bool.{false≢true}
-use Rattle.history_model.proofs.Lists.{filter_all}
-use Rattle.history_model.proofs.Pairs.{each_weaker, each_one, PairsByRecursion}
+use Rattle.rd_base.proofs.lemmas.Filters.{filter_all}
+use Rattle.rd_base.proofs.lemmas.Each.{each_weaker, each_one}
+use Rattle.rd_base.proofs.lemmas.Pairs.{PairsByRecursion}
 use Rattle.event_model.specs.declared.notes.Note.{Note}
 use Rattle.event_model.specs.declared.notes.Note.TheVariants as note
 use Rattle.event_model.specs.declared.notes.Observer.{Observer}

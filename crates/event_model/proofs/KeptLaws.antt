@@ -1,39 +1,16 @@
 -- The last admission of a peer and a Message ID: where it is young and did not fail, it is kept, and a write of them is a repeat.
 use Rattle.std.proofs.Common.{◌≡◌, ℕ, ◌==◌, ◌||◌, Bool, true, false, not, cond, List, [], ◌∷◌, ◌++◌, filter, Some, None, option_and_then, refl, sym, ap, subst, ◌∙◌, eqb-true, arith}
 use Rattle.std.specs.List.{list_any}
-use Rattle.std.proofs.lemmas.Bool.{false≢true}
+use Rattle.std.proofs.lemmas.Bool.{false≢true, or_right, or_parts}
 use Rattle.std.proofs.lemmas.List.Elements.{filter-append}
 use Rattle.std.proofs.lemmas.List.Folds.{list_any-append}
 use Rattle.rd_base.specs.declared.peers.Peer.{Peer}
-use Rattle.history_model.proofs.Lists.{filter_swapped}
+use Rattle.rd_base.proofs.lemmas.Filters.{filter_swapped, any_kept}
 use Rattle.event_model.specs.declared.notes.Note.{Note}
 use Rattle.event_model.specs.declared.notes.Note.TheVariants as note
 use Rattle.event_model.specs.Events.{Event, last_event, has_event, is_young}
 use Rattle.event_model.specs.Repeats.{is_admission_of, admission_by, is_failure_of, admissions, kept, is_kept, repeated}
-
--- a number equals itself
-eqb-refl : (n : ℕ) → (n == n) ≡ true
-eqb-refl n = grind arith
-
--- one or the other, and neither
-or_right : (a b : Bool) → b ≡ true → (a || b) ≡ true
-or_right true b h = refl
-or_right false b h = h
-
-neither : (a b : Bool) → (a || b) ≡ false → (a ≡ false) × (b ≡ false)
-neither true b h = absurd (false≢true (sym h))
-neither false b h = (refl, h)
-
--- a filter that keeps what is looked for changes nothing
-found_among : {X : Type 0} (test keep : X → Bool) → ((x : X) → test x ≡ true → keep x ≡ true) → (xs : List X) → list_any test (filter keep xs) ≡ list_any test xs
-found_among test keep kept_too [] = refl
-found_among test keep kept_too (x ∷ xs) = by (test x) (keep x) refl refl (found_among test keep kept_too xs)
-  where
-    by : (t k : Bool) → test x ≡ t → keep x ≡ k → list_any test (filter keep xs) ≡ list_any test xs → list_any test (cond k (x ∷ filter keep xs) (filter keep xs)) ≡ (t || list_any test xs)
-    by true true t k more = rw t refl
-    by true false t k more = absurd (false≢true (sym k ∙ kept_too x t))
-    by false true t k more = rw t more
-    by false false t k more = more
+use Rattle.rd_base.proofs.lemmas.Numbers.{eqb-refl}
 
 -- so it is behind others, and among those that pass another test
 found_behind : (test young keep : Event → Bool) → ((o : Event) → test o ≡ true → keep o ≡ true) → (xs ys : List Event) → list_any test (filter young ys) ≡ true
@@ -41,7 +18,7 @@ found_behind : (test young keep : Event → Bool) → ((o : Event) → test o �
 found_behind test young keep kept_too xs ys h =
     rw (filter-append young xs (filter keep ys)) (rw (list_any-append test (filter young xs) (filter young (filter keep ys)))
     (or_right (list_any test (filter young xs)) (list_any test (filter young (filter keep ys)))
-    (ap (list_any test) (filter_swapped young keep ys) ∙ (found_among test keep kept_too (filter young ys) ∙ h))))
+    (ap (list_any test) (filter_swapped young keep ys) ∙ (any_kept test keep kept_too (filter young ys) ∙ h))))
 
 -- the note of an admission
 admitted_by : (peer : Peer) (mid : ℕ) (n : Note) (e : Event) → is_admission_of peer mid n ≡ true → admission_by n e ≡ e ∷ []
@@ -54,7 +31,7 @@ pub last_is_kept : (now : ℕ) (peer : Peer) (mid : ℕ) (events : List Event) (
 unfolding admissions kept
 last_is_kept now peer mid [] a last young alive = absurd (let h : None ≡ Some a = last in cc)
 last_is_kept now peer mid (e ∷ before) a last young alive =
-    by (is_admission_of peer mid e.note) refl last (neither (is_failure_of a.place e.note) (has_event (is_failure_of a.place) before) alive)
+    by (is_admission_of peer mid e.note) refl last (or_parts (is_failure_of a.place e.note) (has_event (is_failure_of a.place) before) alive)
     (λ found alive_before. last_is_kept now peer mid before a found young alive_before)
   where
     by : (b : Bool) → is_admission_of peer mid e.note ≡ b → cond b (Some e) (last_event (is_admission_of peer mid) before) ≡ Some a

@@ -6,7 +6,8 @@ use Rattle.rd_base.specs.declared.peers.Host.TheVariants as host
 use Rattle.rd_base.specs.declared.peers.Peer.{Peer}
 use Rattle.rd_base.specs.declared.queries.Kind.TheVariants as kind
 use Rattle.rd_base.specs.declared.queries.Query.{Query}
-use Rattle.history_model.proofs.Pairs.{each_one, pairs_map, PairsByRecursion}
+use Rattle.rd_base.proofs.lemmas.Each.{each_one}
+use Rattle.rd_base.proofs.lemmas.Pairs.{pairs_map, PairsByRecursion}
 use Rattle.event_model.specs.declared.notes.Note.{Note}
 use Rattle.event_model.specs.declared.notes.Note.TheVariants as note
 use Rattle.event_model.specs.declared.notes.Observer.{Observer}

@@ -10,10 +10,7 @@ use Rattle.rd_base.specs.declared.queries.Kind.TheVariants as kind
 use Rattle.rd_base.specs.declared.queries.Criterion.{Criterion}
 use Rattle.rd_base.specs.declared.queries.Query.{Query}
 use Rattle.event_model.specs.Same.{is_same_host, is_same_peer, RequestName, is_same_request, is_same_kind, are_same_criteria, is_same_number, is_same_query}
-
--- a number equals itself
-eqb-refl : (n : ℕ) → (n == n) ≡ true
-eqb-refl n = grind arith
+use Rattle.rd_base.proofs.lemmas.Numbers.{eqb-refl}
 
 -- addresses
 pub is_same_host-Decides : (a b : Host) → Decides (is_same_host a b) (a ≡ b)

@@ -3,8 +3,9 @@ use Rattle.std.proofs.Common.{◌≡◌, ℕ, suc, ◌==◌, ◌||◌, ◌&&◌,
 use Rattle.std.specs.List.{cons_option, filter_map, list_any, AllByRecursion}
 use Rattle.std.proofs.lemmas.Bool.{false≢true, and_parts}
 use Rattle.rd_base.specs.declared.peers.Peer.{Peer}
-use Rattle.history_model.proofs.Lists.{filter_all}
-use Rattle.history_model.proofs.Pairs.{each_weaker, PairsByRecursion}
+use Rattle.rd_base.proofs.lemmas.Filters.{filter_all}
+use Rattle.rd_base.proofs.lemmas.Each.{each_weaker}
+use Rattle.rd_base.proofs.lemmas.Pairs.{PairsByRecursion}
 use Rattle.event_model.specs.declared.notes.Note.{Note}
 use Rattle.event_model.specs.declared.notes.Note.TheVariants as note
 use Rattle.event_model.specs.Same.{is_same_peer}

@@ -2,7 +2,8 @@
 use Rattle.std.proofs.Common.{◌≡◌, Bool, true, false, ◌||◌, cond, List, [], ◌∷◌, filter, find, Some, None, refl, sym, ap, subst, ◌∙◌}
 use Rattle.std.specs.List.{list_any, AllByRecursion}
 use Rattle.std.proofs.lemmas.Bool.{false≢true}
-use Rattle.history_model.proofs.Pairs.{PairsByRecursion}
+use Rattle.rd_base.proofs.lemmas.Pairs.{PairsByRecursion}
+use Rattle.rd_base.proofs.lemmas.Filters.{filter_none, any_kept}
 
 -- what is found passes, and what holds of each holds of it
 pub found_passes : {X : Type 0} (test : X → Bool) (xs : List X) (a : X) → find test xs ≡ Some a → test a ≡ true
@@ -44,11 +45,6 @@ each_filtered {X} P keep (x ∷ xs) h = by (keep x) refl h (each_filtered P keep
         → (keep x ≡ true → P x) × AllByRecursion (λ (y : X). keep y ≡ true → P y) xs
     by true e k more = (λ yes. k.0, more k.1)
     by false e k more = (λ yes. absurd (false≢true (sym e ∙ yes)), more k)
-
--- a filter that keeps none
-pub filter_none : {X : Type 0} (keep : X → Bool) (xs : List X) → AllByRecursion (λ x. keep x ≡ false) xs → filter keep xs ≡ []
-filter_none keep [] none = refl
-filter_none keep (x ∷ xs) none = let first = none.0 in rw first (filter_none keep xs none.1)
 
 -- nothing is found behind a filter where nothing was found before it
 pub none_behind : {X : Type 0} (test keep : X → Bool) (xs : List X) → find test xs ≡ None → find test (filter keep xs) ≡ None
@@ -107,16 +103,6 @@ any_behind_none {X} test keep (x ∷ xs) none = by (keep x) (test x) refl none (
     by k true t h more = absurd (false≢true (sym h))
     by true false t h more = rw t (more h)
     by false false t h more = more h
-
-pub any_kept : {X : Type 0} (test keep : X → Bool) → ((x : X) → test x ≡ true → keep x ≡ true) → (xs : List X) → list_any test (filter keep xs) ≡ list_any test xs
-any_kept test keep kept_too [] = refl
-any_kept {X} test keep kept_too (x ∷ xs) = by (test x) (keep x) refl refl (any_kept test keep kept_too xs)
-  where
-    by : (t k : Bool) → test x ≡ t → keep x ≡ k → list_any test (filter keep xs) ≡ list_any test xs → list_any test (cond k (x ∷ filter keep xs) (filter keep xs)) ≡ (t || list_any test xs)
-    by true true t k more = rw t refl
-    by true false t k more = absurd (false≢true (sym k ∙ kept_too x t))
-    by false true t k more = rw t more
-    by false false t k more = more
 
 pub any_dropped : {X : Type 0} (test keep : X → Bool) → ((x : X) → test x ≡ true → keep x ≡ false) → (xs : List X) → list_any test (filter keep xs) ≡ false
 any_dropped test keep dropped_too [] = refl

@@ -3,8 +3,9 @@ use Rattle.std.proofs.Common.{◌≡◌, ◌≢◌, ℕ, ◌+◌, ◌≤◌, ◌
 use Rattle.std.specs.List.{list_any, AllByRecursion}
 use Rattle.std.proofs.lemmas.Bool.{false≢true, and_parts, and_from, ltb-false, le-ltb}
 use Rattle.rd_base.specs.declared.peers.Peer.{Peer}
-use Rattle.history_model.proofs.Lists.{filter_all, filter_swapped}
-use Rattle.history_model.proofs.Pairs.{each_weaker, each_both, each_one, each_filter, each_passes, pairs_filter, pairs_known, PairsByRecursion}
+use Rattle.rd_base.proofs.lemmas.Filters.{filter_all, filter_swapped, filter_none, any_kept}
+use Rattle.rd_base.proofs.lemmas.Each.{each_weaker, each_both, each_one, each_filter, each_passes}
+use Rattle.rd_base.proofs.lemmas.Pairs.{pairs_filter, pairs_known, PairsByRecursion}
 use Rattle.event_model.specs.declared.notes.Note.{Note}
 use Rattle.event_model.specs.declared.notes.Note.TheVariants as note
 use Rattle.event_model.specs.Same.{is_same_peer}
@@ -12,16 +13,14 @@ use Rattle.event_model.specs.Events.{Event, last_event, is_young, exchange_lifet
 use Rattle.event_model.specs.Repeats.{is_admission_of, admission_by, is_failure_of, admissions, kept, repeated, answer_noted}
 use Rattle.event_model.proofs.SameLaws.{is_same_peer-Decides, is_same_peer-refl}
 use Rattle.exchange_core.specs.Standing.{NoneAfter, IsNewPlace, AdmitsNew, AdmitsInOrder, IsOrderly}
-use Rattle.exchange_core.proofs.Finding.{found_holds, none_passes, each_filtered, filter_none, none_behind, found_behind, only_dropped, any_behind_none, any_kept, any_dropped}
+use Rattle.exchange_core.proofs.Finding.{found_holds, none_passes, each_filtered, none_behind, found_behind, only_dropped, any_behind_none, any_dropped}
+use Rattle.rd_base.proofs.lemmas.Numbers.{eqb-refl}
 
 -- ---- admissions
 
 -- the event admits a write of this peer under this Message ID
 abbrev pub admits : Peer → ℕ → Event → Bool
 admits peer mid a = is_admission_of peer mid a.note
-
-eqb-refl : (n : ℕ) → (n == n) ≡ true
-eqb-refl n = grind arith
 
 pub eqb-differs : (n m : ℕ) → n ≢ m → (n == m) ≡ false
 eqb-differs n m h = by (n == m) refl

@@ -4,7 +4,7 @@ use Rattle.std.specs.List.{position, position_or_len, remove}
 use Rattle.std.proofs.lemmas.List.{take_more, take_all}
 use Rattle.std.proofs.lemmas.List.Quantifiers.{position-Some}
 use Rattle.rd_base.specs.declared.peers.Peer.{Peer}
-use Rattle.history_model.proofs.Lists.{length-filter-le}
+use Rattle.rd_base.proofs.lemmas.Filters.{length-filter-le}
 use Rattle.event_model.specs.Events.{is_young}
 use Rattle.exchange_core.specs.declared.answers.Keyed.{Keyed}
 use Rattle.exchange_core.specs.declared.rows.Exchange.{Exchange}

@@ -3,8 +3,9 @@ use Rattle.std.proofs.Common.{◌≡◌, ℕ, ◌+◌, ◌≤◌, ◌<◌, ◌==
 use Rattle.std.specs.List.{cons_option, filter_map, AllByRecursion}
 use Rattle.std.proofs.lemmas.Bool.{false≢true}
 use Rattle.rd_base.specs.declared.peers.Peer.{Peer}
-use Rattle.history_model.proofs.Lists.{filter_all, filter_stronger, filter_swapped}
-use Rattle.history_model.proofs.Pairs.{each_one, each_filter, pairs_filter, PairsByRecursion}
+use Rattle.rd_base.proofs.lemmas.Filters.{filter_all, filter_stronger, filter_swapped}
+use Rattle.rd_base.proofs.lemmas.Each.{each_one, each_filter}
+use Rattle.rd_base.proofs.lemmas.Pairs.{pairs_filter, PairsByRecursion}
 use Rattle.event_model.specs.declared.notes.Note.{Note}
 use Rattle.event_model.specs.declared.notes.Note.TheVariants as note
 use Rattle.event_model.specs.Events.{Event, is_young, exchange_lifetime, or_else, last_said}

@@ -16,7 +16,8 @@ use Rattle.history_model.specs.Leases.{lapse, is_live_at, live_among}
 use Rattle.history_model.specs.Names.{is_same_sector, is_same_name}
 use Rattle.history_model.specs.Replay.{State, is_numbered, is_live_named, number_named, with_changed, registered_under, changed, apply}
 use Rattle.history_model.specs.Refusals.{max_entries, has_number, is_gone, is_full_of_records, is_full_of_text, text_behind, refusal_in}
-use Rattle.history_model.proofs.Pairs.{PairsByRecursion, each_weaker}
+use Rattle.rd_base.proofs.lemmas.Pairs.{PairsByRecursion}
+use Rattle.rd_base.proofs.lemmas.Each.{each_weaker}
 use Rattle.history_model.proofs.NumberLaws.{IsBelow, HasRisingNumbers}
 
 -- ---- names

@@ -7,8 +7,8 @@ use Rattle.history_model.specs.Replay.{State, is_numbered, apply, replay}
 use Rattle.history_model.specs.Live.{live}
 use Rattle.history_model.specs.Legal.{IsLegalFrom}
 use Rattle.history_model.specs.Refusals.{has_number, only_live}
-use Rattle.history_model.proofs.Pairs.{each_popped}
-use Rattle.history_model.proofs.Lists.{by_pushes}
+use Rattle.rd_base.proofs.lemmas.Each.{each_popped}
+use Rattle.rd_base.proofs.lemmas.Lists.{by_pushes}
 use Rattle.history_model.proofs.ReplayLaws.{replay_push}
 use Rattle.history_model.proofs.LegalLaws.{IsLegalFrom-append, IsLegalFrom_last}
 use Rattle.history_model.proofs.NumberLaws.{HasRisingNumbers, replay-HasRisingNumbers, apply-drawn, any_kept, has_number_before}

@@ -3,7 +3,7 @@ use Rattle.std.proofs.Common.{◌≡◌, ℕ, List, [], ◌∷◌, ◌++◌, ref
 use Rattle.history_model.specs.declared.entries.Entry.{Entry}
 use Rattle.history_model.specs.Live.{IsFront, last_moment}
 use Rattle.history_model.specs.Legal.{IsNext, IsLegalFrom}
-use Rattle.history_model.proofs.Lists.{by_pushes, push_cases}
+use Rattle.rd_base.proofs.lemmas.Lists.{by_pushes, push_cases}
 use Rattle.history_model.proofs.ReplayLaws.{last_moment_push}
 
 -- no entry

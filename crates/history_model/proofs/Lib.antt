@@ -1,5 +1,3 @@
-pub mod Pairs
-pub mod Lists
 pub mod ReplayLaws
 pub mod LegalLaws
 pub mod NumberLaws

@@ -16,8 +16,8 @@ use Rattle.history_model.specs.Replay.{State, is_numbered, number_named, registe
 use Rattle.history_model.specs.Live.{live, last_moment}
 use Rattle.history_model.specs.Legal.{IsLegalFrom}
 use Rattle.history_model.specs.Refusals.{max_registrations, max_text, max_entries, has_name, text_of, is_full_of_records, is_full_of_text, only_live}
-use Rattle.history_model.proofs.Pairs.{each_passes}
-use Rattle.history_model.proofs.Lists.{length-filter-le, sum_by-filter-le}
+use Rattle.rd_base.proofs.lemmas.Each.{each_passes}
+use Rattle.rd_base.proofs.lemmas.Filters.{length-filter-le, sum_by-filter-le}
 use Rattle.history_model.proofs.ReplayLaws.{replay-nil, replay_push, last_moment_push}
 use Rattle.history_model.proofs.LegalLaws.{by_legal_pushes}
 use Rattle.history_model.proofs.NumberLaws.{HasRisingNumbers, replay-HasRisingNumbers, drawn-le-length}

@@ -10,10 +10,11 @@ use Rattle.record_model.specs.Records.{registered}
 use Rattle.history_model.specs.declared.entries.Change.TheVariants as change
 use Rattle.history_model.specs.declared.entries.Entry.{Entry}
 use Rattle.history_model.specs.Replay.{State, is_numbered, is_live_named, number_named, number_for, with_changed, registered_under, changed, apply}
-use Rattle.history_model.proofs.Pairs.{PairsByRecursion}
+use Rattle.rd_base.proofs.lemmas.Pairs.{PairsByRecursion}
 use Rattle.history_model.proofs.NumberLaws.{IsBelow, HasRisingNumbers}
 use Rattle.history_model.proofs.Acceptance.{is_same_name-Decides}
 use Rattle.history_model.proofs.VersionLaws.{registered_live}
+use Rattle.rd_base.proofs.lemmas.Options.{map_none}
 
 -- a registration is found by its name, at its moment
 registered_named : (number : ℕ) (entry : Entry) (params : RegParams) (links : List SubmittedLink) → 0 < params.lt → is_live_named params.name entry.moment.0 (registered number entry.moment entry.peer params links) ≡ true
@@ -33,10 +34,6 @@ changed_named name moment number new named (r ∷ rs) pairs e = by (is_live_name
     by true false eb en h more = let same : r.number ≡ number = cc in absurd (true≢false (sym (eq-eqb r.number number same) ∙ en))
     by false false eb en h more = rw eb (more h)
 
-no_value : {A B : Type 0} (f : A → B) (o : Option A) → option_map f o ≡ None → o ≡ None
-no_value f None e = refl
-no_value f (Some x) e = absurd cc
-
 -- behind a registration the live record of its name has the number that it was to have
 pub number_named-apply : (state : State) (entry : Entry) (params : RegParams) (links : List SubmittedLink) → HasRisingNumbers state → entry.change ≡ change.Register params links → 0 < params.lt
     → number_named params.name entry.moment.0 (apply state entry).records ≡ Some (number_for params.name entry.moment.0 state)
@@ -50,6 +47,6 @@ number_named-apply state entry params links numbered same lasts =
     of_number (Some number) found = changed_named params.name entry.moment.0 number (λ r. registered number entry.moment entry.peer params links) (λ r. (registered_named number entry params links lasts, refl)) state.records numbered.ascending found
     of_number None found =
         let new = registered (state.drawn + 1) entry.moment entry.peer params links in
-        let none = no_value _ (find (is_live_named params.name entry.moment.0) state.records) found in
+        let none = map_none _ (find (is_live_named params.name entry.moment.0) state.records) found in
         let there = registered_named (state.drawn + 1) entry params links lasts in
         rw (find-append (is_live_named params.name entry.moment.0) state.records (new ∷ []), none, there) refl

@@ -9,7 +9,8 @@ use Rattle.history_model.specs.Replay.{State, is_numbered, apply, replay}
 use Rattle.history_model.specs.Live.{HaveDistinctNames, live, last_moment}
 use Rattle.history_model.specs.Legal.{IsNext, IsLegalFrom}
 use Rattle.history_model.specs.Refusals.{change_refusal}
-use Rattle.history_model.proofs.Pairs.{PairsByRecursion, each_weaker, each_map, each_filter, each_push, each_passes, pairs_weaker, pairs_filter, pairs_push, pairs_map, pairs_known, AllPairs-from_recursion}
+use Rattle.rd_base.proofs.lemmas.Pairs.{PairsByRecursion, pairs_weaker, pairs_filter, pairs_push, pairs_map, pairs_known, AllPairs-from_recursion}
+use Rattle.rd_base.proofs.lemmas.Each.{each_weaker, each_map, each_filter, each_push, each_passes}
 use Rattle.history_model.proofs.ReplayLaws.{KeepsNumber, replay-nil, replay_push, last_moment_push, by_change}
 use Rattle.history_model.proofs.LegalLaws.{by_legal_pushes}
 use Rattle.history_model.proofs.NumberLaws.{HasRisingNumbers, replay-HasRisingNumbers}

@@ -10,8 +10,9 @@ use Rattle.history_model.specs.Leases.{is_live_at, live_among}
 use Rattle.history_model.specs.Replay.{State, is_numbered, with_changed, apply, replay}
 use Rattle.history_model.specs.Live.{AreAscending, IsFront, live}
 use Rattle.history_model.specs.Refusals.{has_number}
-use Rattle.history_model.proofs.Pairs.{PairsByRecursion, each_weaker, each_map, each_filter, each_push, pairs_filter, pairs_push, pairs_map, AllPairs-from_recursion, each_one}
-use Rattle.history_model.proofs.Lists.{by_pushes}
+use Rattle.rd_base.proofs.lemmas.Pairs.{PairsByRecursion, pairs_filter, pairs_push, pairs_map, AllPairs-from_recursion}
+use Rattle.rd_base.proofs.lemmas.Each.{each_weaker, each_map, each_filter, each_push, each_one}
+use Rattle.rd_base.proofs.lemmas.Lists.{by_pushes}
 use Rattle.history_model.proofs.ReplayLaws.{KeepsNumber, replay-nil, replay_push, by_change, changed_number}
 
 -- ---- they rise

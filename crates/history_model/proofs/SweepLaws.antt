@@ -15,8 +15,8 @@ use Rattle.history_model.specs.Leases.{is_live_at, live_among}
 use Rattle.history_model.specs.Names.{is_same_name}
 use Rattle.history_model.specs.Replay.{State, is_numbered, is_live_named, number_named, with_changed, registered_under, changed, apply}
 use Rattle.history_model.specs.Refusals.{is_gone, only_live}
-use Rattle.history_model.proofs.Pairs.{each_weaker, each_passes}
-use Rattle.history_model.proofs.Lists.{filter_all, filter_stronger, filter_changed, filter_swapped, find-filter}
+use Rattle.rd_base.proofs.lemmas.Each.{each_weaker, each_passes}
+use Rattle.rd_base.proofs.lemmas.Filters.{filter_all, filter_stronger, filter_changed, filter_swapped, find-filter}
 use Rattle.history_model.proofs.NumberLaws.{HasRisingNumbers}
 use Rattle.history_model.proofs.Acceptance.{is_live_before, Accepted, live_numbered, named_numbered}
 use Rattle.history_model.proofs.NameLaws.{behind_change}

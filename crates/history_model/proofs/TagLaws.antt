@@ -13,7 +13,7 @@ use Rattle.history_model.specs.Live.{IsFront, live, last_moment}
 use Rattle.history_model.specs.Listing.{lines_of, all_lines, listing, lapsed_since, tag_from}
 use Rattle.history_model.specs.Legal.{IsLegalFrom}
 use Rattle.history_model.specs.Refusals.{max_entries}
-use Rattle.history_model.proofs.Lists.{filter_full}
+use Rattle.rd_base.proofs.lemmas.Filters.{filter_full}
 use Rattle.history_model.proofs.LegalLaws.{IsLegalFrom-IsFront}
 use Rattle.history_model.proofs.SweepLaws.{live_among_live}
 use Rattle.history_model.proofs.LimitLaws.{live-IsBounded, length-le-max_entries}

@@ -19,8 +19,9 @@ use Rattle.history_model.specs.Listing.{lines_of, all_lines, lapsed_since, tag_o
 use Rattle.history_model.specs.Legal.{IsLegalFrom, IsLasting}
 use Rattle.history_model.specs.Refusals.{is_gone, only_live, refusal_in, change_refusal}
 use Rattle.history_model.specs.Versions.{Version, state_of, VersionStandsFor}
-use Rattle.history_model.proofs.Pairs.{each_weaker, each_both, each_map, each_filter, each_push, each_passes, pairs_filter}
-use Rattle.history_model.proofs.Lists.{filter_all, filter_stronger}
+use Rattle.rd_base.proofs.lemmas.Each.{each_weaker, each_both, each_map, each_filter, each_push, each_passes}
+use Rattle.rd_base.proofs.lemmas.Pairs.{pairs_filter}
+use Rattle.rd_base.proofs.lemmas.Filters.{filter_all, filter_stronger}
 use Rattle.history_model.proofs.ReplayLaws.{replay_push, last_moment_push}
 use Rattle.history_model.proofs.NumberLaws.{IsBelow, IsDrawn, HasRisingNumbers, replay-HasRisingNumbers}
 use Rattle.history_model.proofs.Acceptance.{is_live_before, Accepted, accepted, live_numbered}

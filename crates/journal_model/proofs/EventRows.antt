@@ -10,7 +10,7 @@ use Rattle.journal_model.specs.declared.rows.Row.{Row}
 use Rattle.journal_model.specs.Journal.{events, row_at}
 use Rattle.journal_model.specs.Headline.{Within, Placed, last_row}
 use Rattle.rd_base.proofs.lemmas.Numbers.{eqb-refl}
-use Rattle.journal_model.proofs.Among.{Among}
+use Rattle.rd_base.proofs.lemmas.Among.{Among}
 
 -- ---- notes of a row
 

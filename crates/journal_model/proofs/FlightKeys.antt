@@ -12,7 +12,7 @@ use Rattle.event_model.specs.Observers.{name_of}
 use Rattle.event_model.specs.Flights.{is_forming_for, notice_mid, is_landing_of, is_again_of, Flight, flight_after, flight}
 use Rattle.event_model.proofs.SameLaws.{is_same_request-refl}
 use Rattle.event_model.proofs.Noting.{event_at}
-use Rattle.rd_base.proofs.lemmas.Booleans.{neither}
+use Rattle.std.proofs.lemmas.Bool.{or_parts}
 
 -- the Message ID of a notice in flight, and the place of the row that formed it
 abbrev pub key_of : Flight → ℕ × ℕ
@@ -93,7 +93,7 @@ pub key_before_all : (o : Observer) (place moment word : ℕ) (notes : List Note
     → flight_key o (noted place moment word notes before) ≡ Some k → flight_key o before ≡ Some k
 key_before_all o place moment word [] before k quiet found = found
 key_before_all o place moment word (n ∷ notes) before k quiet found =
-    let both = neither (is_forming_for (name_of o) n) (list_any (is_forming_for (name_of o)) notes) quiet in
+    let both = or_parts (is_forming_for (name_of o) n) (list_any (is_forming_for (name_of o)) notes) quiet in
     key_before o (event_at place moment word n) before k both.0 (key_before_all o place moment word notes (event_at place moment word n ∷ before) k both.1 found)
 
 -- nor acknowledges
@@ -101,8 +101,8 @@ pub key_same_all : (o : Observer) (place moment word : ℕ) (notes : List Note) 
     → flight_key o (noted place moment word notes before) ≡ flight_key o before
 key_same_all o place moment word [] before quiet lands = refl
 key_same_all o place moment word (n ∷ notes) before quiet lands =
-    let both = neither (is_forming_for (name_of o) n) (list_any (is_forming_for (name_of o)) notes) quiet in
-    let none = neither (is_landing n) (list_any is_landing notes) lands in
+    let both = or_parts (is_forming_for (name_of o) n) (list_any (is_forming_for (name_of o)) notes) quiet in
+    let none = or_parts (is_landing n) (list_any is_landing notes) lands in
     key_same_all o place moment word notes (event_at place moment word n ∷ before) both.1 none.1 ∙ key_same o (event_at place moment word n) before both.0 none.0
 
 -- the note forms a notice

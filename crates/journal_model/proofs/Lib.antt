@@ -5,6 +5,5 @@ pub mod StepNotes
 pub mod RowEquations
 pub mod EventRows
 pub mod Jobs
-pub mod Among
 pub mod FlightKeys
 mod examples

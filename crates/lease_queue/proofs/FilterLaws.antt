@@ -4,38 +4,12 @@ use Rattle.std.specs.List.{AllByRecursion, Contains}
 use Rattle.std.specs.List.Sorted.{IsPartitionPoint}
 use Rattle.std.proofs.lemmas.List.{take-append-drop, get_or-take, get_or-drop}
 use Rattle.std.proofs.lemmas.List.Elements.{filter-append, filter_passes, recursion_from_All}
+use Rattle.rd_base.proofs.lemmas.Each.{each_weaker, each_filter, each_append, each_passes}
+use Rattle.rd_base.proofs.lemmas.Filters.{filter_all, filter_none}
 
 -- ---- what holds of each element
 
-pub all_filter : {X : Type 0} (P : X → Type 0) (test : X → Bool) (xs : List X) → AllByRecursion P xs → AllByRecursion P (filter test xs)
-all_filter P test [] h = tt
-all_filter P test (x ∷ xs) h = by (test x) (all_filter P test xs h.1)
-  where
-    by : (t : Bool) → AllByRecursion P (filter test xs) → AllByRecursion P (cond t (x ∷ filter test xs) (filter test xs))
-    by true more = (h.0, more)
-    by false more = more
-
-pub all_append : {X : Type 0} (P : X → Type 0) (xs ys : List X) → AllByRecursion P xs → AllByRecursion P ys → AllByRecursion P (xs ++ ys)
-all_append P [] ys h more = more
-all_append P (x ∷ xs) ys h more = (h.0, all_append P xs ys h.1 more)
-
-pub all_weaker : {X : Type 0} (P Q : X → Type 0) → ((x : X) → P x → Q x) → (xs : List X) → AllByRecursion P xs → AllByRecursion Q xs
-all_weaker P Q f [] h = tt
-all_weaker P Q f (x ∷ xs) h = (f x h.0, all_weaker P Q f xs h.1)
-
--- what a filter keeps passes its test
-pub all_pass : {X : Type 0} (test : X → Bool) (xs : List X) → AllByRecursion (λ x. test x ≡ true) (filter test xs)
-all_pass test xs = recursion_from_All (λ x. test x ≡ true) (filter test xs) (filter_passes test xs)
-
 -- ---- filters that keep all or nothing
-
-pub filter_all : {X : Type 0} (test : X → Bool) (xs : List X) → AllByRecursion (λ x. test x ≡ true) xs → filter test xs ≡ xs
-filter_all test [] h = refl
-filter_all test (x ∷ xs) h = rw (h.0) (ap (λ rest. x ∷ rest) (filter_all test xs h.1))
-
-pub filter_none : {X : Type 0} (test : X → Bool) (xs : List X) → AllByRecursion (λ x. test x ≡ false) xs → filter test xs ≡ []
-filter_none test [] h = refl
-filter_none test (x ∷ xs) h = rw (h.0) (filter_none test xs h.1)
 
 pub not_not : (t : Bool) → t ≡ not (not t)
 not_not true = refl
@@ -68,8 +42,8 @@ front_cut test xs n h =
 -- what is behind it passes the other test
 pub behind_cut : {X : Type 0} (test other : X → Bool) → ((x : X) → other x ≡ not (test x)) → (xs : List X) (n : ℕ) → IsPartitionPoint (λ x. test x ≡ true) (λ x. test x ≡ false) xs n → drop n xs ≡ filter other xs
 behind_cut test other opposite xs n h =
-    let front = filter_none other (take n xs) (all_weaker (λ x. test x ≡ true) (λ x. other x ≡ false) (λ x t. opposite x ∙ ap not t) (take n xs) (passes_in_front test xs n h)) in
-    let behind = filter_all other (drop n xs) (all_weaker (λ x. test x ≡ false) (λ x. other x ≡ true) (λ x t. opposite x ∙ ap not t) (drop n xs) (fails_behind test xs n h)) in
+    let front = filter_none other (take n xs) (each_weaker (λ x. test x ≡ true) (λ x. other x ≡ false) (λ x t. opposite x ∙ ap not t) (take n xs) (passes_in_front test xs n h)) in
+    let behind = filter_all other (drop n xs) (each_weaker (λ x. test x ≡ false) (λ x. other x ≡ true) (λ x t. opposite x ∙ ap not t) (drop n xs) (fails_behind test xs n h)) in
     rw (filter_cut other xs n, front, behind)
 
 -- ---- what is in a list

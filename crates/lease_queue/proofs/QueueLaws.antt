@@ -7,7 +7,9 @@ use Rattle.std.proofs.lemmas.List.Elements.{All-contains, All-from_recursion, Co
 use Rattle.lease_queue.specs.declared.leases.Lease.{Lease}
 use Rattle.lease_queue.specs.Leases.{is_before, is_same, IsAscending, earlier, later, with_lease, without_lease}
 use Rattle.lease_queue.proofs.OrderLaws.{before_trans, not_before_itself, not_before_back, before_differs, before_or_behind, same_is, same_itself}
-use Rattle.lease_queue.proofs.FilterLaws.{all_append, all_filter, all_pass, all_weaker, filter_all, filter_none, contains_none, contains_first, contains_behind, contains_cases, contains_filter, filter_contains}
+use Rattle.lease_queue.proofs.FilterLaws.{contains_none, contains_first, contains_behind, contains_cases, contains_filter, filter_contains}
+use Rattle.rd_base.proofs.lemmas.Each.{each_weaker, each_filter, each_append, each_passes}
+use Rattle.rd_base.proofs.lemmas.Filters.{filter_all, filter_none}
 
 -- a test that what stands before passes too passes in front
 pub partitioned : (test : Lease → Bool) → ((x y : Lease) → is_before x y ≡ true → test y ≡ true → test x ≡ true) → (xs : List Lease) → IsAscending xs → IsPartitionedBy test xs
@@ -31,21 +33,21 @@ ascends_filter test [] up = tt
 ascends_filter test (x ∷ xs) up = by (test x) (ascends_filter test xs up.1)
   where
     by : (t : Bool) → IsAscending (filter test xs) → IsAscending (cond t (x ∷ filter test xs) (filter test xs))
-    by true more = (all_filter (λ y. is_before x y ≡ true) test xs up.0, more)
+    by true more = (each_filter (λ y. is_before x y ≡ true) test xs up.0, more)
     by false more = more
 
 ascends_around : (xs : List Lease) (lease : Lease) (ys : List Lease) → IsAscending xs → AllByRecursion (λ x. is_before x lease ≡ true) xs → AllByRecursion (λ y. is_before lease y ≡ true) ys → IsAscending ys → IsAscending (xs ++ lease ∷ ys)
 unfolding IsAscending
 ascends_around [] lease ys up front back more = (back, more)
 ascends_around (x ∷ xs) lease ys up front back more =
-    let far = all_weaker (λ y. is_before lease y ≡ true) (λ y. is_before x y ≡ true) (λ y h. before_trans x lease y front.0 h) ys back in
-    (all_append (λ y. is_before x y ≡ true) xs (lease ∷ ys) up.0 (front.0, far), ascends_around xs lease ys up.1 front.1 back more)
+    let far = each_weaker (λ y. is_before lease y ≡ true) (λ y. is_before x y ≡ true) (λ y h. before_trans x lease y front.0 h) ys back in
+    (each_append (λ y. is_before x y ≡ true) xs (lease ∷ ys) up.0 (front.0, far), ascends_around xs lease ys up.1 front.1 back more)
 
 pub ascends_with : (queue : List Lease) (lease : Lease) → IsAscending queue → IsAscending (with_lease queue lease)
 unfolding with_lease
 ascends_with queue lease up =
-    ascends_around (earlier queue lease) lease (later queue lease) (ascends_filter (λ x. is_before x lease) queue up) (all_pass (λ x. is_before x lease) queue)
-    (all_pass (λ x. is_before lease x) queue) (ascends_filter (λ x. is_before lease x) queue up)
+    ascends_around (earlier queue lease) lease (later queue lease) (ascends_filter (λ x. is_before x lease) queue up) (each_passes (λ x. is_before x lease) queue)
+    (each_passes (λ x. is_before lease x) queue) (ascends_filter (λ x. is_before lease x) queue up)
 
 pub ascends_without : (queue : List Lease) (lease : Lease) → IsAscending queue → IsAscending (without_lease queue lease)
 unfolding without_lease
@@ -67,7 +69,7 @@ without_is (x ∷ xs) lease up = by (is_before x lease) (is_same x lease) refl r
     none_earlier : is_before lease x ≡ true → earlier xs lease ≡ []
     none_earlier h =
         filter_none (λ y. is_before y lease) xs
-        (all_weaker (λ y. is_before x y ≡ true) (λ y. is_before y lease ≡ false) (λ y g. not_before_back lease y (before_trans lease x y h g)) xs up.0)
+        (each_weaker (λ y. is_before x y ≡ true) (λ y. is_before y lease ≡ false) (λ y g. not_before_back lease y (before_trans lease x y h g)) xs up.0)
 
     by : (b s : Bool) → is_before x lease ≡ b → is_same x lease ≡ s → without_lease xs lease ≡ earlier xs lease ++ later xs lease → without_lease (x ∷ xs) lease ≡ earlier (x ∷ xs) lease ++ later (x ∷ xs) lease
     by true s b e more = rw (before_differs x lease b, b, not_before_back x lease b) (ap (λ rest. x ∷ rest) more)
@@ -88,7 +90,7 @@ with_same (x ∷ xs) lease up h = by (contains_cases x xs lease h) (λ there. wi
   where
     here : with_lease (x ∷ xs) x ≡ x ∷ xs
     here =
-        let none = filter_none (λ y. is_before y x) xs (all_weaker (λ y. is_before x y ≡ true) (λ y. is_before y x ≡ false) (λ y g. not_before_back x y g) xs up.0) in
+        let none = filter_none (λ y. is_before y x) xs (each_weaker (λ y. is_before x y ≡ true) (λ y. is_before y x ≡ false) (λ y g. not_before_back x y g) xs up.0) in
         let all = filter_all (λ y. is_before x y) xs up.0 in
         rw (not_before_itself x, none, all) refl
 

@@ -3,6 +3,7 @@ use Rattle.std.proofs.Common.{◌≡◌, ℕ, Bool, true, false, ◌&&◌, ◌||
 use Rattle.std.specs.Prelude.{◌==◌, not, if◌then◌else◌}
 use Rattle.std.specs.List.{list_all}
 use Rattle.std.proofs.lemmas.Bool.{and_parts, false≢true, eqb-true}
+use Rattle.std.proofs.Math.Bool.{and-false}
 use Rattle.link_model.specs.Characters.{quote_mark, asterisk, comma, backslash, semicolon, equals_sign, is_empty, is_not_control, is_attribute_name_character, is_token_character}
 use Rattle.link_model.specs.Documents.{Parameter, value_text, parameter_text, parameters_text, are_name_characters, is_parameter_name, closes_quotes, is_quoted_string, is_token, is_value, is_parameter}
 use Rattle.rd_base.proofs.lemmas.Numbers.{other_octet}
@@ -95,10 +96,6 @@ passes_token separator (b ∷ value) s h =
     let parts = and_parts (is_token_character b) (list_all is_token_character value) h in
     plain_octet separator b value (other_octet is_token_character b separator parts.0 s.no_token) (other_octet is_token_character b quote_mark parts.0 refl) (passes_token separator value s parts.1)
 
-and_false : (b : Bool) → (b && false) ≡ false
-and_false true = refl
-and_false false = refl
-
 -- how a string is read where a backslash stands before, or not
 abbrev quotes_at : Bool → Quotes
 quotes_at true = Escaped
@@ -109,7 +106,7 @@ passes_closing separator true [] h = absurd (false≢true h)
 passes_closing separator false [] h = absurd (false≢true h)
 passes_closing separator true (b ∷ value) h =
     let parts = and_parts (is_not_control b) (closes_quotes false value) h in
-    passes_octet separator Escaped Inside Outside b value (and_false (b == separator)) refl (passes_closing separator false value parts.1)
+    passes_octet separator Escaped Inside Outside b value (and-false (b == separator)) refl (passes_closing separator false value parts.1)
 passes_closing separator false (b ∷ value) h = by_test (λ t k. passes_closing separator t value k) (b == quote_mark) refl h
   where
     no_more : (rest : List ℕ) → is_empty rest ≡ true → rest ≡ []
@@ -122,10 +119,10 @@ passes_closing separator false (b ∷ value) h = by_test (λ t k. passes_closing
 
     by_test : ((u : Bool) → closes_quotes u value ≡ true → Passes separator (quotes_at u) value Outside) → (t : Bool) → (b == quote_mark) ≡ t → (if t then is_empty value else is_not_control b && closes_quotes (b == backslash) value) ≡ true → Passes separator Inside (b ∷ value) Outside
     by_test again true e h =
-        passes_octet separator Inside Outside Outside b value (and_false (b == separator)) (rw e refl) (subst (λ (r : List ℕ). Passes separator Outside r Outside) (sym (no_more value h)) (passes_none separator Outside))
+        passes_octet separator Inside Outside Outside b value (and-false (b == separator)) (rw e refl) (subst (λ (r : List ℕ). Passes separator Outside r Outside) (sym (no_more value h)) (passes_none separator Outside))
     by_test again false e h =
         let parts = and_parts (is_not_control b) (closes_quotes (b == backslash) value) h in
-        passes_octet separator Inside (quotes_at (b == backslash)) Outside b value (and_false (b == separator)) (rw e (to_quotes (b == backslash))) (again (b == backslash) parts.1)
+        passes_octet separator Inside (quotes_at (b == backslash)) Outside b value (and-false (b == separator)) (rw e (to_quotes (b == backslash))) (again (b == backslash) parts.1)
 
 passes_quoted : (separator : ℕ) (value : List ℕ) → Separates separator → is_quoted_string value ≡ true → Passes separator Outside value Outside
 passes_quoted separator [] s h = absurd (false≢true h)

@@ -3,7 +3,7 @@ use Rattle.std.proofs.Common.{◌≡◌, ℕ, ◌+◌, ◌/◌, ◌%◌, ◌<◌
 use Rattle.std.specs.Prelude.{◌==◌, nat_le}
 use Rattle.std.specs.List.{list_all}
 use Rattle.std.specs.Char.{encode_utf8}
-use Rattle.std.proofs.lemmas.Bool.{and_parts, false≢true, cases_lt}
+use Rattle.std.proofs.lemmas.Bool.{and_parts, false≢true, cases_lt, or_parts}
 use Rattle.std.proofs.lemmas.Bool.Decides.{nat_tests}
 use Rattle.link_model.specs.Characters.{quote_mark, backslash}
 use Rattle.link_model.specs.Quoting.{content_up_to_quote, unquoted, escaped_character, quoted}
@@ -145,12 +145,8 @@ unquoted_first value rest c e q = e ∙ sym (unquoted_plain c rest (different c 
 pub unquoted_opened : (value rest : List ℕ) (c : ℕ) → value ≡ encode_utf8 c ++ rest → c ≡ quote_mark → content_up_to_quote false rest ≡ unquoted value
 unquoted_opened value rest c e q = sym (unquoted_quote rest) ∙ ap (λ (d : ℕ). unquoted (encode_utf8 d ++ rest)) (sym q) ∙ ap unquoted (sym e)
 
-neither : (a b : Bool) → (a || b) ≡ false → (a ≡ false) × (b ≡ false)
-neither true b h = absurd (false≢true (sym h))
-neither false b h = (refl, h)
-
 pub spelled_other : (c : ℕ) → (c == quote_mark || c == backslash) ≡ false → encode_utf8 c ≡ flat_map escaped_character (encode_utf8 c)
-spelled_other c h = let n = neither (c == quote_mark) (c == backslash) h in sym (spelled_plain c n.0 n.1)
+spelled_other c h = let n = or_parts (c == quote_mark) (c == backslash) h in sym (spelled_plain c n.0 n.1)
 
 -- the text with its closing quote
 pub quoted_closed : (text whole value : List ℕ) → text ++ [] ≡ quote_mark ∷ flat_map escaped_character value → whole ≡ text ++ encode_utf8 quote_mark → whole ≡ quoted value

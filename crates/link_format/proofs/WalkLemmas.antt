@@ -5,6 +5,7 @@ use Rattle.std.proofs.lemmas.Bool.{eqb-true}
 use Rattle.std.specs.Str.{is_utf8}
 use Rattle.std.specs.Int.{is_in_range}
 use Rattle.std.proofs.lemmas.Str.{IsUtf8-from_is_utf8, is_utf8-from_IsUtf8}
+use Rattle.std.proofs.Math.Bool.{and-false}
 use Rattle.link_model.specs.Documents.{Link}
 use Rattle.link_model.specs.Utf8Prefix.{OctetRange, utf8_prefix_after}
 use Rattle.link_model.specs.DocumentReading.{Place, at_beginning, place_after, with_octet, links_at_end, links_from, document, prefix_from, good_prefix}
@@ -92,15 +93,11 @@ links_ends : (place : Place) (c : ℕ) (cs : List ℕ) → place_after place c �
 unfolding links_from
 links_ends place c cs e = rw e refl
 
-and_false : (b : Bool) → (b && false) ≡ false
-and_false true = refl
-and_false false = refl
-
 pub is_rest-step : (place next : Place) (tails more : List OctetRange) (c : ℕ) (cs : List ℕ) → place_after place c ≡ Some next → tails_after tails c ≡ Some more → is_rest place tails (c ∷ cs) ≡ is_rest next more cs
 is_rest-step place next tails more c cs e f = rw (utf8_goes tails more c cs f, links_goes place next c cs e) refl
 
 pub is_rest-no_place : (place : Place) (tails : List OctetRange) (c : ℕ) (cs : List ℕ) → place_after place c ≡ None → is_rest place tails (c ∷ cs) ≡ false
-is_rest-no_place place tails c cs e = rw (links_ends place c cs e) (and_false (is_utf8_after tails (c ∷ cs)))
+is_rest-no_place place tails c cs e = rw (links_ends place c cs e) (and-false (is_utf8_after tails (c ∷ cs)))
 
 pub is_rest-no_tails : (place : Place) (tails : List OctetRange) (c : ℕ) (cs : List ℕ) → tails_after tails c ≡ None → is_rest place tails (c ∷ cs) ≡ false
 is_rest-no_tails place tails c cs e = rw (utf8_ends tails c cs e) refl

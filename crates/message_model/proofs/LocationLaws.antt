@@ -11,6 +11,7 @@ use Rattle.std.proofs.lemmas.Str.Parse.{IsNumeralModel, numerals_by_fold, digits
 use Rattle.message_model.specs.declared.requests.Path.TheVariants as path
 use Rattle.message_model.specs.Request.{has_leading_zero, is_location, decimal_value, location_of}
 use Rattle.message_model.proofs.ByteLemmas.{chosen}
+use Rattle.rd_base.proofs.lemmas.Booleans.{and_four}
 
 abbrev are_digits : List ℕ → Bool
 are_digits text = list_all is_ascii_digit text
@@ -24,12 +25,6 @@ record IsLocation (text : List ℕ) : Type 0 where
   few : length text ≤ 15
   digits : are_digits text ≡ true
   plain : has_leading_zero text ≡ false
-
-and_four : (a b c d : Bool) → (a && b && c && d) ≡ true → (a ≡ true) × (b ≡ true) × (c ≡ true) × (d ≡ true)
-and_four true true true d e = (refl, refl, refl, e)
-and_four true true false d e = absurd cc
-and_four true false c d e = absurd cc
-and_four false b c d e = absurd cc
 
 location_parts : (text : List ℕ) → is_location text ≡ true → IsLocation text
 location_parts text e =

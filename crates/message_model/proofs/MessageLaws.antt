@@ -3,6 +3,7 @@ use Rattle.std.proofs.Common.{◌≡◌, ℕ, ◌+◌, ◌*◌, ◌/◌, ◌%◌
 use Rattle.std.proofs.lemmas.Bool.{cases_Bool, le-ltb, ltb-false, eqb-true, eq-eqb, and_parts, not-false}
 use Rattle.std.proofs.lemmas.List.{nil_from_length}
 use Rattle.std.proofs.lemmas.Option.{same_Some}
+use Rattle.std.proofs.Math.Bool.{and-false}
 use Rattle.message_model.specs.declared.messages.Unread.{Unread}
 use Rattle.message_model.specs.Numbers.{AreBytes}
 use Rattle.message_model.specs.Codes.{is_reserved}
@@ -151,15 +152,11 @@ unfilled : (m : Message) → IsBare m → is_filled (header_in m) (body_spelling
 unfolding options_spelling payload_spelling
 unfilled m bare = rw (bare.token, bare.options, bare.payload) refl
 
-and_none : (b : Bool) → (b && false) ≡ false
-and_none true = refl
-and_none false = refl
-
 is_good : (m : Message) → IsMessage m → is_bad_header (header_in m) (body_spelling m) ≡ false
 is_good m fits =
     let small : ltb 8 (length m.token) ≡ false = le-ltb 8 (length m.token) fits.token_length in
     let third : (eqb m.code 0 && is_filled (header_in m) (body_spelling m)) ≡ false = elim (cases_Bool (eqb m.code 0)) [
-      | inl none ↦ rw (unfilled m (fits.empty (eqb-true _ _ none))) (and_none (eqb m.code 0))
+      | inl none ↦ rw (unfilled m (fits.empty (eqb-true _ _ none))) (and-false (eqb m.code 0))
       | inr some ↦ rw some refl
     ] in
     rw (fits.class, small, third) refl

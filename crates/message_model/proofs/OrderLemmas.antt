@@ -3,6 +3,7 @@ use Rattle.std.proofs.Common.{◌≡◌, ℕ, ◌≤◌, Bool, true, false, ◌|
 use Rattle.std.specs.Prelude.{◌==◌}
 use Rattle.std.proofs.lemmas.Bool.{cases_Bool, eqb-true, eq-eqb}
 use Rattle.std.proofs.lemmas.List.{append-nil}
+use Rattle.std.proofs.Math.Bool.{or-false}
 use Rattle.message_model.specs.Message.{Opt, AreOptionsAfter, end_number}
 use Rattle.message_model.specs.Spelling.{marker, option_spelling, options_spelling, payload_spelling}
 use Rattle.message_model.specs.OptionTable.{stands_in}
@@ -17,13 +18,9 @@ end_number-ge before (option ∷ options) fits =
     let rises : before ≤ option.0 = fits.0 in
     omega (arith, end_number-ge option.0 options fits.4)
 
-or_none : (b : Bool) → (b || false) ≡ b
-or_none true = refl
-or_none false = refl
-
 -- Of options in order, one of a number that is not below the last stands there exactly where the last one has it.
 pub stands_in-ascending : (first : Opt) (options : List Opt) (number : ℕ) → AreOptionsAfter first.0 options → end_number first.0 options ≤ number → stands_in number (first ∷ options) ≡ (end_number first.0 options == number)
-stands_in-ascending first [] number fits most = or_none (first.0 == number)
+stands_in-ascending first [] number fits most = or-false (first.0 == number)
 stands_in-ascending first (option ∷ options) number fits most =
     let rises : first.0 ≤ option.0 = fits.0 in
     let ends = end_number-ge option.0 options fits.4 in

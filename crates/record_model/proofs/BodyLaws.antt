@@ -1,6 +1,7 @@
 -- The fault of a body agrees with what is refused as `links` and as `limited`.
 use Rattle.std.proofs.Common.{◌≡◌, ℕ, ◌+◌, Bool, true, false, not, ◌&&◌, List, [], ◌∷◌, ◌++◌, length, map, find, Option, Some, None, option_map, option_and_then, is_none, is_some, if◌then◌else◌, refl, ap, ◌∙◌}
 use Rattle.std.specs.List.{list_all}
+use Rattle.std.proofs.Math.Bool.{and-true}
 use Rattle.rd_base.specs.declared.submitted.SubmittedLink.{SubmittedLink}
 use Rattle.reference_model.specs.References.{where_present}
 use Rattle.link_model.specs.Documents.{Parameter, Link, parameter_text, link_text}
@@ -21,10 +22,6 @@ and_assoc : (a b c : Bool) → (a && (b && c)) ≡ ((a && b) && c)
 and_assoc true b c = refl
 and_assoc false b c = refl
 
-and_true : (a : Bool) → (a && true) ≡ a
-and_true true = refl
-and_true false = refl
-
 are_references-append : (rs ss : List Placed) → are_references (rs ++ ss) ≡ (are_references rs && are_references ss)
 are_references-append [] ss = refl
 are_references-append (r ∷ rs) ss = ap (λ b. is_placed_reference r && b) (are_references-append rs ss) ∙ and_assoc (is_placed_reference r) (are_references rs) (are_references ss)
@@ -37,7 +34,7 @@ are_references-placed_behind n (r ∷ rs) = ap (λ b. is_placed_reference r && b
 -- the anchor that has a place is the anchor
 anchor_where : (b : Bool) (p : Parameter) (parameters : List Parameter) → is_anchor p ≡ b → are_references (anchor_place parameters) ≡ where_present is_reference (option_map value_of (find is_anchor parameters))
     → are_references (anchor_place (p ∷ parameters)) ≡ where_present is_reference (option_map value_of (find is_anchor (p ∷ parameters)))
-anchor_where true p parameters e same = rw e (and_true (is_reference (value_of p)))
+anchor_where true p parameters e same = rw e (and-true (is_reference (value_of p)))
 anchor_where false p parameters e same = rw e (are_references-placed_behind (length (parameter_text p)) (anchor_place parameters) ∙ same)
 
 anchor_same : (parameters : List Parameter) → are_references (anchor_place parameters) ≡ where_present is_reference (option_map value_of (find is_anchor parameters))

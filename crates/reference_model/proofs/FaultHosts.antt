@@ -3,14 +3,14 @@ use Rattle.std.proofs.Common.{◌≡◌, ℕ, zero, suc, ◌+◌, ◌<◌, ◌�
 use Rattle.std.specs.Prelude.{◌==◌, if◌then◌else◌}
 use Rattle.std.specs.List.{list_all, prefix_len}
 use Rattle.std.specs.Char.{is_ascii_digit}
-use Rattle.std.proofs.lemmas.Bool.{and_parts, eqb-true, cases_lt}
+use Rattle.std.proofs.lemmas.Bool.{and_parts, eqb-true, cases_lt, and_left}
 use Rattle.link_model.specs.Characters.{colon, at_sign, left_bracket, right_bracket, is_empty, is_run_of, is_name_character, is_literal_character, is_userinfo_character}
 use Rattle.reference_model.specs.References.{before, behind, from_first, has_octet, marked, is_text_of, is_port_text, is_literal_and_port, is_name_and_port, is_host_and_port, is_authority}
 use Rattle.reference_model.specs.ReferenceFaults.{text_prefix, port_prefix, literal_prefix, name_prefix, host_prefix, authority_prefix}
 use Rattle.reference_model.proofs.ReferenceCuts.{cut, behind_some, behind_none, has_octet-before, before-marked, behind-marked}
 use Rattle.rd_base.proofs.lemmas.Options.{some_same, none_some}
 use Rattle.reference_model.proofs.ReferenceMarks.{no_mark_in_text, no_mark_in_run, no_mark_in_host}
-use Rattle.reference_model.proofs.FaultWords.{IsLongest, cut_passes, both_pass, first_fails, second_fails, front_longest, front_longest_by, behind_longest, all_longest, whole_longest, same_longest, cons_longest, longest_at, from_first-behind, before_alone, length-cut, take_front, take_within, EndsBeforeMark, PastMark, mark_cases}
+use Rattle.reference_model.proofs.FaultWords.{IsLongest, cut_passes, both_pass, second_fails, front_longest, front_longest_by, behind_longest, all_longest, whole_longest, same_longest, cons_longest, longest_at, from_first-behind, before_alone, length-cut, take_front, take_within, EndsBeforeMark, PastMark, mark_cases}
 use Rattle.reference_model.proofs.FaultTexts.{text_longest, run_begins, run_within, run_ends, port_longest}
 
 -- ---- registered names
@@ -309,10 +309,10 @@ either_longest text no_user = record {
         by_at true e =
             let rest = unwrap_or (behind at_sign (take m text ++ more)) [] in
             authority_with_user (take m text ++ more) rest (behind_some at_sign (take m text ++ more) e)
-            ∙ first_fails (is_text_of is_userinfo_character (before at_sign (take m text ++ more))) (is_host_and_port rest) (ap (is_text_of is_userinfo_character) (x.2) ∙ user.longest m (omega arith) (x.0) (before at_sign more))
+            ∙ and_left (is_text_of is_userinfo_character (before at_sign (take m text ++ more))) (is_host_and_port rest) (ap (is_text_of is_userinfo_character) (x.2) ∙ user.longest m (omega arith) (x.0) (before at_sign more))
     at_mark m h more (inr r) =
         authority_with_user (take m text ++ more) (take r.count r.rest ++ more) r.same_behind
-        ∙ first_fails (is_text_of is_userinfo_character (before at_sign (take m text ++ more))) (is_host_and_port (take r.count r.rest ++ more)) (ap (is_text_of is_userinfo_character) r.same_front ∙ no_user r.rest r.is_behind)
+        ∙ and_left (is_text_of is_userinfo_character (before at_sign (take m text ++ more))) (is_host_and_port (take r.count r.rest ++ more)) (ap (is_text_of is_userinfo_character) r.same_front ∙ no_user r.rest r.is_behind)
 
 pub authority_longest : (text : List ℕ) → IsLongest is_authority text (authority_prefix text)
 unfolding authority_prefix

@@ -1,14 +1,14 @@
 -- The longest prefixes of what stands before a query: a scheme or none, an authority or none, and a path.
 use Rattle.std.proofs.Common.{◌≡◌, ℕ, zero, suc, ◌+◌, ◌<◌, ◌≤◌, Bool, true, false, cond, ◌&&◌, ◌||◌, List, [], ◌∷◌, ◌++◌, take, length, Option, Some, None, refl, sym, ap, ◌∙◌, subst, arith}
 use Rattle.std.specs.Prelude.{◌==◌, if◌then◌else◌}
-use Rattle.std.proofs.lemmas.Bool.{true≢false, eqb-true}
+use Rattle.std.proofs.lemmas.Bool.{true≢false, eqb-true, and_left}
 use Rattle.link_model.specs.Characters.{percent_sign, colon, slash, is_path_character}
 use Rattle.reference_model.specs.References.{before, behind, from_first, has_octet, marked, where_present, is_text_behind_digits, is_text_of, digits_after, is_authority, has_colon_in_first_segment, behind_two_slashes, authority_in, path_in}
 use Rattle.reference_model.specs.ReferenceFaults.{text_prefix, authority_prefix, prefix_behind_digits}
 use Rattle.rd_base.proofs.lemmas.Options.{none_some}
 use Rattle.reference_model.proofs.ReferenceLaws.{two_slashes}
 use Rattle.reference_model.proofs.ReferenceMarks.{no_mark_in_authority}
-use Rattle.reference_model.proofs.FaultWords.{IsLongest, cut_passes, both_pass, first_fails, front_longest, behind_longest, whole_longest, cons_longest, longest_at, from_first-behind, length-cut}
+use Rattle.reference_model.proofs.FaultWords.{IsLongest, cut_passes, both_pass, front_longest, behind_longest, whole_longest, cons_longest, longest_at, from_first-behind, length-cut}
 use Rattle.reference_model.proofs.FaultTexts.{text_longest, text_begins, zeros}
 use Rattle.reference_model.proofs.FaultHosts.{authority_longest}
 
@@ -120,7 +120,7 @@ none_behind_other c [] e = refl
 none_behind_other c (d ∷ more) e = are_not_two c d more (rw e refl)
 
 bad_ends : (c : ℕ) (more : List ℕ) → (c == percent_sign || is_path_character c) ≡ false → rest_passes (c ∷ more) ≡ false
-bad_ends c more h = rest_alone (c ∷ more) (none_behind_other c more (bad_is_no_slash c h)) ∙ first_fails (c == percent_sign || is_path_character c) (is_text_behind_digits is_path_character (digits_after c) more) h
+bad_ends c more h = rest_alone (c ∷ more) (none_behind_other c more (bad_is_no_slash c h)) ∙ and_left (c == percent_sign || is_path_character c) (is_text_behind_digits is_path_character (digits_after c) more) h
 
 path_ends : (text : List ℕ) → behind_two_slashes text ≡ None → (m : ℕ) → text_prefix is_path_character text < m → m ≤ length text → (more : List ℕ) → rest_passes (take m text ++ more) ≡ false
 path_ends text e zero h k more = absurd (omega arith)

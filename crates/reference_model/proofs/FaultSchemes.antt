@@ -3,7 +3,7 @@ use Rattle.std.proofs.Common.{◌≡◌, ℕ, zero, suc, ◌+◌, ◌<◌, ◌�
 use Rattle.std.specs.Prelude.{◌==◌, if◌then◌else◌}
 use Rattle.std.specs.List.{list_all}
 use Rattle.std.specs.Char.{is_ascii_alphabetic}
-use Rattle.std.proofs.lemmas.Bool.{and_parts, true≢false, false≢true}
+use Rattle.std.proofs.lemmas.Bool.{and_parts, true≢false, false≢true, and_left}
 use Rattle.std.proofs.lemmas.Bool.Decides.{nat_tests}
 use Rattle.link_model.specs.Characters.{percent_sign, colon, slash, is_path_character, is_scheme_character}
 use Rattle.reference_model.specs.References.{before, behind, has_octet, marked, where_present, is_text_of, is_scheme, has_colon_in_first_segment, scheme_in, behind_scheme, behind_two_slashes}
@@ -11,7 +11,7 @@ use Rattle.reference_model.specs.ReferenceFaults.{text_prefix}
 use Rattle.reference_model.proofs.ReferenceCuts.{cut, behind_some, has_octet-before, before-marked, behind-marked, has_octet-append, has_octet-before_other}
 use Rattle.rd_base.proofs.lemmas.Options.{some_same}
 use Rattle.reference_model.proofs.ReferenceReading.{before-append, no_mark_appended}
-use Rattle.reference_model.proofs.FaultWords.{IsLongest, both_pass, first_fails, second_fails, before_alone, length-cut, take_front, take_within, EndsBeforeMark, PastMark, mark_cases, has_octet-take}
+use Rattle.reference_model.proofs.FaultWords.{IsLongest, both_pass, second_fails, before_alone, length-cut, take_front, take_within, EndsBeforeMark, PastMark, mark_cases, has_octet-take}
 use Rattle.reference_model.proofs.FaultTexts.{text_longest, text_begins, zeros}
 use Rattle.reference_model.proofs.FaultPaths.{rest_passes, rest_alone, rest_prefix, IsLongestRest, rest_longest, none_behind_other}
 
@@ -182,12 +182,12 @@ no_scheme_longest text c u = record {
         by_scheme false e = refl
 
         by_colon : (d : Bool) → has_colon_in_first_segment whole ≡ d → front_passes whole ≡ false
-        by_colon true e = front_with_scheme whole e ∙ first_fails (is_scheme (before colon whole)) (rest_passes (unwrap_or (behind colon whole) [])) (by_scheme (is_scheme (before colon whole)) refl)
+        by_colon true e = front_with_scheme whole e ∙ and_left (is_scheme (before colon whole)) (rest_passes (unwrap_or (behind colon whole) [])) (by_scheme (is_scheme (before colon whole)) refl)
         by_colon false e = front_alone whole e ∙ ap (λ (t : List ℕ). rest_passes (t ++ more)) (x.1) ∙ rest_alone (take m front ++ more) (none_first front m more no_slash (omega arith) (x.0)) ∙ fails more
     at_mark m h more (inr p) =
         let slashless : has_octet slash (before colon (take m text ++ more)) ≡ false = ap (has_octet slash) p.same_front ∙ no_slash in
         front_with_scheme (take m text ++ more) (colon_found (take m text ++ more) (take p.count p.rest ++ more) p.same_behind slashless)
-        ∙ first_fails (is_scheme (before colon (take m text ++ more))) (rest_passes (unwrap_or (behind colon (take m text ++ more)) [])) (ap is_scheme p.same_front ∙ u)
+        ∙ and_left (is_scheme (before colon (take m text ++ more))) (rest_passes (unwrap_or (behind colon (take m text ++ more)) [])) (ap is_scheme p.same_front ∙ u)
 
 -- ---- with no colon in the first segment
 
@@ -234,7 +234,7 @@ alone_longest text c = record {
             absurd (true≢false (sym (rest_alone (before colon whole) none ∙ scheme_is_path (before colon whole) f) ∙ ap rest_passes same ∙ l.longest m h k (before colon more)))
 
         by_colon : (d : Bool) → has_colon_in_first_segment whole ≡ d → front_passes whole ≡ false
-        by_colon true e = front_with_scheme whole e ∙ first_fails (is_scheme (before colon whole)) (rest_passes (unwrap_or (behind colon whole) [])) (by_scheme e (is_scheme (before colon whole)) refl)
+        by_colon true e = front_with_scheme whole e ∙ and_left (is_scheme (before colon whole)) (rest_passes (unwrap_or (behind colon whole) [])) (by_scheme e (is_scheme (before colon whole)) refl)
         by_colon false e = front_alone whole e ∙ l.longest m h k more
 
 -- of what stands before a query

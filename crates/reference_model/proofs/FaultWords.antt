@@ -2,6 +2,7 @@
 use Rattle.std.proofs.Common.{◌≡◌, ℕ, zero, suc, ◌+◌, ◌<◌, ◌≤◌, Bool, true, false, ◌&&◌, List, [], ◌∷◌, ◌++◌, take, length, Option, Some, None, refl, sym, ap, ◌∙◌, subst, ◌⊎◌, inl, inr, append_assoc, append-nil, zero-add, arith}
 use Rattle.std.proofs.lemmas.Bool.Decides.{nat_tests}
 use Rattle.std.proofs.lemmas.List.{length-append}
+use Rattle.std.proofs.lemmas.Bool.{and_left}
 use Rattle.reference_model.specs.References.{before, behind, from_first, has_octet, marked}
 use Rattle.reference_model.proofs.ReferenceCuts.{cut, behind_none, has_octet-before, before-marked, behind-marked}
 use Rattle.rd_base.proofs.lemmas.Options.{some_same}
@@ -119,9 +120,6 @@ cut_passes first second mark text = first (before mark text) && second (behind m
 pub both_pass : (a b : Bool) → a ≡ true → b ≡ true → (a && b) ≡ true
 both_pass a b e f = rw (e, f) refl
 
-pub first_fails : (a b : Bool) → a ≡ false → (a && b) ≡ false
-first_fails a b e = rw e refl
-
 pub second_fails : (a b : Bool) → a ≡ true → b ≡ false → (a && b) ≡ false
 second_fails a b e f = rw (e, f) refl
 
@@ -153,8 +151,8 @@ front_longest_by first second mark ends text n fails l = record {
     spelled = ap (λ (t : List ℕ). t ++ (l.begins.0 ++ ended.0)) same ∙ sym (append_assoc (take n front) (l.begins.0) (ended.0))
 
     at_mark : (m : ℕ) → n < m → (more : List ℕ) → EndsBeforeMark mark text m more ⊎ PastMark mark text m more → cut_passes first second mark (take m text ++ more) ≡ false
-    at_mark m h more (inl x) = first_fails (first (before mark (take m text ++ more))) (second (behind mark (take m text ++ more))) (ap first (x.2) ∙ l.longest m h (x.0) (before mark more))
-    at_mark m h more (inr p) = first_fails (first (before mark (take m text ++ more))) (second (behind mark (take m text ++ more))) (ap first p.same_front ∙ fails)
+    at_mark m h more (inl x) = and_left (first (before mark (take m text ++ more))) (second (behind mark (take m text ++ more))) (ap first (x.2) ∙ l.longest m h (x.0) (before mark more))
+    at_mark m h more (inr p) = and_left (first (before mark (take m text ++ more))) (second (behind mark (take m text ++ more))) (ap first p.same_front ∙ fails)
 
 -- the same, where nothing need follow that part
 pub front_longest : (first : List ℕ → Bool) (second : Option (List ℕ) → Bool) (mark : ℕ) → ((text : List ℕ) → first text ≡ true → has_octet mark text ≡ false) → second None ≡ true

@@ -1,7 +1,7 @@
 -- `reference_fault_at` gives the place of the first octet that no URI-reference with the same octets before it can have there.
 use Rattle.std.proofs.Common.{◌≡◌, ℕ, suc, ◌+◌, Bool, true, false, cond, not, ◌&&◌, ◌||◌, List, [], ◌∷◌, ◌++◌, take, length, Option, Some, None, unwrap_or, is_some, refl, sym, ap, ◌∙◌, arith}
 use Rattle.std.specs.Prelude.{◌==◌, if◌then◌else◌}
-use Rattle.std.proofs.lemmas.Bool.{and_parts, true≢false}
+use Rattle.std.proofs.lemmas.Bool.{and_parts, true≢false, and_left}
 use Rattle.std.proofs.lemmas.List.{length-append}
 use Rattle.link_model.specs.Characters.{colon, slash, question_mark, number_sign, is_empty, is_path_character, is_query_character}
 use Rattle.reference_model.specs.References.{Components, IsReference, before, behind, begins_with, from_first, has_octet, marked, without_fragment, without_query, has_colon_in_first_segment, scheme_in, behind_scheme, behind_two_slashes, authority_in, path_in, components, scheme_text, authority_text, query_text, fragment_text, where_present, is_text_of, is_scheme, is_authority, path_fits, is_allowed, reference}
@@ -10,7 +10,7 @@ use Rattle.reference_model.proofs.ReferenceCuts.{cut}
 use Rattle.rd_base.proofs.lemmas.Options.{some_same, none_some}
 use Rattle.reference_model.proofs.ReferenceLaws.{scheme_and_rest, authority_and_path, recomposed-components}
 use Rattle.reference_model.proofs.ReferenceReading.{no_end_before_path, no_number_sign_in_query, no_mark_appended, end_question_mark, end_number_sign, reference_only}
-use Rattle.reference_model.proofs.FaultWords.{IsLongest, cut_passes, both_pass, first_fails, second_fails, front_longest, behind_longest, length-cut, longest_at}
+use Rattle.reference_model.proofs.FaultWords.{IsLongest, cut_passes, both_pass, second_fails, front_longest, behind_longest, length-cut, longest_at}
 use Rattle.reference_model.proofs.FaultTexts.{text_longest}
 use Rattle.reference_model.proofs.FaultPaths.{rest_passes, rest_prefix, behind_slashes_prefix}
 use Rattle.reference_model.proofs.FaultSchemes.{front_passes, front_prefix, front_prefix-IsLongest}
@@ -190,7 +190,7 @@ fault_longest text h =
     r = behind_scheme x
 
     in_front : front_passes x ≡ false → (n : ℕ) → front_prefix x ≡ n → IsLongest whole_passes text n
-    in_front e n c = whole_by_hier text n (first_fails (front_passes x) (query_passes q) e) (hier_by_front front n e (longest_at front_passes x (front_prefix x) n c (front_prefix-IsLongest x)))
+    in_front e n c = whole_by_hier text n (and_left (front_passes x) (query_passes q) e) (hier_by_front front n e (longest_at front_passes x (front_prefix x) n c (front_prefix-IsLongest x)))
 
     front_holds : where_present is_scheme s ≡ true → where_present is_authority a ≡ true → is_text_of is_path_character p ≡ true → front_passes x ≡ true
     front_holds es ea ep = both_pass (where_present is_scheme s) (rest_passes r) es (both_pass (where_present is_authority a) (is_text_of is_path_character p) ea ep)
@@ -219,9 +219,9 @@ fault_longest text h =
 
     by_parts : (bs : Bool) → where_present is_scheme s ≡ bs → (ba : Bool) → where_present is_authority a ≡ ba → (bp : Bool) → is_text_of is_path_character p ≡ bp → (bq : Bool) → query_passes q ≡ bq → (bf : Bool) → query_passes f ≡ bf
         → IsLongest whole_passes text (parts_count bs ba bp bq bf (components text))
-    by_parts false es ba ea bp ep bq eq bf ef = in_front (first_fails (where_present is_scheme s) (rest_passes r) es) (text_prefix is_path_character (unwrap_or s [])) (no_scheme_count x es)
+    by_parts false es ba ea bp ep bq eq bf ef = in_front (and_left (where_present is_scheme s) (rest_passes r) es) (text_prefix is_path_character (unwrap_or s [])) (no_scheme_count x es)
     by_parts true es false ea bp ep bq eq bf ef =
-        in_front (second_fails (where_present is_scheme s) (rest_passes r) es (first_fails (where_present is_authority a) (is_text_of is_path_character p) ea)) (length (scheme_text s) + (2 + authority_prefix (unwrap_or a [])))
+        in_front (second_fails (where_present is_scheme s) (rest_passes r) es (and_left (where_present is_authority a) (is_text_of is_path_character p) ea)) (length (scheme_text s) + (2 + authority_prefix (unwrap_or a [])))
         (rest_count x es ∙ ap (λ (n : ℕ). length (scheme_text s) + n) (no_authority_count r ea))
     by_parts true es true ea false ep bq eq bf ef =
         in_front (second_fails (where_present is_scheme s) (rest_passes r) es (second_fails (where_present is_authority a) (is_text_of is_path_character p) ea ep)) (length (scheme_text s) + (length (authority_text a) + text_prefix is_path_character p))

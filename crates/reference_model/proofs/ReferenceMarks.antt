@@ -9,6 +9,7 @@ use Rattle.link_model.specs.Characters.{colon, percent_sign, at_sign, left_brack
 use Rattle.reference_model.specs.References.{before, behind, from_first, has_octet, marked, is_text_behind_digits, is_text_of, digits_after, where_present, userinfo_of, behind_userinfo, is_port_text, is_literal_and_port, is_name_and_port, is_host_and_port, is_authority}
 use Rattle.rd_base.proofs.lemmas.Numbers.{other_octet}
 use Rattle.reference_model.proofs.ReferenceCuts.{cut, cut_from, behind_some, behind_none, has_octet-append}
+use Rattle.rd_base.proofs.lemmas.Booleans.{and_four}
 
 -- an octet that fails a test does not stand in a text of octets that pass it
 pub no_mark_in_run : (test : ℕ → Bool) (mark : ℕ) → test mark ≡ false → (text : List ℕ) → list_all test text ≡ true → has_octet mark text ≡ false
@@ -68,18 +69,11 @@ no_mark_marked : (mark other : ℕ) (test : List ℕ → Bool) → (other == mar
 no_mark_marked mark other test e f None h = refl
 no_mark_marked mark other test e f (Some text) h = no_mark_first mark other text e (f text h)
 
-pub four_parts : (a b c d : Bool) → (a && b && c && d) ≡ true → (a ≡ true) × (b ≡ true) × (c ≡ true) × (d ≡ true)
-four_parts a b c d h =
-    let x = and_parts (a && b && c) d h in
-    let y = and_parts (a && b) c (x.0) in
-    let z = and_parts a b (y.0) in
-    (z.0, z.1, y.1, x.1)
-
 no_mark_in_literal : (mark : ℕ) → IsNoHostMark mark → (text : List ℕ) → is_literal_and_port text ≡ true → has_octet mark text ≡ false
 no_mark_in_literal mark m [] h = refl
 no_mark_in_literal mark m (c ∷ cs) h =
     let inside = before right_bracket cs in
-    let all = four_parts (c == left_bracket) (is_run_of is_literal_character inside) (where_present is_port_text (behind right_bracket cs)) (has_octet right_bracket cs) h in
+    let all = and_four (c == left_bracket) (is_run_of is_literal_character inside) (where_present is_port_text (behind right_bracket cs)) (has_octet right_bracket cs) h in
     let run = and_parts (not (is_empty inside)) (list_all is_literal_character inside) (all.1) in
     let first : (c == mark) ≡ false = rw (eqb-true c left_bracket (all.0)) m.left in
     no_mark_first mark c cs first

@@ -22,6 +22,7 @@ use Rattle.registration.specs.declared.referring.Referred.{Referred}
 use Rattle.registration.proofs.FaultLaws.{bad_placed}
 use Rattle.registration.proofs.ReferLaws.{same_item}
 use Rattle.registration.proofs.GatherLaws.{placed_twice, anchor_said, all_anchor, all_raw, all_pairs, all_end}
+use Rattle.rd_base.proofs.lemmas.Options.{map_none}
 
 -- a fault that is handed on
 pub err_at : {A : Type 0} (e : DraftFault) (P : Result A DraftFault → Type 0) (r : Result A DraftFault) → P (Err e) → IsErrAnd r (λ f. f ≡ e) → P r
@@ -31,10 +32,6 @@ err_at e P (Err f) h same = subst (λ g. P (Err g)) (sym same) h
 or_true : (b : Bool) → (b || true) ≡ true
 or_true true = refl
 or_true false = refl
-
-nothing_there : {A B : Type 0} (f : A → B) (o : Option A) → option_map f o ≡ None → o ≡ None
-nothing_there f None e = refl
-nothing_there f (Some x) e = cc
 
 module _ (base : Parts) (start : ℕ) (l : Link) where
   -- a target that is no reference
@@ -108,7 +105,7 @@ module _ (base : Parts) (start : ℕ) (l : Link) where
         let all = all_end (start + length l.target + 2) l.parameters g known in
         let text = length-append l.target (greater_than_sign ∷ parameters_text l.parameters) in
         record {
-          good = nothing_there (λ at. start + at) (first_bad (link_references l)) (anchor_alone ∙ good_where g.anchor r h);
+          good = map_none (λ at. start + at) (first_bad (link_references l)) (anchor_alone ∙ good_where g.anchor r h);
           item = λ spelled s.
               same_item read.item l.target (anchor l) (based spelled l.target) (option_map (based spelled) (anchor l)) (parameters_text (attributes l)) (map pair_of (attributes l))
               target_ref (anchor_ref ∙ said) (target_text ∙ target.text spelled s) (anchor_text ∙ based_where g.anchor r h spelled s ∙ ap (option_map (based spelled)) said)

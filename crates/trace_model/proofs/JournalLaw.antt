@@ -1,5 +1,6 @@
 -- What a trace gives is a journal of the machine: each step of a line might be made where it is made.
 use Rattle.std.proofs.Common.{◌≡◌, ℕ, ◌&&◌, ◌||◌, Bool, true, false, cond, nat_lt, List, [], ◌∷◌, fold, Option, Some, None, Result, Ok, Err, refl, sym, ap, subst}
+use Rattle.std.proofs.Math.Bool.{and-false, and-true}
 use Rattle.message_model.specs.declared.messages.Role.{Role}
 use Rattle.message_model.specs.declared.messages.Role.TheVariants as role
 use Rattle.message_model.specs.declared.messages.Unread.{Unread}
@@ -20,22 +21,13 @@ use Rattle.journal_model.specs.Meantime.{is_never, is_left_out, is_left_out_of, 
 use Rattle.journal_model.specs.Machine.{is_look_datagram, hearing, Job, job_of, hears, goes, ticks, MayMake, IsJournal, begun, made}
 use Rattle.trace_model.specs.Steps.{hearing_where, come_step, go_step, step_of_worker, worker_of, if_worker, step_of_line, Traced, untraced, traced_step, traced_unless, traced_line, traced}
 
--- a test and false, and a test and true
-and_false : (b : Bool) → (b && false) ≡ false
-and_false true = refl
-and_false false = refl
-
-and_true : (b : Bool) → (b && true) ≡ b
-and_true true = refl
-and_true false = refl
-
 -- where every request is served, none is left out
 none_left_out : (read : Result Message Unread) → is_left_out_of is_never read ≡ false
 none_left_out (Err fault) = refl
 none_left_out (Ok m) = by (role_of m.kind m.code)
   where
     by : (r : Role) → is_left_out is_never r m ≡ false
-    by role.Request = and_false _
+    by role.Request = and-false _
     by role.Ping = refl
     by role.Acknowledgement = refl
     by role.Reset = refl
@@ -44,7 +36,7 @@ none_left_out (Ok m) = by (role_of m.kind m.code)
 
 -- and no listing is too long
 none_too_long : (kind : StepKind) (rows : List Row) (moment : ℕ) (read : Result Message Unread) → is_too_long is_never kind rows moment read ≡ false
-none_too_long step.Look rows moment (Ok m) = and_false _
+none_too_long step.Look rows moment (Ok m) = and-false _
 none_too_long step.Look rows moment (Err fault) = refl
 none_too_long step.Admit rows moment read = refl
 none_too_long (step.Commit place) rows moment read = refl
@@ -57,11 +49,11 @@ unfolding row_where
 row_where_never rows s starved = ap (λ b. row_unless b rows s starved) tested
   where
     tested : (is_heard s.kind && (is_left_out_of is_never (reading s.datagram) || is_too_long is_never s.kind rows (row_moment rows s) (reading s.datagram))) ≡ false
-    tested = rw (none_left_out (reading s.datagram)) (rw (none_too_long s.kind rows (row_moment rows s) (reading s.datagram)) (and_false (is_heard s.kind)))
+    tested = rw (none_left_out (reading s.datagram)) (rw (none_too_long s.kind rows (row_moment rows s) (reading s.datagram)) (and-false (is_heard s.kind)))
 
 -- and each datagram is heard as in the machine
 hearing_never : (datagram : List ℕ) → hearing_where is_never datagram ≡ hearing datagram
-hearing_never datagram = rw (none_left_out (reading datagram)) (ap (λ b. cond b step.Look step.Admit) (and_true (is_look_datagram datagram)))
+hearing_never datagram = rw (none_left_out (reading datagram)) (ap (λ b. cond b step.Look step.Admit) (and-true (is_look_datagram datagram)))
 
 -- what a line gives: a step that might be made, or none
 data MayGive (rows : List Row) : Result (Option Step) Reason → Type 0 where

@@ -17,10 +17,7 @@ use Rattle.journal_model.specs.Rows.{row}
 use Rattle.journal_model.specs.Machine.{is_look_datagram, Job, write_job, keep_kind, keep_job, job_after, job_of, MayBegin, hears, goes, ticks, IsJournal, begun, made}
 use Rattle.journal_model.specs.Headline.{Within, Commits}
 use Rattle.headline_law.proofs.entries.JournalLaws.{Made, each_row}
-
--- a number equals itself
-eqb-refl : (n : ℕ) → (n == n) ≡ true
-eqb-refl n = grind arith
+use Rattle.rd_base.proofs.lemmas.Numbers.{eqb-refl}
 
 -- no row commits the write of a place
 abbrev pub NoCommit : ℕ → List Row → Type 0

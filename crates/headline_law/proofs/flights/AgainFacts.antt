@@ -20,13 +20,13 @@ use Rattle.journal_model.specs.Sending.{Effects}
 use Rattle.journal_model.specs.Ticks.{sent_by, sent_again, each_of, notice_again, flight_again, notices_again}
 use Rattle.journal_model.proofs.NoteKinds.{of_again, none_of}
 use Rattle.journal_model.proofs.StepNotes.{notices_again-notes}
-use Rattle.headline_law.proofs.sends.PlainSteps.{each_append}
 use Rattle.headline_law.proofs.sends.TickSends.{each_of_sent}
-use Rattle.journal_model.proofs.Among.{Among, all_among, among_all}
+use Rattle.rd_base.proofs.lemmas.Among.{Among, all_among, among_all}
 use Rattle.journal_model.proofs.FlightKeys.{flight_key, is_landing, key_same_all}
 use Rattle.headline_law.proofs.flights.Standing.{stands_on, Waits, flies_key, IsAgain, again_stands}
-use Rattle.rd_base.proofs.lemmas.Booleans.{or_left, or_right}
+use Rattle.std.proofs.lemmas.Bool.{or_left, or_right}
 use Rattle.rd_base.proofs.lemmas.Numbers.{eqb-refl}
+use Rattle.rd_base.proofs.lemmas.Each.{each_append}
 
 -- what is noted for one is noted for all
 each_of_any : {A : Type 0} (test : Note → Bool) (does : A → Effects) (x : A) (xs : List A) → Among x xs → list_any test (does x).notes ≡ true → list_any test (each_of does xs).notes ≡ true

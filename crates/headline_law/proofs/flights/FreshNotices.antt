@@ -20,14 +20,14 @@ use Rattle.journal_model.specs.declared.rows.Row.{Row}
 use Rattle.journal_model.specs.Journal.{events}
 use Rattle.journal_model.specs.Sending.{Effects}
 use Rattle.journal_model.specs.Headline.{has_listing, forms_notice}
-use Rattle.headline_law.proofs.sends.PlainSteps.{each_append}
-use Rattle.journal_model.proofs.Among.{Among, each_weak}
+use Rattle.rd_base.proofs.lemmas.Among.{Among, each_weak}
 use Rattle.journal_model.proofs.FlightKeys.{flight_key, is_landing, key_same_all, key_formed}
 use Rattle.headline_law.proofs.flights.Standing.{is_turning, observers_same, Waits, flies_key}
 use Rattle.headline_law.proofs.flights.AgainFacts.{AgainSent, AgainNoted, behind_again}
 use Rattle.headline_law.proofs.flights.TickNotices.{is_notice_to, IsNoticeOf, Stat, as_before, given, FreshSent, TickSoFar}
-use Rattle.rd_base.proofs.lemmas.Booleans.{or_left, or_right}
+use Rattle.std.proofs.lemmas.Bool.{or_left, or_right}
 use Rattle.rd_base.proofs.lemmas.Numbers.{eqb-refl}
+use Rattle.rd_base.proofs.lemmas.Each.{each_append}
 
 -- a new notice, with what is kept of it
 pub record NewNotice (rows : List Row) (moment word : ℕ) (done : Effects) : Type 0 where

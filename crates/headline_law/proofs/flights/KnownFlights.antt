@@ -4,7 +4,7 @@ use Rattle.std.specs.List.{list_any, AllByRecursion}
 use Rattle.std.proofs.lemmas.Bool.{false≢true, ne_eqb}
 use Rattle.rd_base.specs.declared.peers.Peer.{Peer}
 use Rattle.history_model.specs.Listing.{listing, tag}
-use Rattle.history_model.proofs.Pairs.{each_weaker}
+use Rattle.rd_base.proofs.lemmas.Each.{each_weaker}
 use Rattle.event_model.specs.declared.notes.Note.{Note}
 use Rattle.event_model.specs.declared.notes.Note.TheVariants as note
 use Rattle.event_model.specs.declared.notes.Observer.{Observer}
@@ -20,8 +20,8 @@ use Rattle.headline_law.proofs.sends.BodyAnswers.{IsBodyOf}
 use Rattle.journal_model.proofs.EventRows.{found_in}
 use Rattle.headline_law.proofs.notes.Asking.{OfWatched, observers_all}
 use Rattle.journal_model.proofs.FlightKeys.{flight_key, key_before_all, is_notice, key_none}
-use Rattle.rd_base.proofs.lemmas.Booleans.{neither}
-use Rattle.journal_model.proofs.Among.{all_among}
+use Rattle.std.proofs.lemmas.Bool.{or_parts}
+use Rattle.rd_base.proofs.lemmas.Among.{all_among}
 
 -- the row that formed the notice to an observer under a Message ID, at a place
 pub record NoticeOf (rows : List Row) (o : Observer) (mid place : ℕ) : Type 0 where
@@ -55,7 +55,7 @@ notice_of_row rows r o mid place none it = record {
 no_notice_to : (peer : Peer) (mid : ℕ) (notes : List Note) → list_any is_notice notes ≡ false → list_any (forms_notice peer mid) notes ≡ false
 no_notice_to peer mid [] none = refl
 no_notice_to peer mid (n ∷ notes) none =
-    let both = neither (is_notice n) (list_any is_notice notes) none in
+    let both = or_parts (is_notice n) (list_any is_notice notes) none in
     rw (by n both.0, no_notice_to peer mid notes both.1) refl
   where
     by : (x : Note) → is_notice x ≡ false → forms_notice peer mid x ≡ false
@@ -67,7 +67,7 @@ no_notice_to peer mid (n ∷ notes) none =
 each_no : (notes : List Note) → list_any is_notice notes ≡ false → AllByRecursion (λ n. is_notice n ≡ false) notes
 each_no [] none = tt
 each_no (n ∷ notes) none =
-    let both = neither (is_notice n) (list_any is_notice notes) none in
+    let both = or_parts (is_notice n) (list_any is_notice notes) none in
     (both.0, each_no notes both.1)
 
 -- where a row forms something for an observer, and no notice, none is in flight to it

@@ -5,7 +5,7 @@ use Rattle.std.specs.List.{list_any, AllByRecursion}
 use Rattle.std.proofs.lemmas.Bool.{false≢true, and_from}
 use Rattle.std.proofs.lemmas.List.Folds.{list_any-append}
 use Rattle.rd_base.specs.declared.peers.Peer.{Peer}
-use Rattle.history_model.proofs.Lists.{filter_all}
+use Rattle.rd_base.proofs.lemmas.Filters.{filter_all}
 use Rattle.event_model.specs.declared.notes.Note.{Note}
 use Rattle.event_model.specs.declared.notes.Note.TheVariants as note
 use Rattle.event_model.specs.declared.notes.Observer.{Observer}
@@ -18,9 +18,10 @@ use Rattle.event_model.proofs.ObserverLaws.{Only}
 use Rattle.journal_model.specs.declared.rows.Row.{Row}
 use Rattle.journal_model.specs.Journal.{events, row_at}
 use Rattle.journal_model.specs.Ticks.{sent_by, sent_again, each_of, notice_again, flight_again, notices_again}
-use Rattle.journal_model.proofs.Among.{Among, any_among, among_front, among_filter}
+use Rattle.rd_base.proofs.lemmas.Among.{Among, any_among, among_front, among_filter}
 use Rattle.journal_model.proofs.FlightKeys.{key_of, flight_key}
-use Rattle.rd_base.proofs.lemmas.Booleans.{neither}
+use Rattle.std.proofs.lemmas.Bool.{or_parts}
+use Rattle.rd_base.proofs.lemmas.Each.{each_one}
 
 -- ---- who stands
 
@@ -41,21 +42,16 @@ none_added : (n : Note) → is_turning n ≡ false → watched_by n ≡ []
 none_added (note.Watched x) h = absurd (false≢true (sym h))
 none_added _ h = refl
 
--- what holds of all holds of each
-each_so : {X : Type 0} (P : X → Type 0) → ((x : X) → P x) → (xs : List X) → AllByRecursion P xs
-each_so P h [] = tt
-each_so P h (x ∷ xs) = (h x, each_so P h xs)
-
 -- where none is added or removed, the same stand
 pub observers_same : (place moment word : ℕ) (notes : List Note) (before : List Event) → list_any is_turning notes ≡ false → observers (noted place moment word notes before) ≡ observers before
 unfolding observers
 observers_same place moment word [] before quiet = refl
 observers_same place moment word (n ∷ notes) before quiet =
-    let both = neither (is_turning n) (list_any is_turning notes) quiet in
+    let both = or_parts (is_turning n) (list_any is_turning notes) quiet in
     observers_same place moment word notes (event_at place moment word n ∷ before) both.1
     ∙ (ap (λ more. filter (λ o. not (is_end_of n (name_of o))) (observers before) ++ more) (none_added n both.0)
     ∙ (append-nil (filter (λ o. not (is_end_of n (name_of o))) (observers before))
-    ∙ filter_all (λ o. not (is_end_of n (name_of o))) (observers before) (each_so (λ o. not (is_end_of n (name_of o)) ≡ true) (none_ends n both.0) (observers before))))
+    ∙ filter_all (λ o. not (is_end_of n (name_of o))) (observers before) (each_one (λ o. not (is_end_of n (name_of o)) ≡ true) (none_ends n both.0) (observers before))))
 
 -- one whom no note ends stands on
 pub stands_on : (o : Observer) (place moment word : ℕ) (notes : List Note) (before : List Event) → list_any (λ n. is_end_of n (name_of o)) notes ≡ false → Among o (observers before)
@@ -63,7 +59,7 @@ pub stands_on : (o : Observer) (place moment word : ℕ) (notes : List Note) (be
 unfolding observers
 stands_on o place moment word [] before quiet stands = stands
 stands_on o place moment word (n ∷ notes) before quiet stands =
-    let both = neither (is_end_of n (name_of o)) (list_any (λ x. is_end_of x (name_of o)) notes) quiet in
+    let both = or_parts (is_end_of n (name_of o)) (list_any (λ x. is_end_of x (name_of o)) notes) quiet in
     stands_on o place moment word notes (event_at place moment word n ∷ before) both.1
     (among_front o (filter (λ x. not (is_end_of n (name_of x))) (observers before)) (watched_by n)
     (among_filter (λ x. not (is_end_of n (name_of x))) o (observers before) stands (ap not both.0)))

@@ -20,10 +20,10 @@ use Rattle.journal_model.specs.Journal.{events, entries}
 use Rattle.journal_model.specs.Ticks.{notices_again}
 use Rattle.journal_model.specs.Headline.{Placed, has_listing, former_noted, former_of_notice, former_at, observer_named, query_answered, FormedAs}
 use Rattle.headline_law.proofs.sends.BodyAnswers.{Bears, bears_carries}
-use Rattle.journal_model.proofs.Among.{Among, all_among, among_all, find_only}
+use Rattle.rd_base.proofs.lemmas.Among.{Among, all_among, among_all, find_only}
 use Rattle.headline_law.proofs.notes.Asking.{OfWatched, observers_all}
 use Rattle.headline_law.proofs.flights.AgainFacts.{behind_again, again_none}
-use Rattle.rd_base.proofs.lemmas.Booleans.{neither}
+use Rattle.std.proofs.lemmas.Bool.{or_parts}
 
 -- whatever listing a datagram of a row is read to have was formed as the headline says
 abbrev pub Carried : Placed → Peer × List ℕ → Type 0
@@ -40,7 +40,7 @@ is_used _ = false
 pub noted_again : (peer : Peer) (mid : ℕ) (notes : List Note) (here : Placed) → list_any is_used notes ≡ false → list_any (is_again_of peer mid) notes ≡ true
     → former_noted peer mid notes here ≡ former_of_notice peer mid here.before
 noted_again peer mid [] here unused again = absurd (false≢true again)
-noted_again peer mid (n ∷ notes) here unused again = by n (neither (is_used n) (list_any is_used notes) unused) again (λ u a. noted_again peer mid notes here u a)
+noted_again peer mid (n ∷ notes) here unused again = by n (or_parts (is_used n) (list_any is_used notes) unused) again (λ u a. noted_again peer mid notes here u a)
   where
     Rest : Type 0
     Rest = list_any is_used notes ≡ false → list_any (is_again_of peer mid) notes ≡ true → former_noted peer mid notes here ≡ former_of_notice peer mid here.before
@@ -60,8 +60,8 @@ noted_again peer mid (n ∷ notes) here unused again = by n (neither (is_used n)
 pub noted_here : (peer : Peer) (mid : ℕ) (notes : List Note) (here : Placed) → list_any is_used notes ≡ false → list_any (is_again_of peer mid) notes ≡ false → former_noted peer mid notes here ≡ Some here
 noted_here peer mid [] here unused none = refl
 noted_here peer mid (n ∷ notes) here unused none =
-    by n (neither (is_used n) (list_any is_used notes) unused).0 (neither (is_again_of peer mid n) (list_any (is_again_of peer mid) notes) none).0
-    (noted_here peer mid notes here (neither (is_used n) (list_any is_used notes) unused).1 (neither (is_again_of peer mid n) (list_any (is_again_of peer mid) notes) none).1)
+    by n (or_parts (is_used n) (list_any is_used notes) unused).0 (or_parts (is_again_of peer mid n) (list_any (is_again_of peer mid) notes) none).0
+    (noted_here peer mid notes here (or_parts (is_used n) (list_any is_used notes) unused).1 (or_parts (is_again_of peer mid n) (list_any (is_again_of peer mid) notes) none).1)
   where
     by : (x : Note) → is_used x ≡ false → is_again_of peer mid x ≡ false → former_noted peer mid notes here ≡ Some here → former_noted peer mid (x ∷ notes) here ≡ Some here
     by (note.Used p key) u a more = absurd (false≢true (sym u))
@@ -84,7 +84,7 @@ stood rows moment word P all = observers_all P (length rows) moment word (notice
 
     each : (notes : List Note) → list_any is_added notes ≡ false → AllByRecursion (OfWatched P) notes
     each [] h = tt
-    each (n ∷ notes) h = (one n (neither (is_added n) (list_any is_added notes) h).0, each notes (neither (is_added n) (list_any is_added notes) h).1)
+    each (n ∷ notes) h = (one n (or_parts (is_added n) (list_any is_added notes) h).0, each notes (or_parts (is_added n) (list_any is_added notes) h).1)
 
 -- so an observer that stands stood before
 pub stood_before : (rows : List Row) (moment word : ℕ) (o : Observer) → Among o (observers (behind_again rows moment word)) → Among o (observers (events rows))

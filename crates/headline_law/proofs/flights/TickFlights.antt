@@ -18,8 +18,7 @@ use Rattle.journal_model.specs.declared.rows.Row.{Row}
 use Rattle.journal_model.specs.Journal.{events, entries, row_at}
 use Rattle.journal_model.specs.Headline.{last_row, forms_notice}
 use Rattle.headline_law.proofs.sends.BodyAnswers.{IsBodyOf, none_of_any, other_code}
-use Rattle.headline_law.proofs.sends.PlainSteps.{each_append}
-use Rattle.journal_model.proofs.Among.{Among, all_among, among_all}
+use Rattle.rd_base.proofs.lemmas.Among.{Among, all_among, among_all}
 use Rattle.journal_model.proofs.FlightKeys.{flight_key, is_landing, key_same_all}
 use Rattle.headline_law.proofs.flights.Standing.{is_turning, observers_same}
 use Rattle.headline_law.proofs.flights.AgainFacts.{behind_again}
@@ -27,14 +26,15 @@ use Rattle.headline_law.proofs.flights.TickNotices.{is_notice_to, IsNoticeOf, St
 use Rattle.headline_law.proofs.flights.KnownFlights.{NoticeOf, FlightKnown, FlightsKnown, notice_of_row}
 use Rattle.headline_law.proofs.flights.TickCarries.{stood}
 use Rattle.headline_law.proofs.rows.TickRows.{TickRow, requests_none, plain_bodies, as_row}
-use Rattle.rd_base.proofs.lemmas.Booleans.{neither, or_left}
+use Rattle.std.proofs.lemmas.Bool.{or_parts, or_left}
 use Rattle.rd_base.proofs.lemmas.Numbers.{eqb-refl}
+use Rattle.rd_base.proofs.lemmas.Each.{each_append}
 
 -- where no notice goes to a peer, none goes to it with a Message ID
 none_with : (peer : Peer) (mid : ℕ) (notes : List Note) → list_any (is_notice_to peer) notes ≡ false → list_any (forms_notice peer mid) notes ≡ false
 none_with peer mid [] h = refl
 none_with peer mid (n ∷ notes) h =
-    let both = neither (is_notice_to peer n) (list_any (is_notice_to peer) notes) h in
+    let both = or_parts (is_notice_to peer n) (list_any (is_notice_to peer) notes) h in
     rw (by n both.0, none_with peer mid notes both.1) refl
   where
     by : (x : Note) → is_notice_to peer x ≡ false → forms_notice peer mid x ≡ false

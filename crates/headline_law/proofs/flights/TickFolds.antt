@@ -23,7 +23,7 @@ use Rattle.journal_model.specs.Bodies.{is_long}
 use Rattle.journal_model.specs.Ticks.{max_notices, first_block, block_told, listing_for, is_given, is_looked_at, events_with, ticking, noticed_unless, noticed_if, notice_next, notices_again, notices}
 use Rattle.headline_law.proofs.sends.BodyAnswers.{tag-length, body_bears}
 use Rattle.headline_law.proofs.sends.TickSends.{sent_by_found}
-use Rattle.journal_model.proofs.Among.{Among, all_among, among_all, each_weak}
+use Rattle.rd_base.proofs.lemmas.Among.{Among, all_among, among_all, each_weak}
 use Rattle.journal_model.proofs.FlightKeys.{is_landing}
 use Rattle.headline_law.proofs.flights.Standing.{is_turning, Waits, waited}
 use Rattle.headline_law.proofs.flights.AgainFacts.{AgainSent, AgainNoted, again_notes, again_sends, again_none, behind_again, again_key, again_waits}

@@ -22,12 +22,12 @@ use Rattle.journal_model.specs.Ticks.{notices}
 use Rattle.journal_model.specs.Ticks.{notices_again}
 use Rattle.journal_model.specs.Headline.{has_listing, forms_notice}
 use Rattle.headline_law.proofs.sends.BodyAnswers.{IsBodyOf}
-use Rattle.headline_law.proofs.sends.PlainSteps.{each_append}
-use Rattle.journal_model.proofs.Among.{Among}
+use Rattle.rd_base.proofs.lemmas.Among.{Among}
 use Rattle.journal_model.proofs.FlightKeys.{flight_key, is_landing, key_same_all}
 use Rattle.headline_law.proofs.flights.Standing.{is_turning, observers_same, Waits, flies_key}
 use Rattle.headline_law.proofs.flights.AgainFacts.{AgainSent, AgainNoted, behind_again}
-use Rattle.rd_base.proofs.lemmas.Booleans.{or_left}
+use Rattle.std.proofs.lemmas.Bool.{or_left}
+use Rattle.rd_base.proofs.lemmas.Each.{each_append}
 
 -- the note forms a notice to a peer
 abbrev pub is_notice_to : Peer → Note → Bool

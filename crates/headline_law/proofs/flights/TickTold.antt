@@ -21,11 +21,11 @@ use Rattle.journal_model.proofs.StepNotes.{notices_again-notes, requests_again-n
 use Rattle.headline_law.proofs.observers.Knowing.{is_observing}
 use Rattle.headline_law.proofs.observers.Observing.{around}
 use Rattle.headline_law.proofs.observers.ObserversKnow.{Shows, quiet, adds}
-use Rattle.headline_law.proofs.sends.PlainSteps.{each_append}
 use Rattle.headline_law.proofs.notes.Asking.{IsAsking, NoteTold, AreTold, OfWatched}
 use Rattle.journal_model.proofs.FlightKeys.{is_notice}
 use Rattle.headline_law.proofs.flights.AgainFacts.{behind_again}
-use Rattle.rd_base.proofs.lemmas.Booleans.{neither, or_right}
+use Rattle.std.proofs.lemmas.Bool.{or_parts, or_right}
+use Rattle.rd_base.proofs.lemmas.Each.{each_append}
 
 -- notes of a kind that keeps nothing and adds nobody
 kind_told : (kind : Note → Bool) → ((n : Note) → kind n ≡ true → (rows : List Row) (moment : ℕ) → NoteTold (entries rows) moment n) → (rows : List Row) (moment : ℕ) (notes : List Note) → are kind notes ≡ true → AreTold rows moment notes
@@ -87,7 +87,7 @@ tick_told_so false rows moment s asking =
 observing_none : (P : Observer → Type 0) (notes : List Note) → list_any is_observing notes ≡ false → (list_any is_notice notes ≡ false) × AllByRecursion (OfWatched P) notes
 observing_none P [] none = (refl, tt)
 observing_none P (n ∷ notes) none =
-    let both = neither (is_observing n) (list_any is_observing notes) none in
+    let both = or_parts (is_observing n) (list_any is_observing notes) none in
     let rest = observing_none P notes both.1 in
     let it = by n both.0 in
     (rw (it.0, rest.0) refl, (it.1, rest.1))

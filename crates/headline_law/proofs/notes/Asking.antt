@@ -14,7 +14,7 @@ use Rattle.message_model.proofs.KeyLaws.{FitsKey, IsSameRequest, key_of_once}
 use Rattle.record_model.specs.Criteria.{lookup_values}
 use Rattle.history_model.specs.declared.entries.Entry.{Entry}
 use Rattle.history_model.specs.Listing.{listing, tag}
-use Rattle.history_model.proofs.Pairs.{each_filter}
+use Rattle.rd_base.proofs.lemmas.Each.{each_filter, each_append}
 use Rattle.event_model.specs.declared.notes.Note.{Note}
 use Rattle.event_model.specs.declared.notes.Note.TheVariants as note
 use Rattle.event_model.specs.declared.notes.Observer.{Observer}
@@ -30,7 +30,6 @@ use Rattle.journal_model.specs.Bodies.{is_long}
 use Rattle.journal_model.specs.Requests.{kind_of, query_of, asked_block, number_of, szx_of, is_lookup, is_discovery, only_looks, is_later_block, is_heeded, register, deregister}
 use Rattle.journal_model.specs.Looks.{look_effects}
 use Rattle.journal_model.specs.Lookups.{listing_now, block_now, block_of_kept, later_block, removal, without, addition, observer_of, keeping, observed_if, observed, unobserved, observed_by, by_observe, by_block, lookup_effects}
-use Rattle.headline_law.proofs.sends.PlainSteps.{each_append}
 use Rattle.journal_model.proofs.StepNotes.{look_effects-notes}
 
 -- a request with this key asks for this query

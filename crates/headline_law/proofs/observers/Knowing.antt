@@ -1,13 +1,13 @@
 -- What an observer knows: when its listing was last looked at, and that the body it was given is the listing now unless it is due.
 use Rattle.std.proofs.Common.{◌≡◌, ℕ, suc, ◌<◌, ◌==◌, ◌&&◌, ◌||◌, Bool, true, false, not, cond, List, [], ◌∷◌, ◌++◌, length, map, filter, filter_map, Some, refl, sym, ap, ap₂, subst, ◌∙◌, append-nil, bytes_eq, nat_lt, lt-ltb, eqb-true, arith}
 use Rattle.std.specs.List.{list_any, AllByRecursion}
-use Rattle.std.proofs.lemmas.Bool.{false≢true, and_parts}
+use Rattle.std.proofs.lemmas.Bool.{false≢true, and_parts, or_parts}
 use Rattle.std.proofs.lemmas.Slice.Eq.{bytes_eq-Decides}
 use Rattle.rd_base.specs.declared.queries.Query.{Query}
 use Rattle.record_model.specs.ListingLines.{shown}
 use Rattle.history_model.specs.declared.entries.Entry.{Entry}
 use Rattle.history_model.specs.Listing.{all_lines, listing}
-use Rattle.history_model.proofs.Pairs.{each_weaker}
+use Rattle.rd_base.proofs.lemmas.Each.{each_weaker}
 use Rattle.event_model.specs.declared.notes.Note.{Note}
 use Rattle.event_model.specs.declared.notes.Note.TheVariants as note
 use Rattle.event_model.specs.declared.notes.Observer.{Observer}
@@ -49,10 +49,6 @@ unchanged query t h =
     (same_lines (all_lines query t.before t.moment_before) (all_lines query t.after t.moment_after)
     (not_changed (are_same_lines (all_lines query t.before t.moment_before) (all_lines query t.after t.moment_after)) h))
 
-neither : (a b : Bool) → (a || b) ≡ false → (a ≡ false) × (b ≡ false)
-neither true b h = absurd (false≢true (sym h))
-neither false b h = (refl, h)
-
 -- who is due, by the event at which it was last looked at
 due_by : (o : Observer) (past : List Event) (rows_seen : List Transition) (e : Event) → last_event (is_looking_for (name_of o)) past ≡ Some e
     → is_due o past rows_seen ≡ list_any (is_change_of o.query) (filter (λ t. nat_lt e.place t.place) rows_seen)
@@ -67,7 +63,7 @@ known_quiet past rows_seen history more moment later word count notes o known qu
   event = known.event;
   last = last;
   place = let low = known.place in omega (arith, low);
-  knows = λ not_due. last_body_formed-before (name_of o) count later word notes past quiet ∙ given (neither _ _ (counted (sym (due_by o (noted count later word notes past) (t ∷ rows_seen) known.event last) ∙ not_due)));
+  knows = λ not_due. last_body_formed-before (name_of o) count later word notes past quiet ∙ given (or_parts _ _ (counted (sym (due_by o (noted count later word notes past) (t ∷ rows_seen) known.event last) ∙ not_due)));
 }
   where
     t : Transition
@@ -110,7 +106,7 @@ is_observing _ = false
 -- then it does neither of one observer
 pub not_looking : (name : RequestName) (notes : List Note) → list_any is_observing notes ≡ false → list_any (is_looking_for name) notes ≡ false
 not_looking name [] h = refl
-not_looking name (n ∷ notes) h = by n (neither (is_observing n) (list_any is_observing notes) h) (not_looking name notes (neither (is_observing n) (list_any is_observing notes) h).1)
+not_looking name (n ∷ notes) h = by n (or_parts (is_observing n) (list_any is_observing notes) h) (not_looking name notes (or_parts (is_observing n) (list_any is_observing notes) h).1)
   where
     by : (x : Note) → (is_observing x ≡ false) × (list_any is_observing notes ≡ false) → list_any (is_looking_for name) notes ≡ false → (is_looking_for name x || list_any (is_looking_for name) notes) ≡ false
     by (note.Formed peer token body mid) h more = absurd (false≢true (sym h.0))
@@ -119,7 +115,7 @@ not_looking name (n ∷ notes) h = by n (neither (is_observing n) (list_any is_o
 
 pub not_watching : (notes : List Note) → list_any is_observing notes ≡ false → list_any is_watching notes ≡ false
 not_watching [] h = refl
-not_watching (n ∷ notes) h = by n (neither (is_observing n) (list_any is_observing notes) h) (not_watching notes (neither (is_observing n) (list_any is_observing notes) h).1)
+not_watching (n ∷ notes) h = by n (or_parts (is_observing n) (list_any is_observing notes) h) (not_watching notes (or_parts (is_observing n) (list_any is_observing notes) h).1)
   where
     by : (x : Note) → (is_observing x ≡ false) × (list_any is_observing notes ≡ false) → list_any is_watching notes ≡ false → (is_watching x || list_any is_watching notes) ≡ false
     by (note.Watched o) h more = absurd (false≢true (sym h.0))

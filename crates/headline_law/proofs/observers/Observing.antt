@@ -3,7 +3,7 @@ use Rattle.std.proofs.Common.{◌≡◌, ℕ, ◌||◌, Bool, true, false, not, 
 use Rattle.std.specs.List.{list_any, AllByRecursion}
 use Rattle.std.proofs.lemmas.List.Folds.{list_any-append}
 use Rattle.history_model.specs.Listing.{listing}
-use Rattle.history_model.proofs.Pairs.{each_weaker, each_both, each_filter, each_passes, each_push}
+use Rattle.rd_base.proofs.lemmas.Each.{each_weaker, each_both, each_filter, each_passes, each_push}
 use Rattle.event_model.specs.declared.notes.Note.{Note}
 use Rattle.event_model.specs.declared.notes.Note.TheVariants as note
 use Rattle.event_model.specs.declared.notes.Observer.{Observer}

@@ -1,11 +1,11 @@
 -- What observers know behind a tick.
 use Rattle.std.proofs.Common.{◌≡◌, ◌⊎◌, inl, inr, ℕ, ◌+◌, ◌||◌, Bool, true, false, cond, List, [], ◌∷◌, ◌++◌, length, fold, Option, Some, None, refl, sym, ap, subst, ◌∙◌}
 use Rattle.std.specs.List.{list_any}
-use Rattle.std.proofs.lemmas.Bool.{false≢true}
+use Rattle.std.proofs.lemmas.Bool.{false≢true, or_right, or_left}
 use Rattle.std.proofs.lemmas.List.Folds.{list_any-append}
 use Rattle.std.proofs.lemmas.Slice.Eq.{bytes_eq-Decides}
 use Rattle.history_model.specs.Listing.{listing}
-use Rattle.history_model.proofs.Pairs.{each_both}
+use Rattle.rd_base.proofs.lemmas.Each.{each_both}
 use Rattle.event_model.specs.declared.notes.Note.{Note}
 use Rattle.event_model.specs.declared.notes.Note.TheVariants as note
 use Rattle.event_model.specs.declared.notes.Observer.{Observer}
@@ -34,14 +34,6 @@ abbrev pub Told : List Row → ℕ → ℕ → Observer → List Note → Type 0
 Told rows moment word o notes =
     (list_any (is_looking_for (name_of o)) notes ≡ false)
     ⊎ ((list_any (is_looking_for (name_of o)) notes ≡ true) × (last_body_formed (name_of o) (noted (length rows) moment word notes (events rows)) ≡ Some (listing o.query (entries rows) moment)))
-
-or_left : (a b : Bool) → a ≡ true → (a || b) ≡ true
-or_left true b h = refl
-or_left false b h = absurd (false≢true h)
-
-or_right : (a b : Bool) → b ≡ true → (a || b) ≡ true
-or_right true b h = refl
-or_right false b h = h
 
 -- further notes that say nothing of it
 told_quiet : (rows : List Row) (moment word : ℕ) (o : Observer) (notes more : List Note) → list_any (is_looking_for (name_of o)) more ≡ false → Told rows moment word o notes → Told rows moment word o (notes ++ more)

@@ -4,7 +4,7 @@ use Rattle.std.specs.List.{list_any, AllByRecursion}
 use Rattle.std.proofs.lemmas.Bool.{false≢true}
 use Rattle.message_model.specs.Message.{longest_token}
 use Rattle.message_model.specs.Reading.{reading}
-use Rattle.history_model.proofs.Pairs.{each_weaker}
+use Rattle.rd_base.proofs.lemmas.Each.{each_weaker}
 use Rattle.event_model.specs.declared.notes.Note.{Note}
 use Rattle.event_model.specs.declared.notes.Note.TheVariants as note
 use Rattle.event_model.specs.declared.notes.Observer.{Observer}
@@ -32,7 +32,7 @@ use Rattle.headline_law.proofs.sends.TickSends.{requests_plain}
 use Rattle.headline_law.proofs.sends.ValidLaw.{before_all, journal_sends, looks_are_validated}
 use Rattle.headline_law.proofs.sends.RowSends.{Before}
 use Rattle.journal_model.proofs.EventRows.{AllRows, row_within}
-use Rattle.journal_model.proofs.Among.{Among, all_among}
+use Rattle.rd_base.proofs.lemmas.Among.{Among, all_among}
 use Rattle.headline_law.proofs.notes.Asking.{IsAsking, AreTold, OfWatched, observers_all}
 use Rattle.headline_law.proofs.flights.AgainFacts.{behind_again}
 use Rattle.headline_law.proofs.flights.TickNotices.{TickSoFar}

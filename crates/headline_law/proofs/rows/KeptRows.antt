@@ -31,7 +31,7 @@ use Rattle.journal_model.proofs.EventRows.{AllRows, row_of, row_within, said_by}
 use Rattle.headline_law.proofs.notes.Asking.{asks_once, lookup_fits, KeptAt, AreTold, lookup_told_so}
 use Rattle.headline_law.proofs.flights.TickCarries.{Carried}
 use Rattle.headline_law.proofs.rows.RowCarries.{KeptBy, NoteAs, RowCarries, heard_former, heard_query, heard_by, now_carried, told_noted}
-use Rattle.journal_model.proofs.Among.{all_among}
+use Rattle.rd_base.proofs.lemmas.Among.{all_among}
 
 -- ---- kept answers
 

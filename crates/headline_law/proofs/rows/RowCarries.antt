@@ -28,7 +28,7 @@ use Rattle.headline_law.proofs.notes.Asking.{IsAsking, KeptAt, NoteTold, AreTold
 use Rattle.headline_law.proofs.flights.TickCarries.{Carried}
 use Rattle.headline_law.proofs.rows.TickRows.{plain_bodies}
 use Rattle.headline_law.proofs.sends.StepGives.{is_keeping}
-use Rattle.rd_base.proofs.lemmas.Booleans.{neither}
+use Rattle.std.proofs.lemmas.Bool.{or_parts}
 
 -- an answer that is kept at a row: the listing of the query of its key, at the row that formed it
 pub record KeptBy (here : Placed) (key body current : List ℕ) : Type 0 where
@@ -53,7 +53,7 @@ pub record RowCarries (before : List Row) (r : Row) : Type 0 where
 keeps_nothing : (here : Placed) (notes : List Note) → list_any is_keeping notes ≡ false → AllByRecursion (NoteAs here) notes
 keeps_nothing here [] none = tt
 keeps_nothing here (n ∷ notes) none =
-    let both = neither (is_keeping n) (list_any is_keeping notes) none in
+    let both = or_parts (is_keeping n) (list_any is_keeping notes) none in
     (by n both.0, keeps_nothing here notes both.1)
   where
     by : (x : Note) → is_keeping x ≡ false → NoteAs here x
@@ -98,7 +98,7 @@ heard_by step.Tick here h = absurd (false≢true h)
 noted_now : (peer : Peer) (mid : ℕ) (notes : List Note) (here : Placed) → list_any tells_earlier notes ≡ false → former_noted peer mid notes here ≡ Some here
 noted_now peer mid [] here none = refl
 noted_now peer mid (n ∷ notes) here none =
-    by n (neither (tells_earlier n) (list_any tells_earlier notes) none).0 (noted_now peer mid notes here (neither (tells_earlier n) (list_any tells_earlier notes) none).1)
+    by n (or_parts (tells_earlier n) (list_any tells_earlier notes) none).0 (noted_now peer mid notes here (or_parts (tells_earlier n) (list_any tells_earlier notes) none).1)
   where
     by : (x : Note) → tells_earlier x ≡ false → former_noted peer mid notes here ≡ Some here → former_noted peer mid (x ∷ notes) here ≡ Some here
     by (note.Used p key) h more = absurd (false≢true (sym h))

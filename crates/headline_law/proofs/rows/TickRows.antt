@@ -20,9 +20,9 @@ use Rattle.journal_model.specs.Sending.{Effects}
 use Rattle.journal_model.specs.Headline.{former_noted}
 use Rattle.journal_model.proofs.NoteKinds.{of_resent, are, none_of}
 use Rattle.headline_law.proofs.sends.BodyAnswers.{IsBodyOf, other_code}
-use Rattle.headline_law.proofs.sends.PlainSteps.{IsPlain, ArePlain, each_append}
+use Rattle.headline_law.proofs.sends.PlainSteps.{IsPlain, ArePlain}
 use Rattle.headline_law.proofs.sends.TickSends.{FoundSent, sent_by_found, mid_of_confirmable}
-use Rattle.journal_model.proofs.Among.{all_among}
+use Rattle.rd_base.proofs.lemmas.Among.{all_among}
 use Rattle.journal_model.proofs.FlightKeys.{key_of}
 use Rattle.headline_law.proofs.flights.Standing.{Waits}
 use Rattle.headline_law.proofs.flights.AgainFacts.{AgainSent, AgainNoted, behind_again, again_waits}
@@ -30,7 +30,8 @@ use Rattle.headline_law.proofs.flights.TickNotices.{IsNoticeOf, FreshSent, TickS
 use Rattle.headline_law.proofs.flights.TickFolds.{again_peer}
 use Rattle.headline_law.proofs.flights.KnownFlights.{NoticeOf, FlightKnown, FlightsKnown}
 use Rattle.headline_law.proofs.flights.TickCarries.{Carried, is_used, noted_again, noted_here, stood_before, observer_formed}
-use Rattle.rd_base.proofs.lemmas.Booleans.{or_left}
+use Rattle.std.proofs.lemmas.Bool.{or_left}
+use Rattle.rd_base.proofs.lemmas.Each.{each_append}
 
 -- a row of a tick: notices, and then requests of fetches that are sent again
 pub record TickRow (rows : List Row) (r : Row) : Type 0 where

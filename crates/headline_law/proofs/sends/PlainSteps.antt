@@ -39,6 +39,7 @@ use Rattle.journal_model.specs.Writes.{again_answered, admitted_unless, write_un
 use Rattle.journal_model.specs.Rows.{refusal_answered, without_memory, unread_answered}
 use Rattle.journal_model.specs.Headline.{code_at}
 use Rattle.journal_model.proofs.NoteKinds.{are}
+use Rattle.rd_base.proofs.lemmas.Each.{each_append}
 
 -- a code is neither 2.05 nor 2.03
 pub record IsPlainCode (code : ℕ) : Type 0 where
@@ -62,11 +63,6 @@ plain_spelled m plain = plain
 pub plain_answering : (s : Step) (m : Message) (reply : Reply) (notes : List Note) → IsPlainCode reply.code → ArePlain (answering s m reply notes).sent
 unfolding answering
 plain_answering s m reply notes plain = (plain_spelled (answer s m reply) plain, tt)
-
--- one after the other
-pub each_append : {X : Type 0} (P : X → Type 0) (xs ys : List X) → AllByRecursion P xs → AllByRecursion P ys → AllByRecursion P (xs ++ ys)
-each_append P [] ys h k = k
-each_append P (x ∷ xs) ys h k = (h.0, each_append P xs ys h.1 k)
 
 -- ---- refusals
 

@@ -32,7 +32,7 @@ use Rattle.headline_law.proofs.sends.ValidSends.{NoneValid, AreCalm, look_valid,
 use Rattle.journal_model.proofs.EventRows.{AllRows, RowOf, row_of, row_within, said_by}
 use Rattle.headline_law.proofs.sends.TickSends.{AskedPlain}
 use Rattle.headline_law.proofs.sends.RowSends.{NoteFact, Before, StepSends, effects_send}
-use Rattle.journal_model.proofs.Among.{all_among}
+use Rattle.rd_base.proofs.lemmas.Among.{all_among}
 
 -- ---- all rows of a journal
 

@@ -1,9 +1,8 @@
--- What filters keep of changed lists, and lists that are made one element after the other.
-use Rattle.std.proofs.Common.{◌≡◌, ℕ, ◌≤◌, ◌+◌, Bool, true, false, cond, List, [], ◌∷◌, ◌++◌, length, map, filter, find, sum_by, Some, refl, sym, ap, subst, ◌⊎◌, inl, inr, append_assoc, append-nil, arith}
-use Rattle.std.specs.List.{AllByRecursion}
+-- What filters keep of lists, and of lists that change.
+use Rattle.std.proofs.Common.{◌≡◌, ℕ, ◌≤◌, ◌+◌, Bool, true, false, cond, List, [], ◌∷◌, ◌||◌, length, map, filter, find, sum_by, Some, refl, sym, ap, ◌∙◌, arith}
+use Rattle.std.specs.List.{list_any, AllByRecursion}
 use Rattle.std.proofs.lemmas.List.Sums.{sum_by-cons}
-
--- ---- filters
+use Rattle.std.proofs.lemmas.Bool.{false≢true}
 
 -- a filter that keeps each element
 pub filter_all : {X : Type 0} (test : X → Bool) (xs : List X) → AllByRecursion (λ x. test x ≡ true) xs → filter test xs ≡ xs
@@ -78,28 +77,18 @@ find-filter wanted test kept (x ∷ xs) = by (test x) (wanted x) refl refl (find
     by false true t w more = absurd (let there = kept x w in cc)
     by false false t w more = more
 
--- ---- one element after the other
+-- a filter that keeps none
+pub filter_none : {X : Type 0} (test : X → Bool) (xs : List X) → AllByRecursion (λ x. test x ≡ false) xs → filter test xs ≡ []
+filter_none test [] h = refl
+filter_none test (x ∷ xs) h = rw (h.0) (filter_none test xs h.1)
 
--- what holds of the empty list, and with one element more at the end, holds of each
-pub by_pushes : {X : Type 0} (P : List X → Type 0) → P [] → ((xs : List X) (x : X) → P xs → P (xs ++ x ∷ [])) → (xs : List X) → P xs
-by_pushes {X} P none push xs = from [] xs none
+-- what a test finds is found after a filter that keeps it
+pub any_kept : {X : Type 0} (test keep : X → Bool) → ((x : X) → test x ≡ true → keep x ≡ true) → (xs : List X) → list_any test (filter keep xs) ≡ list_any test xs
+any_kept test keep kept_too [] = refl
+any_kept {X} test keep kept_too (x ∷ xs) = by (test x) (keep x) refl refl (any_kept test keep kept_too xs)
   where
-    from : (front rest : List X) → P front → P (front ++ rest)
-    from front [] h = subst P (sym (append-nil front)) h
-    from front (x ∷ rest) h = subst P (append_assoc front (x ∷ []) rest) (from (front ++ x ∷ []) rest (push front x h))
-
--- a place in a list with one element more: it is the last, or it is one before
-pub push_cases : {X : Type 0} (before after xs : List X) (x last : X) → before ++ x ∷ after ≡ xs ++ last ∷ []
-    → ((before ≡ xs) × (x ≡ last)) ⊎ ((rest : List X) × (before ++ x ∷ rest ≡ xs))
-push_cases [] after [] x last e = inl (refl, cc)
-push_cases [] after (y ∷ ys) x last e = let same : x ≡ y = cc in inr (ys, ap (λ z. z ∷ ys) same)
-push_cases {X} (b ∷ bs) after [] x last e = let none : bs ++ x ∷ after ≡ [] = cc in absurd (nothing bs none)
-  where
-    nothing : (front : List X) → front ++ x ∷ after ≡ [] → ⊥
-    nothing [] same = cc
-    nothing (f ∷ fs) same = cc
-push_cases {X} (b ∷ bs) after (y ∷ ys) x last e = let rest : bs ++ x ∷ after ≡ ys ++ last ∷ [] = cc in let first : b ≡ y = cc in behind first (push_cases bs after ys x last rest)
-  where
-    behind : b ≡ y → ((bs ≡ ys) × (x ≡ last)) ⊎ ((rest : List X) × (bs ++ x ∷ rest ≡ ys)) → ((b ∷ bs ≡ y ∷ ys) × (x ≡ last)) ⊎ ((rest : List X) × (b ∷ bs ++ x ∷ rest ≡ y ∷ ys))
-    behind first (inl both) = inl (let same = both.0 in cc, both.1)
-    behind first (inr more) = inr (more.0, let same = more.1 in cc)
+    by : (t k : Bool) → test x ≡ t → keep x ≡ k → list_any test (filter keep xs) ≡ list_any test xs → list_any test (cond k (x ∷ filter keep xs) (filter keep xs)) ≡ (t || list_any test xs)
+    by true true t k more = rw t refl
+    by true false t k more = absurd (false≢true (sym k ∙ kept_too x t))
+    by false true t k more = rw t more
+    by false false t k more = more
