@@ -1,9 +1,9 @@
-pub mod ChangingSteps
+pub mod ChangeEntries
 pub mod QuietSteps
 pub mod RowLaws
 pub mod JournalLaws
 pub mod AnswerLaws
-pub mod Origins
+pub mod EntryOrigins
 pub mod TagStates
 pub mod CommitLaws
 pub mod Admitting

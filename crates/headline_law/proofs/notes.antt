@@ -1,2 +1,3 @@
 pub mod ChangingNotes
 pub mod Asking
+pub mod SilentSteps

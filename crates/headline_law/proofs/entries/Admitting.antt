@@ -3,12 +3,9 @@ use Rattle.std.proofs.Common.{◌≡◌, ℕ, ◌==◌, ◌&&◌, ◌||◌, Bool
 use Rattle.std.specs.List.{list_any}
 use Rattle.std.proofs.lemmas.Bool.{and_parts, false≢true}
 use Rattle.rd_base.specs.declared.peers.Peer.{Peer}
-use Rattle.message_model.specs.declared.messages.Kind4.{Kind4}
-use Rattle.message_model.specs.declared.messages.Kind4.TheVariants.{Con, Non, Ack, Rst}
 use Rattle.message_model.specs.declared.messages.Role.{Role}
 use Rattle.message_model.specs.declared.messages.Role.TheVariants as role
 use Rattle.message_model.specs.declared.messages.Unread.{Unread}
-use Rattle.message_model.specs.declared.messages.Unread.TheVariants as unread
 use Rattle.message_model.specs.declared.requests.Path.{Path}
 use Rattle.message_model.specs.declared.requests.Path.TheVariants as path
 use Rattle.message_model.specs.Message.{Message, role_of}
@@ -33,10 +30,11 @@ use Rattle.journal_model.specs.Empties.{acknowledged, reset}
 use Rattle.journal_model.specs.Responses.{response_effects}
 use Rattle.journal_model.specs.Ticks.{tick_effects}
 use Rattle.journal_model.specs.Writes.{again_answered, admitted_unless, write_unless, write_effects}
-use Rattle.journal_model.specs.Rows.{served, refusal_answered, request_by, by_role, unread_answered, heard, looked, done, kept_body, effects, row_moment, row}
+use Rattle.journal_model.specs.Rows.{served, request_by, by_role, heard, done, kept_body, effects, row_moment, row}
 use Rattle.journal_model.specs.Headline.{admits}
 use Rattle.journal_model.proofs.NoteKinds.{of_lookup, of_empty, of_tick, of_commit, of_response, are, none_of}
 use Rattle.journal_model.proofs.StepNotes.{look_effects-notes, keep_effects-notes, lookup_effects-notes, acknowledged-notes, reset-notes, tick_effects-notes}
+use Rattle.headline_law.proofs.notes.SilentSteps.{refusal_notes, unread_notes, looked_notes}
 use Rattle.headline_law.proofs.notes.ChangingNotes.{commit_effects-notes, response_effects-notes}
 
 -- one of the notes admits a write of a peer and a Message ID
@@ -98,14 +96,7 @@ served_admits path.Other rows moment s m peer mid = nothing_noted rows moment pe
 -- a request as it is heard
 request_admits : (refusal : Option Reply) (rows : List Row) (moment : ℕ) (s : Step) (m : Message) (peer : Peer) (mid : ℕ) → Admits rows moment peer mid (request_by refusal rows moment s m).notes
 unfolding answering
-request_admits (Some refusal) rows moment s m peer mid = nothing_noted rows moment peer mid _ (by m.kind (first_bad_option m.options))
-  where
-    by : (k : Kind4) (bad : Option ℕ) → (refusal_answered k bad s m refusal).notes ≡ []
-    by Non (Some number) = refl
-    by Non None = refl
-    by Con bad = refl
-    by Ack bad = refl
-    by Rst bad = refl
+request_admits (Some refusal) rows moment s m peer mid = nothing_noted rows moment peer mid _ (refusal_notes m.kind (first_bad_option m.options) s m refusal)
 request_admits None rows moment s m peer mid = served_admits (path_in m) rows moment s m peer mid
 
 -- a message that is heard
@@ -120,15 +111,6 @@ role_admits role.Response true rows moment s m peer mid = nothing_noted rows mom
 role_admits role.Response false rows moment s m peer mid = never_of of_response (λ p n. refl) rows moment peer mid (response_effects rows moment s m).notes (response_effects-notes rows moment s m)
 role_admits role.Ignored starved rows moment s m peer mid = nothing_noted rows moment peer mid [] refl
 
--- what is no message
-pub unread_notes : (s : Step) (fault : Unread) → (unread_answered s fault).notes ≡ []
-unread_notes s unread.Short = refl
-unread_notes s unread.Version = refl
-unread_notes s (unread.Format Con mid) = refl
-unread_notes s (unread.Format Non mid) = refl
-unread_notes s (unread.Format Ack mid) = refl
-unread_notes s (unread.Format Rst mid) = refl
-
 -- any step
 effects_admit : (kind : StepKind) (starved : Bool) (rows : List Row) (moment : ℕ) (s : Step) (peer : Peer) (mid : ℕ) → Admits rows moment peer mid (effects kind starved rows moment s).notes
 unfolding effects answering
@@ -137,12 +119,7 @@ effects_admit step.Admit starved rows moment s peer mid = by (reading s.datagram
     by : (read : Result Message Unread) → Admits rows moment peer mid (heard starved rows moment s read).notes
     by (Err fault) = nothing_noted rows moment peer mid _ (unread_notes s fault)
     by (Ok m) = role_admits (role_of m.kind m.code) starved rows moment s m peer mid
-effects_admit step.Look starved rows moment s peer mid = nothing_noted rows moment peer mid _ (by starved (reading s.datagram))
-  where
-    by : (b : Bool) (read : Result Message Unread) → (looked b rows moment s read).notes ≡ []
-    by b (Err fault) = refl
-    by true (Ok m) = refl
-    by false (Ok m) = look_effects-notes (entries rows) moment s m
+effects_admit step.Look starved rows moment s peer mid = nothing_noted rows moment peer mid _ (looked_notes starved rows moment s (reading s.datagram))
 effects_admit (step.Commit place) starved rows moment s peer mid = never_of of_commit (λ p n. refl) rows moment peer mid (done starved rows moment place s (reading s.datagram)).notes (by starved (reading s.datagram))
   where
     by : (b : Bool) (read : Result Message Unread) → are of_commit (done b rows moment place s read).notes ≡ true

@@ -12,7 +12,7 @@ use Rattle.journal_model.specs.Headline.{Within, Commits, IsCompletion, is_telli
 use Rattle.journal_model.proofs.EntriesNoted.{entries_in}
 use Rattle.headline_law.proofs.entries.JournalLaws.{Made, each_row, journal-HasHistory, journal-single}
 use Rattle.headline_law.proofs.entries.AnswerLaws.{Weighs, quiet, loud, commit-Weighs}
-use Rattle.headline_law.proofs.entries.Origins.{row-origin}
+use Rattle.headline_law.proofs.entries.RowLaws.{row-origin}
 use Rattle.headline_law.proofs.entries.CommitLaws.{journal-once}
 use Rattle.headline_law.proofs.entries.FailedLaws.{journal-failed}
 

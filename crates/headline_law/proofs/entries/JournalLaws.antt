@@ -12,7 +12,7 @@ use Rattle.journal_model.specs.Rows.{row}
 use Rattle.journal_model.specs.Machine.{MayMake, IsJournal, begun, made}
 use Rattle.journal_model.specs.Headline.{Within}
 use Rattle.journal_model.proofs.EntriesNoted.{entries_in, NotesNext, none, one}
-use Rattle.headline_law.proofs.entries.RowLaws.{row-TellsNext, row-single, row-moment_latest}
+use Rattle.headline_law.proofs.entries.RowLaws.{row-NotesNext, row-single, row-moment_latest}
 
 -- a row of a journal: it is that of a step that might be made behind the rows before it, which are a journal too
 pub record Made (before : List Row) (r : Row) : Type 0 where
@@ -73,7 +73,7 @@ pub journal-HasHistory : (rows : List Row) → IsJournal rows → HasHistory row
 unfolding entries latest
 journal-HasHistory [] begun = record { legal = IsLegalFrom-nil 0; in_time = rw last_moment-nil (omega arith) }
 journal-HasHistory (r ∷ before) (made {rows} {s} starved journal may) =
-    history_step before (row before s starved) (row-TellsNext before s starved) (row-moment_latest before s starved) (journal-HasHistory before journal)
+    history_step before (row before s starved) (row-NotesNext before s starved) (row-moment_latest before s starved) (journal-HasHistory before journal)
 
 -- each row of a journal has at most one entry
 pub journal-single : (rows before : List Row) (r : Row) → IsJournal rows → Within rows before r → length (entries_of r) ≤ 1

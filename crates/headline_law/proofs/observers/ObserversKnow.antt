@@ -5,12 +5,9 @@ use Rattle.std.proofs.lemmas.Bool.{false≢true}
 use Rattle.std.proofs.lemmas.List.Folds.{list_any-append}
 use Rattle.std.proofs.lemmas.List.Elements.{All-from_recursion}
 use Rattle.rd_base.specs.declared.peers.Peer.{Peer}
-use Rattle.message_model.specs.declared.messages.Kind4.{Kind4}
-use Rattle.message_model.specs.declared.messages.Kind4.TheVariants.{Con, Non, Ack, Rst}
 use Rattle.message_model.specs.declared.messages.Role.{Role}
 use Rattle.message_model.specs.declared.messages.Role.TheVariants as role
 use Rattle.message_model.specs.declared.messages.Unread.{Unread}
-use Rattle.message_model.specs.declared.messages.Unread.TheVariants as unread
 use Rattle.message_model.specs.declared.requests.Path.{Path}
 use Rattle.message_model.specs.declared.requests.Path.TheVariants as path
 use Rattle.message_model.specs.Message.{Message, role_of}
@@ -40,13 +37,14 @@ use Rattle.journal_model.specs.Writes.{write_effects}
 use Rattle.journal_model.specs.Commits.{commit_effects}
 use Rattle.journal_model.specs.Empties.{acknowledged, reset}
 use Rattle.journal_model.specs.Responses.{response_effects}
-use Rattle.journal_model.specs.Rows.{served, refusal_answered, request_by, by_role, unread_answered, heard, looked, done, kept_body, effects, row_moment, row}
+use Rattle.journal_model.specs.Rows.{served, refusal_answered, request_by, by_role, unread_answered, heard, done, kept_body, effects, row_moment, row}
 use Rattle.journal_model.specs.Machine.{IsJournal, begun, made}
 use Rattle.journal_model.specs.Headline.{ObserversKnow}
 use Rattle.journal_model.proofs.EntriesNoted.{entries_in}
 use Rattle.journal_model.proofs.NoteKinds.{of_write, of_empty, of_commit, of_response, are, none_of}
 use Rattle.journal_model.proofs.StepNotes.{look_effects-notes, keep_effects-notes, write_effects-notes, acknowledged-notes, reset-notes}
 use Rattle.headline_law.proofs.entries.QuietSteps.{lookup_effects-entries_in}
+use Rattle.headline_law.proofs.notes.SilentSteps.{refusal_notes, unread_notes, looked_notes}
 use Rattle.headline_law.proofs.notes.ChangingNotes.{commit_effects-notes, response_effects-notes}
 use Rattle.headline_law.proofs.observers.Knowing.{KnownIn, AllKnown, is_observing, quiet_row, look_row}
 use Rattle.headline_law.proofs.observers.Observing.{around, observed_row}
@@ -141,14 +139,8 @@ served_shows path.Other rows moment s m = quiet refl
 -- a request as it is heard
 request_shows : (refusal : Option Reply) (rows : List Row) (moment : ℕ) (s : Step) (m : Message) → Shows rows moment (request_by refusal rows moment s m).notes
 unfolding answering
-request_shows (Some refusal) rows moment s m = nothing_shown rows moment (refusal_answered m.kind (first_bad_option m.options) s m refusal).notes (by m.kind (first_bad_option m.options))
-  where
-    by : (k : Kind4) (bad : Option ℕ) → (refusal_answered k bad s m refusal).notes ≡ []
-    by Non (Some number) = refl
-    by Non None = refl
-    by Con bad = refl
-    by Ack bad = refl
-    by Rst bad = refl
+request_shows (Some refusal) rows moment s m =
+    nothing_shown rows moment (refusal_answered m.kind (first_bad_option m.options) s m refusal).notes (refusal_notes m.kind (first_bad_option m.options) s m refusal)
 request_shows None rows moment s m = served_shows (path_in m) rows moment s m
 
 -- a message that is heard
@@ -162,15 +154,6 @@ role_shows role.Request false rows moment s m = request_shows (refusal_by_reques
 role_shows role.Response true rows moment s m = quiet refl
 role_shows role.Response false rows moment s m = quiet (quiet_of of_response (λ o. refl) (λ p t b n. refl) (λ p t. refl) (response_effects rows moment s m).notes (response_effects-notes rows moment s m))
 role_shows role.Ignored starved rows moment s m = quiet refl
-
--- what is no message
-unread_notes : (s : Step) (fault : Unread) → (unread_answered s fault).notes ≡ []
-unread_notes s unread.Short = refl
-unread_notes s unread.Version = refl
-unread_notes s (unread.Format Con mid) = refl
-unread_notes s (unread.Format Non mid) = refl
-unread_notes s (unread.Format Ack mid) = refl
-unread_notes s (unread.Format Rst mid) = refl
 
 -- a datagram that is heard, a commit, and a keep
 pub heard_shows : (starved : Bool) (rows : List Row) (moment : ℕ) (s : Step) (read : Result Message Unread) → Shows rows moment (heard starved rows moment s read).notes
@@ -188,13 +171,6 @@ unfolding answering
 kept_shows starved rows moment s (Err fault) body tag = quiet refl
 kept_shows true rows moment s (Ok m) body tag = quiet refl
 kept_shows false rows moment s (Ok m) body tag = quiet (ap (list_any is_observing) (keep_effects-notes s m body tag))
-
--- a look notes nothing
-pub looked_notes : (starved : Bool) (rows : List Row) (moment : ℕ) (s : Step) (read : Result Message Unread) → (looked starved rows moment s read).notes ≡ []
-unfolding answering
-looked_notes starved rows moment s (Err fault) = refl
-looked_notes true rows moment s (Ok m) = refl
-looked_notes false rows moment s (Ok m) = look_effects-notes (entries rows) moment s m
 
 -- behind a row that shows so much, each observer that stands knows
 shown_row : (rows : List Row) (r : Row) → is_desk_row r ≡ true → Shows rows r.moment.0 r.notes → AllKnown rows → AllKnown (r ∷ rows)

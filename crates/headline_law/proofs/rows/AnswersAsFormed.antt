@@ -27,7 +27,8 @@ use Rattle.headline_law.proofs.observers.Knowing.{is_observing}
 use Rattle.headline_law.proofs.sends.PlainSteps.{ArePlain}
 use Rattle.headline_law.proofs.entries.QuietSteps.{tick_effects-entries_in}
 use Rattle.headline_law.proofs.observers.Observing.{entries-none_noted}
-use Rattle.headline_law.proofs.observers.ObserversKnow.{Shows, quiet, heard_shows, done_shows, kept_shows, looked_notes, of_all}
+use Rattle.headline_law.proofs.observers.ObserversKnow.{Shows, quiet, heard_shows, done_shows, kept_shows, of_all}
+use Rattle.headline_law.proofs.notes.SilentSteps.{looked_notes}
 use Rattle.headline_law.proofs.sends.TickSends.{requests_plain}
 use Rattle.headline_law.proofs.sends.ValidLaw.{before_all, journal_sends, looks_are_validated}
 use Rattle.headline_law.proofs.sends.RowSends.{Before}

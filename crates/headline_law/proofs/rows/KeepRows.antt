@@ -22,7 +22,7 @@ use Rattle.journal_model.specs.Headline.{Placed, look_of, former_by, former_at, 
 use Rattle.journal_model.proofs.EntriesNoted.{entries_in}
 use Rattle.journal_model.proofs.StepNotes.{keep_effects-notes}
 use Rattle.headline_law.proofs.observers.Observing.{entries-none_noted}
-use Rattle.headline_law.proofs.observers.ObserversKnow.{looked_notes}
+use Rattle.headline_law.proofs.notes.SilentSteps.{looked_notes}
 use Rattle.headline_law.proofs.entries.JournalLaws.{Made, each_row}
 use Rattle.journal_model.proofs.Jobs.{KeepsOf, keeps_of}
 use Rattle.headline_law.proofs.sends.ReadAgain.{header_read}

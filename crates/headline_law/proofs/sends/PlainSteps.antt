@@ -39,7 +39,6 @@ use Rattle.journal_model.specs.Writes.{again_answered, admitted_unless, write_un
 use Rattle.journal_model.specs.Rows.{refusal_answered, without_memory, unread_answered}
 use Rattle.journal_model.specs.Headline.{code_at}
 use Rattle.journal_model.proofs.NoteKinds.{are}
-use Rattle.rd_base.proofs.lemmas.Each.{each_append}
 
 -- a code is neither 2.05 nor 2.03
 pub record IsPlainCode (code : ℕ) : Type 0 where

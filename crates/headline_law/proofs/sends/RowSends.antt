@@ -4,8 +4,6 @@ use Rattle.std.specs.List.{AllByRecursion}
 use Rattle.std.proofs.lemmas.Bool.{false≢true, and_parts}
 use Rattle.rd_base.specs.declared.peers.Peer.{Peer}
 use Rattle.rd_base.specs.declared.parameters.RegParams.{RegParams}
-use Rattle.message_model.specs.declared.messages.Kind4.{Kind4}
-use Rattle.message_model.specs.declared.messages.Kind4.TheVariants.{Con, Non, Ack, Rst}
 use Rattle.message_model.specs.declared.messages.Role.{Role}
 use Rattle.message_model.specs.declared.messages.Role.TheVariants as role
 use Rattle.message_model.specs.declared.messages.Unread.{Unread}
@@ -34,12 +32,12 @@ use Rattle.journal_model.specs.Lookups.{lookup_effects}
 use Rattle.journal_model.specs.Writes.{write_effects}
 use Rattle.journal_model.specs.Empties.{acknowledged, reset}
 use Rattle.journal_model.specs.Responses.{response_effects}
-use Rattle.journal_model.specs.Rows.{served, refusal_answered, request_by, without_memory, by_role, heard, looked, done, kept_body, effects}
+use Rattle.journal_model.specs.Rows.{served, request_by, without_memory, by_role, heard, looked, done, kept_body, effects}
 use Rattle.journal_model.specs.Machine.{is_look_message, is_look_reading}
 use Rattle.journal_model.proofs.NoteKinds.{of_lookup, of_write, of_empty, of_tick, of_response, are}
 use Rattle.journal_model.proofs.StepNotes.{look_effects-notes, keep_effects-notes, lookup_effects-notes, write_effects-notes, acknowledged-notes, reset-notes, tick_effects-notes}
 use Rattle.headline_law.proofs.notes.ChangingNotes.{response_effects-notes}
-use Rattle.headline_law.proofs.entries.Admitting.{unread_notes}
+use Rattle.headline_law.proofs.notes.SilentSteps.{refusal_notes, unread_notes}
 use Rattle.headline_law.proofs.sends.PlainSteps.{IsPlain, ArePlain, SettledPlain, SettlesPlainly, refusal_plain, refused_plain, starved_plain, unread_plain, write_plain, never_settles}
 use Rattle.headline_law.proofs.sends.PlainCommits.{commit_plain, response_plain}
 use Rattle.headline_law.proofs.sends.ValidSends.{NoneValid, AreCalm, none_calm, look_calm, keep_not_valid, lookup_not_valid}
@@ -95,13 +93,6 @@ request_sends : (rows : List Row) (moment : ℕ) (s : Step) (m : Message) → Be
 unfolding served answering is_look_request
 request_sends rows moment s m past other = by (refusal_by_request m) refl
   where
-    noted : (k : Kind4) (bad : Option ℕ) (reply : Reply) → (refusal_answered k bad s m reply).notes ≡ []
-    noted Non (Some number) reply = refl
-    noted Non None reply = refl
-    noted Con bad reply = refl
-    noted Ack bad reply = refl
-    noted Rst bad reply = refl
-
     not_only : refusal_by_request m ≡ None → only_looks m ≡ false
     not_only none = sym (rw none refl) ∙ other
 
@@ -125,7 +116,7 @@ request_sends rows moment s m past other = by (refusal_by_request m) refl
     on path.Other is looks = record { none_valid = tt; facts = tt }
 
     by : (refusal : Option Reply) → refusal_by_request m ≡ refusal → Sends (request_by refusal rows moment s m).sent (request_by refusal rows moment s m).notes
-    by (Some refusal) e = bare_sends _ _ (refused_plain m.kind (first_bad_option m.options) s m refusal (refusal_plain m refusal e)) (noted m.kind (first_bad_option m.options) refusal)
+    by (Some refusal) e = bare_sends _ _ (refused_plain m.kind (first_bad_option m.options) s m refusal (refusal_plain m refusal e)) (refusal_notes m.kind (first_bad_option m.options) s m refusal)
     by None e = on (path_in m) refl (not_only e)
 
 -- a message that is heard, and is no look

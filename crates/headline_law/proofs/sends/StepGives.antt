@@ -3,8 +3,6 @@ use Rattle.std.proofs.Common.{◌≡◌, ℕ, Bool, true, false, List, [], Optio
 use Rattle.std.specs.List.{list_any}
 use Rattle.std.proofs.lemmas.Bool.{false≢true}
 use Rattle.rd_base.specs.declared.peers.Peer.{Peer}
-use Rattle.message_model.specs.declared.messages.Kind4.{Kind4}
-use Rattle.message_model.specs.declared.messages.Kind4.TheVariants.{Con, Non, Ack, Rst}
 use Rattle.message_model.specs.declared.messages.Role.{Role}
 use Rattle.message_model.specs.declared.messages.Role.TheVariants as role
 use Rattle.message_model.specs.declared.messages.Unread.{Unread}
@@ -31,11 +29,11 @@ use Rattle.journal_model.specs.Commits.{commit_effects}
 use Rattle.journal_model.specs.Empties.{acknowledged, reset}
 use Rattle.journal_model.specs.Responses.{response_effects}
 use Rattle.journal_model.specs.Meantime.{is_heard}
-use Rattle.journal_model.specs.Rows.{served, refusal_answered, request_by, by_role, heard, looked, done, kept_body}
+use Rattle.journal_model.specs.Rows.{served, request_by, by_role, heard, looked, done, kept_body}
 use Rattle.journal_model.proofs.NoteKinds.{of_write, of_empty, of_commit, of_response, are, none_of}
 use Rattle.journal_model.proofs.StepNotes.{write_effects-notes, acknowledged-notes, reset-notes}
 use Rattle.headline_law.proofs.notes.ChangingNotes.{commit_effects-notes, response_effects-notes}
-use Rattle.headline_law.proofs.entries.Admitting.{unread_notes}
+use Rattle.headline_law.proofs.notes.SilentSteps.{refusal_notes, unread_notes}
 use Rattle.headline_law.proofs.sends.PlainSteps.{ArePlain, SettledPlain, refusal_plain, refused_plain, starved_plain, unread_plain, write_plain}
 use Rattle.headline_law.proofs.sends.PlainCommits.{commit_plain, response_plain}
 
@@ -71,13 +69,6 @@ request_gives : (rows : List Row) (moment : ℕ) (s : Step) (m : Message) → Se
 unfolding served answering
 request_gives rows moment s m settled hears read = by (refusal_by_request m) refl
   where
-    noted : (k : Kind4) (bad : Option ℕ) (reply : Reply) → (refusal_answered k bad s m reply).notes ≡ []
-    noted Non (Some number) reply = refl
-    noted Non None reply = refl
-    noted Con bad reply = refl
-    noted Ack bad reply = refl
-    noted Rst bad reply = refl
-
     write : Gives rows moment s (write_effects (events rows) moment s m)
     write = plain (write_plain (events rows) moment s m settled) (keeps_none of_write (λ p k b c. refl) (λ o. refl) (write_effects (events rows) moment s m).notes (write_effects-notes (events rows) moment s m))
 
@@ -91,7 +82,7 @@ request_gives rows moment s m settled hears read = by (refusal_by_request m) ref
     on path.Other is = plain tt refl
 
     by : (refusal : Option Reply) → refusal_by_request m ≡ refusal → Gives rows moment s (request_by refusal rows moment s m)
-    by (Some refusal) e = plain (refused_plain m.kind (first_bad_option m.options) s m refusal (refusal_plain m refusal e)) (noted_nothing _ (noted m.kind (first_bad_option m.options) refusal))
+    by (Some refusal) e = plain (refused_plain m.kind (first_bad_option m.options) s m refusal (refusal_plain m refusal e)) (noted_nothing _ (refusal_notes m.kind (first_bad_option m.options) s m refusal))
     by None e = on (path_in m) refl
 
 -- a message that is heard
