@@ -35,9 +35,13 @@ each_row rows before r journal within = newest before r (behind within.later (su
     behind (x ∷ later) j = behind later (newest (later ++ r ∷ before) x j).journal
 
 -- the entries with one row more
-pub entries-row : (before : List Row) (r : Row) → entries (r ∷ before) ≡ entries before ++ entries_in r.notes
+entries-row : (before : List Row) (r : Row) → entries (r ∷ before) ≡ entries before ++ entries_in r.notes
 unfolding entries
 entries-row before r = refl
+
+-- and where it notes none
+pub entries-none_noted : (rows : List Row) (r : Row) → entries_in r.notes ≡ [] → entries (r ∷ rows) ≡ entries rows
+entries-none_noted rows r quiet = entries-row rows r ∙ (ap (λ more. entries rows ++ more) quiet ∙ append-nil (entries rows))
 
 -- the greatest moment with one row more
 pub latest-row : (before : List Row) (r : Row) → r.moment.0 ≤ latest (r ∷ before)

@@ -20,14 +20,14 @@ use Rattle.journal_model.specs.declared.rows.Row.{Row}
 use Rattle.journal_model.specs.Journal.{events}
 use Rattle.journal_model.specs.Sending.{Effects}
 use Rattle.journal_model.specs.Headline.{has_listing, forms_notice}
-use Rattle.rd_base.proofs.lemmas.Among.{Among, each_weak}
+use Rattle.rd_base.proofs.lemmas.Among.{Among}
 use Rattle.journal_model.proofs.FlightKeys.{flight_key, is_landing, key_same_all, key_formed}
 use Rattle.headline_law.proofs.flights.Standing.{is_turning, observers_same, Waits, flies_key}
 use Rattle.headline_law.proofs.flights.AgainFacts.{AgainSent, AgainNoted, behind_again}
 use Rattle.headline_law.proofs.flights.TickNotices.{is_notice_to, IsNoticeOf, Stat, as_before, given, FreshSent, TickSoFar}
 use Rattle.std.proofs.lemmas.Bool.{or_left, or_right}
 use Rattle.rd_base.proofs.lemmas.Numbers.{eqb-refl}
-use Rattle.rd_base.proofs.lemmas.Each.{each_append}
+use Rattle.rd_base.proofs.lemmas.Each.{each_append, each_weaker}
 
 -- a new notice, with what is kept of it
 pub record NewNotice (rows : List Row) (moment word : ℕ) (done : Effects) : Type 0 where
@@ -63,7 +63,7 @@ pub so_far_noticed : (rows : List Row) (moment word : ℕ) (done : Effects) (new
 so_far_noticed rows moment word done new drew it = record {
   stand = ap observers split ∙ (observers_same (length rows) moment word (notes_of new) Before turning ∙ it.stand);
   sends = each_append (λ (d : Peer × List ℕ). (m : Message) → reading d.1 ≡ Ok m → has_listing m ≡ true → Waits d.0 After) done.sent ((new.observer.peer, new.octets) ∷ [])
-      (each_weak (λ d h m e listed. on d.0 (h m e listed)) done.sent it.sends) ((λ m e listed. x_waits), tt);
+      (each_weaker (λ (d : Peer × List ℕ). (m : Message) → reading d.1 ≡ Ok m → has_listing m ≡ true → Waits d.0 Before) (λ (d : Peer × List ℕ). (m : Message) → reading d.1 ≡ Ok m → has_listing m ≡ true → Waits d.0 After) (λ d h m e listed. on d.0 (h m e listed)) done.sent it.sends) ((λ m e listed. x_waits), tt);
   waits_on = λ peer w. on peer (it.waits_on peer w);
   origins = each_append (λ (d : Peer × List ℕ). AgainSent rows moment d ⊎ FreshSent rows moment word d) done.sent ((new.observer.peer, new.octets) ∷ []) it.origins
       (inr (record { observer = new.observer; stands = new.stands; of_peer = refl; body = new.notice; free = λ w. new.free (it.waits_on new.observer.peer w) }), tt);
@@ -160,7 +160,7 @@ so_far_noticed rows moment word done new drew it = record {
         (or_left (is_same_peer new.observer.peer new.observer.peer && new.mid == new.mid) (list_any (forms_notice new.observer.peer new.mid) new.kept)
         (and_from (is_same_peer new.observer.peer new.observer.peer) (new.mid == new.mid) (is_same_peer-refl new.observer.peer) (eqb-refl new.mid))))
         (each_append (λ (d : Peer × List ℕ). is_same_peer d.0 new.observer.peer ≡ true → IsNoticeOf rows moment new.observer d.1) done.sent ((new.observer.peer, new.octets) ∷ [])
-        (each_weak none_before done.sent it.sends) ((λ same. new.notice), tt))
+        (each_weaker (λ (d : Peer × List ℕ). (m : Message) → reading d.1 ≡ Ok m → has_listing m ≡ true → Waits d.0 Before) (λ (d : Peer × List ℕ). is_same_peer d.0 new.observer.peer ≡ true → IsNoticeOf rows moment new.observer d.1) none_before done.sent it.sends) ((λ same. new.notice), tt))
 
     -- the others
     stat : (o : Observer) → Among o (observers (behind_again rows moment word)) → Stat rows moment word o done → Stat rows moment word o (with_notice new drew)

@@ -24,6 +24,7 @@ use Rattle.rd_base.proofs.lemmas.Among.{Among, all_among, among_all, find_only}
 use Rattle.headline_law.proofs.notes.Asking.{OfWatched, observers_all}
 use Rattle.headline_law.proofs.flights.AgainFacts.{behind_again, again_none}
 use Rattle.std.proofs.lemmas.Bool.{or_parts}
+use Rattle.rd_base.proofs.lemmas.Each.{each_failing}
 
 -- whatever listing a datagram of a row is read to have was formed as the headline says
 abbrev pub Carried : Placed → Peer × List ℕ → Type 0
@@ -72,7 +73,7 @@ noted_here peer mid (n ∷ notes) here unused none =
 
 -- who stands behind the first part stood before it
 pub stood : (rows : List Row) (moment word : ℕ) (P : Observer → Type 0) → AllByRecursion P (observers (events rows)) → AllByRecursion P (observers (behind_again rows moment word))
-stood rows moment word P all = observers_all P (length rows) moment word (notices_again rows moment).notes (events rows) (each (notices_again rows moment).notes (again_none is_added (λ p t. refl) (λ p m. refl) rows moment)) all
+stood rows moment word P all = observers_all P (length rows) moment word (notices_again rows moment).notes (events rows) (each_failing is_added (OfWatched P) one (notices_again rows moment).notes (again_none is_added (λ p t. refl) (λ p m. refl) rows moment)) all
   where
     is_added : Note → Bool
     is_added (note.Watched o) = true
@@ -81,10 +82,6 @@ stood rows moment word P all = observers_all P (length rows) moment word (notice
     one : (n : Note) → is_added n ≡ false → OfWatched P n
     one (note.Watched o) h = absurd (false≢true (sym h))
     one _ h = tt
-
-    each : (notes : List Note) → list_any is_added notes ≡ false → AllByRecursion (OfWatched P) notes
-    each [] h = tt
-    each (n ∷ notes) h = (one n (or_parts (is_added n) (list_any is_added notes) h).0, each notes (or_parts (is_added n) (list_any is_added notes) h).1)
 
 -- so an observer that stands stood before
 pub stood_before : (rows : List Row) (moment word : ℕ) (o : Observer) → Among o (observers (behind_again rows moment word)) → Among o (observers (events rows))

@@ -1,5 +1,5 @@
 -- Behind a row of a tick, the notices in flight are known.
-use Rattle.std.proofs.Common.{◌≡◌, ℕ, true, false, List, [], ◌∷◌, length, Option, Some, None, refl, sym, ap, subst, ◌∙◌, arith}
+use Rattle.std.proofs.Common.{◌≡◌, ℕ, true, false, List, ◌∷◌, length, Option, Some, None, refl, sym, ap, subst, ◌∙◌, arith}
 use Rattle.std.specs.Prelude.{is_some}
 use Rattle.std.specs.List.{list_any, AllByRecursion}
 use Rattle.std.proofs.lemmas.List.Folds.{list_any-append}
@@ -25,17 +25,15 @@ use Rattle.headline_law.proofs.flights.AgainFacts.{behind_again}
 use Rattle.headline_law.proofs.flights.TickNotices.{is_notice_to, IsNoticeOf, Stat, as_before, given}
 use Rattle.headline_law.proofs.flights.KnownFlights.{NoticeOf, FlightKnown, FlightsKnown, notice_of_row}
 use Rattle.headline_law.proofs.flights.TickCarries.{stood}
-use Rattle.headline_law.proofs.rows.TickRows.{TickRow, requests_none, plain_bodies, as_row}
-use Rattle.std.proofs.lemmas.Bool.{or_parts, or_left}
+use Rattle.headline_law.proofs.rows.TickRows.{TickRow, requests_none, as_row}
+use Rattle.std.proofs.lemmas.Bool.{or_left}
 use Rattle.rd_base.proofs.lemmas.Numbers.{eqb-refl}
-use Rattle.rd_base.proofs.lemmas.Each.{each_append}
+use Rattle.rd_base.proofs.lemmas.Each.{each_append, none_pass, each_weaker}
+use Rattle.headline_law.proofs.sends.PlainSteps.{IsPlain}
 
 -- where no notice goes to a peer, none goes to it with a Message ID
 none_with : (peer : Peer) (mid : ℕ) (notes : List Note) → list_any (is_notice_to peer) notes ≡ false → list_any (forms_notice peer mid) notes ≡ false
-none_with peer mid [] h = refl
-none_with peer mid (n ∷ notes) h =
-    let both = or_parts (is_notice_to peer n) (list_any (is_notice_to peer) notes) h in
-    rw (by n both.0, none_with peer mid notes both.1) refl
+none_with peer mid notes h = none_pass (is_notice_to peer) (forms_notice peer mid) by notes h
   where
     by : (x : Note) → is_notice_to peer x ≡ false → forms_notice peer mid x ≡ false
     by (note.Formed p token body None) e = refl
@@ -71,8 +69,8 @@ formed_here rows r t o mid noted_so sent = record {
   below = omega arith;
   at_place = rw (eqb-refl (length rows)) refl;
   sent = subst (AllByRecursion To) (sym t.sent)
-      (each_append To t.notified.sent t.requests.sent (each t.notified.sent sent)
-      (plain_bodies To (λ d plain same. none_of_any o.token (listing o.query (entries (r ∷ rows)) r.moment.0) (tag (entries (r ∷ rows)) r.moment.0) d.1 (other_code d.1 plain.no_content)) t.requests.sent t.plain));
+      (each_append To t.notified.sent t.requests.sent (each_weaker (λ (d : Peer × List ℕ). is_same_peer d.0 o.peer ≡ true → IsNoticeOf rows r.moment.0 o d.1) To (λ d h same. as_row rows r o d.1 t.untold (h same)) t.notified.sent sent)
+      (each_weaker (λ (d : Peer × List ℕ). IsPlain d.1) To (λ d plain same. none_of_any o.token (listing o.query (entries (r ∷ rows)) r.moment.0) (tag (entries (r ∷ rows)) r.moment.0) d.1 (other_code d.1 plain.no_content)) t.requests.sent t.plain));
 }
   where
     To : Peer × List ℕ → Type 0
@@ -81,10 +79,6 @@ formed_here rows r t o mid noted_so sent = record {
     here : list_any (forms_notice o.peer mid) r.notes ≡ true
     here = subst (λ ns. list_any (forms_notice o.peer mid) ns ≡ true) (sym t.notes)
         (list_any-append (forms_notice o.peer mid) t.notified.notes t.requests.notes ∙ or_left (list_any (forms_notice o.peer mid) t.notified.notes) (list_any (forms_notice o.peer mid) t.requests.notes) noted_so)
-
-    each : (ds : List (Peer × List ℕ)) → AllByRecursion (λ (d : Peer × List ℕ). is_same_peer d.0 o.peer ≡ true → IsNoticeOf rows r.moment.0 o d.1) ds → AllByRecursion To ds
-    each [] all = tt
-    each (d ∷ ds) all = ((λ same. as_row rows r o d.1 t.untold (all.0 same)), each ds all.1)
 
 -- one that an earlier row formed
 formed_before : (rows : List Row) (r : Row) → (t : TickRow rows r) → (o : Observer) (mid place : ℕ) → list_any (is_notice_to o.peer) t.notified.notes ≡ false → NoticeOf rows o mid place → NoticeOf (r ∷ rows) o mid place

@@ -1,10 +1,10 @@
 -- All notices of a tick, one after the other.
-use Rattle.std.proofs.Common.{◌≡◌, inl, ℕ, ◌+◌, ◌&&◌, ◌≤◌, Bool, true, false, not, cond, List, [], ◌∷◌, ◌++◌, length, fold, Some, refl, sym, ap, subst, ◌∙◌, nat_le}
+use Rattle.std.proofs.Common.{◌≡◌, ◌⊎◌, inl, ℕ, ◌+◌, ◌&&◌, ◌≤◌, Bool, true, false, not, cond, List, [], ◌∷◌, ◌++◌, length, fold, Some, Ok, refl, sym, ap, subst, ◌∙◌, nat_le}
 use Rattle.std.specs.List.{list_any, AllByRecursion}
 use Rattle.std.proofs.lemmas.Bool.{false≢true, and_parts}
 use Rattle.rd_base.specs.declared.peers.Peer.{Peer}
 use Rattle.message_model.specs.declared.messages.Kind4.TheVariants.{Con}
-use Rattle.message_model.specs.Message.{longest_token}
+use Rattle.message_model.specs.Message.{longest_token, Message}
 use Rattle.history_model.specs.Listing.{listing, tag}
 use Rattle.event_model.specs.declared.notes.Note.{Note}
 use Rattle.event_model.specs.declared.notes.Note.TheVariants as note
@@ -23,31 +23,30 @@ use Rattle.journal_model.specs.Bodies.{is_long}
 use Rattle.journal_model.specs.Ticks.{max_notices, first_block, block_told, listing_for, is_given, is_looked_at, events_with, ticking, noticed_unless, noticed_if, notice_next, notices_again, notices}
 use Rattle.headline_law.proofs.sends.BodyAnswers.{tag-length, body_bears}
 use Rattle.headline_law.proofs.sends.TickSends.{sent_by_found}
-use Rattle.rd_base.proofs.lemmas.Among.{Among, all_among, among_all, each_weak}
+use Rattle.rd_base.proofs.lemmas.Among.{Among, all_among, among_all}
 use Rattle.journal_model.proofs.FlightKeys.{is_landing}
 use Rattle.headline_law.proofs.flights.Standing.{is_turning, Waits, waited}
 use Rattle.headline_law.proofs.flights.AgainFacts.{AgainSent, AgainNoted, again_notes, again_sends, again_none, behind_again, again_key, again_waits}
-use Rattle.headline_law.proofs.flights.TickNotices.{is_notice_to, as_before, TickSoFar, so_far_quiet}
+use Rattle.headline_law.proofs.flights.TickNotices.{is_notice_to, as_before, TickSoFar, so_far_quiet, FreshSent}
+use Rattle.message_model.specs.Reading.{reading}
+use Rattle.journal_model.specs.Headline.{has_listing}
 use Rattle.headline_law.proofs.flights.FreshNotices.{NewNotice, so_far_noticed}
+use Rattle.rd_base.proofs.lemmas.Each.{each_one, each_weaker}
 
 -- the peer of what is sent again
 pub again_peer : (rows : List Row) (moment : ℕ) (d : Peer × List ℕ) → (a : AgainSent rows moment d) → d.0 ≡ a.observer.peer
 again_peer rows moment d a =
-    let it = sent_by_found (λ (x : Peer × List ℕ). Unit {0}) (row_at a.flight_is.formed.place rows) a.observer.peer a.flight_is.mid d (λ r at. nothing r.sent) a.found in
+    let it = sent_by_found (λ (x : Peer × List ℕ). Unit {0}) (row_at a.flight_is.formed.place rows) a.observer.peer a.flight_is.mid d (λ r at. each_one (λ (x : Peer × List ℕ). Unit {0}) (λ x. tt) r.sent) a.found in
     (is_same_peer-Decides d.0 a.observer.peer).0 it.to_peer
-  where
-    nothing : (ds : List (Peer × List ℕ)) → AllByRecursion (λ (x : Peer × List ℕ). Unit {0}) ds
-    nothing [] = tt
-    nothing (x ∷ ds) = (tt, nothing ds)
 
 -- behind its first part
 pub tick_begins : (rows : List Row) (moment word : ℕ) → TickSoFar rows moment word (notices_again rows moment)
 tick_begins rows moment word = record {
   stand = refl;
-  sends = each_weak (λ d a m e listed. subst (λ p. Waits p (behind_again rows moment word)) (sym (again_peer rows moment d a)) (again_waits rows moment word a.observer a.flight_is a.again))
+  sends = each_weaker (AgainSent rows moment) (λ (d : Peer × List ℕ). (m : Message) → reading d.1 ≡ Ok m → has_listing m ≡ true → Waits d.0 (behind_again rows moment word)) (λ d a m e listed. subst (λ p. Waits p (behind_again rows moment word)) (sym (again_peer rows moment d a)) (again_waits rows moment word a.observer a.flight_is a.again))
       (notices_again rows moment).sent (again_sends rows moment);
   waits_on = λ peer w. w;
-  origins = each_weak (λ d a. inl a) (notices_again rows moment).sent (again_sends rows moment);
+  origins = each_weaker (AgainSent rows moment) (λ (d : Peer × List ℕ). AgainSent rows moment d ⊎ FreshSent rows moment word d) (λ d a. inl a) (notices_again rows moment).sent (again_sends rows moment);
   stats = λ o stands. as_before (again_key rows moment word o) (λ some. again_none (is_notice_to o.peer) (λ p t. refl) (λ p m. refl) rows moment);
   agains = again_notes rows moment;
   keeps = λ test h. h;

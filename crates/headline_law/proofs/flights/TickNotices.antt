@@ -1,5 +1,5 @@
 -- What a tick forms: at most one notice for a peer, and none while one is in flight to it.
-use Rattle.std.proofs.Common.{◌≡◌, ◌⊎◌, ℕ, ◌&&◌, Bool, true, false, List, [], ◌∷◌, ◌++◌, length, Some, Ok, refl, sym, ap, subst, ◌∙◌, append-nil}
+use Rattle.std.proofs.Common.{◌≡◌, ◌⊎◌, ℕ, ◌&&◌, Bool, true, false, List, [], ◌++◌, length, Some, Ok, refl, sym, ap, subst, ◌∙◌, append-nil}
 use Rattle.std.specs.Prelude.{is_some}
 use Rattle.std.specs.List.{list_any, AllByRecursion}
 use Rattle.std.proofs.lemmas.List.Folds.{list_any-append}
@@ -27,7 +27,7 @@ use Rattle.journal_model.proofs.FlightKeys.{flight_key, is_landing, key_same_all
 use Rattle.headline_law.proofs.flights.Standing.{is_turning, observers_same, Waits, flies_key}
 use Rattle.headline_law.proofs.flights.AgainFacts.{AgainSent, AgainNoted, behind_again}
 use Rattle.std.proofs.lemmas.Bool.{or_left}
-use Rattle.rd_base.proofs.lemmas.Each.{each_append}
+use Rattle.rd_base.proofs.lemmas.Each.{each_append, each_weaker}
 
 -- the note forms a notice to a peer
 abbrev pub is_notice_to : Peer → Note → Bool
@@ -72,7 +72,7 @@ pub so_far_quiet : (rows : List Row) (moment word : ℕ) (done : Effects) (more 
 so_far_quiet rows moment word done more drew forming landing turning notices agains it = record {
   stand = ap observers split ∙ (observers_same (length rows) moment word more Before turning ∙ it.stand);
   sends = subst (AllByRecursion (λ (d : Peer × List ℕ). (m : Message) → reading d.1 ≡ Ok m → has_listing m ≡ true → Waits d.0 After)) (sym (append-nil done.sent))
-      (each_weak (λ d h m e listed. on d.0 (h m e listed)) done.sent it.sends);
+      (each_weaker (λ (d : Peer × List ℕ). (m : Message) → reading d.1 ≡ Ok m → has_listing m ≡ true → Waits d.0 Before) (λ (d : Peer × List ℕ). (m : Message) → reading d.1 ≡ Ok m → has_listing m ≡ true → Waits d.0 After) (λ d h m e listed. on d.0 (h m e listed)) done.sent it.sends);
   waits_on = λ peer w. on peer (it.waits_on peer w);
   origins = subst (AllByRecursion (λ (d : Peer × List ℕ). AgainSent rows moment d ⊎ FreshSent rows moment word d)) (sym (append-nil done.sent)) it.origins;
   stats = λ o stands. stat o (it.stats o stands);
@@ -99,10 +99,6 @@ so_far_quiet rows moment word done more drew forming landing turning notices aga
       of_peer = w.of_peer;
       flies = flies_key w.observer (noted (length rows) moment word (done.notes ++ more) (events rows)) ∙ (ap is_some (key w.observer) ∙ (sym (flies_key w.observer (noted (length rows) moment word done.notes (events rows))) ∙ w.flies));
     }
-
-    each_weak : {P Q : Peer × List ℕ → Type 0} → ((d : Peer × List ℕ) → P d → Q d) → (ds : List (Peer × List ℕ)) → AllByRecursion P ds → AllByRecursion Q ds
-    each_weak h [] all = tt
-    each_weak h (d ∷ ds) all = (h d all.0, each_weak h ds all.1)
 
     stat : (o : Observer) → Stat rows moment word o done → Stat rows moment word o (record { sent = done.sent ++ []; notes = done.notes ++ more; drew = drew })
     stat o (as_before same none) = as_before (key o ∙ same) (λ some. list_any-append (is_notice_to o.peer) done.notes more ∙ rw (none some, notices o.peer) refl)

@@ -24,8 +24,8 @@ use Rattle.headline_law.proofs.observers.ObserversKnow.{Shows, quiet, adds}
 use Rattle.headline_law.proofs.notes.Asking.{IsAsking, NoteTold, AreTold, OfWatched}
 use Rattle.journal_model.proofs.FlightKeys.{is_notice}
 use Rattle.headline_law.proofs.flights.AgainFacts.{behind_again}
-use Rattle.std.proofs.lemmas.Bool.{or_parts, or_right}
-use Rattle.rd_base.proofs.lemmas.Each.{each_append}
+use Rattle.std.proofs.lemmas.Bool.{or_right}
+use Rattle.rd_base.proofs.lemmas.Each.{each_append, none_pass, each_failing}
 
 -- notes of a kind that keeps nothing and adds nobody
 kind_told : (kind : Note → Bool) → ((n : Note) → kind n ≡ true → (rows : List Row) (moment : ℕ) → NoteTold (entries rows) moment n) → (rows : List Row) (moment : ℕ) (notes : List Note) → are kind notes ≡ true → AreTold rows moment notes
@@ -85,17 +85,15 @@ tick_told_so false rows moment s asking =
 
 -- notes that do nothing for observers
 observing_none : (P : Observer → Type 0) (notes : List Note) → list_any is_observing notes ≡ false → (list_any is_notice notes ≡ false) × AllByRecursion (OfWatched P) notes
-observing_none P [] none = (refl, tt)
-observing_none P (n ∷ notes) none =
-    let both = or_parts (is_observing n) (list_any is_observing notes) none in
-    let rest = observing_none P notes both.1 in
-    let it = by n both.0 in
-    (rw (it.0, rest.0) refl, (it.1, rest.1))
+observing_none P notes none = (none_pass is_observing is_notice forms_none notes none, each_failing is_observing (OfWatched P) adds_none notes none)
   where
-    by : (x : Note) → is_observing x ≡ false → (is_notice x ≡ false) × OfWatched P x
-    by (note.Watched o) h = absurd (false≢true (sym h))
-    by (note.Formed peer token body mid) h = absurd (false≢true (sym h))
-    by _ h = (refl, tt)
+    forms_none : (x : Note) → is_observing x ≡ false → is_notice x ≡ false
+    forms_none (note.Formed peer token body mid) h = absurd (false≢true (sym h))
+    forms_none _ h = refl
+
+    adds_none : (x : Note) → is_observing x ≡ false → OfWatched P x
+    adds_none (note.Watched o) h = absurd (false≢true (sym h))
+    adds_none _ h = tt
 
 -- what a row that is no tick forms for observers: no notice, and something for whomever it adds
 pub record FormsFirst (notes : List Note) : Type 0 where

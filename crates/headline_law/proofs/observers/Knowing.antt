@@ -1,13 +1,13 @@
 -- What an observer knows: when its listing was last looked at, and that the body it was given is the listing now unless it is due.
-use Rattle.std.proofs.Common.{◌≡◌, ℕ, suc, ◌<◌, ◌==◌, ◌&&◌, ◌||◌, Bool, true, false, not, cond, List, [], ◌∷◌, ◌++◌, length, map, filter, filter_map, Some, refl, sym, ap, ap₂, subst, ◌∙◌, append-nil, bytes_eq, nat_lt, lt-ltb, eqb-true, arith}
+use Rattle.std.proofs.Common.{◌≡◌, ℕ, suc, ◌<◌, ◌==◌, ◌&&◌, ◌||◌, Bool, true, false, cond, List, [], ◌∷◌, ◌++◌, length, map, filter, Some, refl, sym, ap, ap₂, subst, ◌∙◌, bytes_eq, nat_lt, lt-ltb, eqb-true, arith}
 use Rattle.std.specs.List.{list_any, AllByRecursion}
-use Rattle.std.proofs.lemmas.Bool.{false≢true, and_parts, or_parts}
+use Rattle.std.proofs.lemmas.Bool.{false≢true, and_parts, or_parts, not-false}
 use Rattle.std.proofs.lemmas.Slice.Eq.{bytes_eq-Decides}
 use Rattle.rd_base.specs.declared.queries.Query.{Query}
 use Rattle.record_model.specs.ListingLines.{shown}
 use Rattle.history_model.specs.declared.entries.Entry.{Entry}
 use Rattle.history_model.specs.Listing.{all_lines, listing}
-use Rattle.rd_base.proofs.lemmas.Each.{each_weaker}
+use Rattle.rd_base.proofs.lemmas.Each.{each_weaker, none_pass}
 use Rattle.event_model.specs.declared.notes.Note.{Note}
 use Rattle.event_model.specs.declared.notes.Note.TheVariants as note
 use Rattle.event_model.specs.declared.notes.Observer.{Observer}
@@ -17,7 +17,9 @@ use Rattle.event_model.specs.Observers.{name_of, observers, last_body_formed}
 use Rattle.event_model.specs.Due.{Transition, are_same_lines, is_change_of, is_looking_for, is_changed_since, is_due}
 use Rattle.event_model.proofs.Noting.{Found, last_event-here, last_event-before, last_body_formed-before, is_watching, observers-noted}
 use Rattle.journal_model.specs.declared.rows.Row.{Row}
-use Rattle.journal_model.specs.Journal.{is_desk_row, transition_of, entry_noted, events, entries, entries_of, now, transitions}
+use Rattle.journal_model.specs.Journal.{is_desk_row, transition_of, events, entries, entries_of, now, transitions}
+use Rattle.headline_law.proofs.entries.JournalLaws.{entries-none_noted}
+use Rattle.journal_model.proofs.EntriesNoted.{entries_in}
 
 -- what is known of an observer behind events, rows, a history and a moment
 pub record Known (past : List Event) (rows_seen : List Transition) (history : List Entry) (moment count : ℕ) (o : Observer) : Type 0 where
@@ -37,17 +39,13 @@ same_lines (x ∷ xs) (y ∷ ys) h =
     let first : x ≡ y = ap₂ (λ n line. (n, line)) (eqb-true x.0 y.0 one.0) ((bytes_eq-Decides x.1 y.1).0 one.1) in
     ap₂ (λ z zs. z ∷ zs) first (same_lines xs ys both.1)
 
-not_changed : (b : Bool) → not b ≡ false → b ≡ true
-not_changed true h = refl
-not_changed false h = absurd (false≢true (sym h))
-
 -- a row that does not change the lines of a query does not change its listing
 unchanged : (query : Query) (t : Transition) → is_change_of query t ≡ false → listing query t.before t.moment_before ≡ listing query t.after t.moment_after
 unfolding is_change_of listing
 unchanged query t h =
     ap (λ lines. shown query (map (λ (numbered : ℕ × List ℕ). numbered.1) lines))
     (same_lines (all_lines query t.before t.moment_before) (all_lines query t.after t.moment_after)
-    (not_changed (are_same_lines (all_lines query t.before t.moment_before) (all_lines query t.after t.moment_after)) h))
+    (not-false (are_same_lines (all_lines query t.before t.moment_before) (all_lines query t.after t.moment_after)) h))
 
 -- who is due, by the event at which it was last looked at
 due_by : (o : Observer) (past : List Event) (rows_seen : List Transition) (e : Event) → last_event (is_looking_for (name_of o)) past ≡ Some e
@@ -105,21 +103,19 @@ is_observing _ = false
 
 -- then it does neither of one observer
 pub not_looking : (name : RequestName) (notes : List Note) → list_any is_observing notes ≡ false → list_any (is_looking_for name) notes ≡ false
-not_looking name [] h = refl
-not_looking name (n ∷ notes) h = by n (or_parts (is_observing n) (list_any is_observing notes) h) (not_looking name notes (or_parts (is_observing n) (list_any is_observing notes) h).1)
+not_looking name notes h = none_pass is_observing (is_looking_for name) by notes h
   where
-    by : (x : Note) → (is_observing x ≡ false) × (list_any is_observing notes ≡ false) → list_any (is_looking_for name) notes ≡ false → (is_looking_for name x || list_any (is_looking_for name) notes) ≡ false
-    by (note.Formed peer token body mid) h more = absurd (false≢true (sym h.0))
-    by (note.Unchanged peer token) h more = absurd (false≢true (sym h.0))
-    by _ h more = more
+    by : (x : Note) → is_observing x ≡ false → is_looking_for name x ≡ false
+    by (note.Formed peer token body mid) e = absurd (false≢true (sym e))
+    by (note.Unchanged peer token) e = absurd (false≢true (sym e))
+    by _ e = refl
 
 pub not_watching : (notes : List Note) → list_any is_observing notes ≡ false → list_any is_watching notes ≡ false
-not_watching [] h = refl
-not_watching (n ∷ notes) h = by n (or_parts (is_observing n) (list_any is_observing notes) h) (not_watching notes (or_parts (is_observing n) (list_any is_observing notes) h).1)
+not_watching notes h = none_pass is_observing is_watching by notes h
   where
-    by : (x : Note) → (is_observing x ≡ false) × (list_any is_observing notes ≡ false) → list_any is_watching notes ≡ false → (is_watching x || list_any is_watching notes) ≡ false
-    by (note.Watched o) h more = absurd (false≢true (sym h.0))
-    by _ h more = more
+    by : (x : Note) → is_observing x ≡ false → is_watching x ≡ false
+    by (note.Watched o) e = absurd (false≢true (sym e))
+    by _ e = refl
 
 -- an observer in a journal with one row more, where the row does not look at its listing
 pub known_row : (rows : List Row) (r : Row) (o : Observer) → is_desk_row r ≡ true → list_any (is_looking_for (name_of o)) r.notes ≡ false → KnownIn rows o → KnownIn (r ∷ rows) o
@@ -147,8 +143,7 @@ unfolding events
 events-nothing rows r none = ap (λ notes. noted (length rows) r.moment.0 r.step.word notes (events rows)) none
 
 entries-nothing : (rows : List Row) (r : Row) → r.notes ≡ [] → entries (r ∷ rows) ≡ entries rows
-unfolding entries
-entries-nothing rows r none = ap (λ notes. entries rows ++ filter_map entry_noted notes) none ∙ append-nil (entries rows)
+entries-nothing rows r none = entries-none_noted rows r (ap entries_in none)
 
 -- the row of a look is none of those that observers see
 transitions-look : (rows : List Row) (r : Row) → is_desk_row r ≡ false → transitions (r ∷ rows) ≡ transitions rows

@@ -1,9 +1,8 @@
 -- An observer with no notice due was last given the listing now.
 use Rattle.std.proofs.Common.{◌≡◌, ℕ, ◌==◌, Bool, true, false, cond, not, List, [], ◌∷◌, Option, Some, None, Result, Ok, Err, refl, sym, ap, subst, ◌∙◌}
-use Rattle.std.specs.List.{list_any, AllByRecursion, IsAmong}
+use Rattle.std.specs.List.{list_any}
 use Rattle.std.proofs.lemmas.Bool.{false≢true}
 use Rattle.std.proofs.lemmas.List.Folds.{list_any-append}
-use Rattle.std.proofs.lemmas.List.Elements.{All-from_recursion}
 use Rattle.rd_base.specs.declared.peers.Peer.{Peer}
 use Rattle.message_model.specs.declared.messages.Role.{Role}
 use Rattle.message_model.specs.declared.messages.Role.TheVariants as role
@@ -49,6 +48,7 @@ use Rattle.headline_law.proofs.notes.ChangingNotes.{commit_effects-notes, respon
 use Rattle.headline_law.proofs.observers.Knowing.{KnownIn, AllKnown, is_observing, quiet_row, look_row}
 use Rattle.headline_law.proofs.observers.Observing.{around, observed_row}
 use Rattle.headline_law.proofs.observers.TickKnowing.{tick_row}
+use Rattle.rd_base.proofs.lemmas.Among.{all_at_index}
 
 -- what notes do for observers behind a journal at a moment: nothing; or they tell no entry, and add one, with its first listing
 pub data Shows (rows : List Row) (moment : ℕ) (notes : List Note) : Type 0 where
@@ -210,12 +210,8 @@ unfolding events observers
 journal-AllKnown [] begun = tt
 journal-AllKnown (r ∷ before) (made {rows} {s} starved journal may) = row-AllKnown before s starved (journal-AllKnown before journal)
 
--- one of those of which all holds
-pub of_all : {X : Type 0} (P : X → Type 0) (xs : List X) (x : X) → IsAmong xs x → AllByRecursion P xs → P x
-of_all P xs x among all = subst P (sym (among.1.1)) (All-from_recursion P xs all among.0 x among.1.0)
-
 -- an observer that is not due was last given the listing now
 pub journal-ObserversKnow : (rows : List Row) → IsJournal rows → ObserversKnow rows
 journal-ObserversKnow rows journal = record {
-  given = λ o among not_due. (of_all (KnownIn rows) (observers (events rows)) o among (journal-AllKnown rows journal)).knows not_due;
+  given = λ o among not_due. (all_at_index (KnownIn rows) (observers (events rows)) o among (journal-AllKnown rows journal)).knows not_due;
 }

@@ -1,5 +1,5 @@
 -- What observers know behind a row that adds one.
-use Rattle.std.proofs.Common.{◌≡◌, ℕ, ◌||◌, Bool, true, false, not, List, [], ◌∷◌, ◌++◌, length, filter, Some, None, refl, sym, ap, subst, ◌∙◌, append-nil}
+use Rattle.std.proofs.Common.{◌≡◌, ℕ, ◌||◌, Bool, true, false, not, List, [], ◌∷◌, ◌++◌, length, filter, Some, None, refl, sym, ap, subst, ◌∙◌}
 use Rattle.std.specs.List.{list_any, AllByRecursion}
 use Rattle.std.proofs.lemmas.List.Folds.{list_any-append}
 use Rattle.history_model.specs.Listing.{listing}
@@ -17,12 +17,8 @@ use Rattle.event_model.proofs.ObserverLaws.{Apart, not_true}
 use Rattle.journal_model.specs.declared.rows.Row.{Row}
 use Rattle.journal_model.specs.Journal.{is_desk_row, events, entries}
 use Rattle.journal_model.proofs.EntriesNoted.{entries_in}
-use Rattle.headline_law.proofs.entries.JournalLaws.{entries-row}
+use Rattle.headline_law.proofs.entries.JournalLaws.{entries-none_noted}
 use Rattle.headline_law.proofs.observers.Knowing.{KnownIn, AllKnown, is_observing, not_looking, not_watching, known_row, looked_row}
-
--- a row that tells no entry
-pub entries-none_noted : (rows : List Row) (r : Row) → entries_in r.notes ≡ [] → entries (r ∷ rows) ≡ entries rows
-entries-none_noted rows r none = entries-row rows r ∙ (ap (λ more. entries rows ++ more) none ∙ append-nil (entries rows))
 
 -- notes around those that add an observer and give it its first listing
 abbrev pub around : List Note → Observer → List ℕ → List Note → List Note

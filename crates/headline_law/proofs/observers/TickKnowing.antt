@@ -27,7 +27,7 @@ use Rattle.journal_model.proofs.EntriesNoted.{entries_in}
 use Rattle.journal_model.proofs.NoteKinds.{of_again, of_resent, of_tick, none_of, tick-entries_in}
 use Rattle.journal_model.proofs.StepNotes.{tick_effects-notes, notices_again-notes, requests_again-notes}
 use Rattle.headline_law.proofs.observers.Knowing.{KnownIn, AllKnown, is_observing, not_looking, not_watching, known_row, looked_row}
-use Rattle.headline_law.proofs.observers.Observing.{entries-none_noted}
+use Rattle.headline_law.proofs.entries.JournalLaws.{entries-none_noted}
 
 -- what notes of a tick say of an observer: nothing, or that its listing was looked at, and then it was given the listing now
 abbrev pub Told : List Row → ℕ → ℕ → Observer → List Note → Type 0

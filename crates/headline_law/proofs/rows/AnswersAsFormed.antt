@@ -26,14 +26,13 @@ use Rattle.journal_model.proofs.EntriesNoted.{entries_in}
 use Rattle.headline_law.proofs.observers.Knowing.{is_observing}
 use Rattle.headline_law.proofs.sends.PlainSteps.{ArePlain}
 use Rattle.headline_law.proofs.entries.QuietSteps.{tick_effects-entries_in}
-use Rattle.headline_law.proofs.observers.Observing.{entries-none_noted}
-use Rattle.headline_law.proofs.observers.ObserversKnow.{Shows, quiet, heard_shows, done_shows, kept_shows, of_all}
+use Rattle.headline_law.proofs.observers.ObserversKnow.{Shows, quiet, heard_shows, done_shows, kept_shows}
 use Rattle.headline_law.proofs.notes.SilentSteps.{looked_notes}
 use Rattle.headline_law.proofs.sends.TickSends.{requests_plain}
 use Rattle.headline_law.proofs.sends.ValidLaw.{before_all, journal_sends, looks_are_validated}
 use Rattle.headline_law.proofs.sends.RowSends.{Before}
 use Rattle.journal_model.proofs.EventRows.{AllRows, row_within}
-use Rattle.rd_base.proofs.lemmas.Among.{Among, all_among}
+use Rattle.rd_base.proofs.lemmas.Among.{Among, all_among, all_at_index}
 use Rattle.headline_law.proofs.notes.Asking.{IsAsking, AreTold, OfWatched, observers_all}
 use Rattle.headline_law.proofs.flights.AgainFacts.{behind_again}
 use Rattle.headline_law.proofs.flights.TickNotices.{TickSoFar}
@@ -47,6 +46,7 @@ use Rattle.headline_law.proofs.sends.StepGives.{is_keeping, Gives, plain, look, 
 use Rattle.headline_law.proofs.rows.RowCarries.{NoteAs, RowCarries, plain_row, look_row, told_noted}
 use Rattle.headline_law.proofs.rows.KeptRows.{lookup_row}
 use Rattle.headline_law.proofs.rows.KeepRows.{keep_row}
+use Rattle.headline_law.proofs.entries.JournalLaws.{entries-none_noted}
 
 -- what is known of a journal: each of its rows, its observers, and the notices in flight
 record CarriesAll (rows : List Row) : Type 0 where
@@ -167,6 +167,6 @@ journal_carries (r ∷ before) (made {rows} {s} starved journal may) = row_step 
 pub answers_as_formed : (rows : List Row) → IsJournal rows → AnswersAsFormed rows
 answers_as_formed rows journal = record {
   carried = λ before r peer octets m within among read listed.
-      of_all (Carried (record { row = r; before = before })) r.sent (peer, octets) among (row_within RowCarries rows before r (journal_carries rows journal).each within).carried m read listed;
+      all_at_index (Carried (record { row = r; before = before })) r.sent (peer, octets) among (row_within RowCarries rows before r (journal_carries rows journal).each within).carried m read listed;
   valid = λ before r within fed. looks_are_validated rows before r journal within fed;
 }

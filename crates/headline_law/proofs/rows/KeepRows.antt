@@ -21,9 +21,8 @@ use Rattle.journal_model.specs.Machine.{keep_kind, Job, job_of, MayBegin, hears,
 use Rattle.journal_model.specs.Headline.{Placed, look_of, former_by, former_at, query_read, query_answered, Carries}
 use Rattle.journal_model.proofs.EntriesNoted.{entries_in}
 use Rattle.journal_model.proofs.StepNotes.{keep_effects-notes}
-use Rattle.headline_law.proofs.observers.Observing.{entries-none_noted}
 use Rattle.headline_law.proofs.notes.SilentSteps.{looked_notes}
-use Rattle.headline_law.proofs.entries.JournalLaws.{Made, each_row}
+use Rattle.headline_law.proofs.entries.JournalLaws.{Made, each_row, entries-none_noted}
 use Rattle.journal_model.proofs.Jobs.{KeepsOf, keeps_of}
 use Rattle.headline_law.proofs.sends.ReadAgain.{header_read}
 use Rattle.headline_law.proofs.sends.BodyAnswers.{Bears, IsBodyOf, tag-length, bears_carries}

@@ -23,7 +23,6 @@ use Rattle.journal_model.specs.Meantime.{is_heard}
 use Rattle.journal_model.specs.Headline.{Placed, former_by, former_of_kept, former_noted, query_read, Carries}
 use Rattle.journal_model.proofs.EntriesNoted.{entries_in}
 use Rattle.headline_law.proofs.entries.QuietSteps.{lookup_effects-entries_in}
-use Rattle.headline_law.proofs.observers.Observing.{entries-none_noted}
 use Rattle.headline_law.proofs.sends.ReadAgain.{header_read}
 use Rattle.headline_law.proofs.sends.BodyAnswers.{Bears, IsBodyOf, tag-length, bears_carries}
 use Rattle.headline_law.proofs.sends.LookupSends.{AreListings, AreBodiesOf, tells_earlier, LookupGives, now, kept, lookup_gives}
@@ -32,6 +31,8 @@ use Rattle.headline_law.proofs.notes.Asking.{asks_once, lookup_fits, KeptAt, Are
 use Rattle.headline_law.proofs.flights.TickCarries.{Carried}
 use Rattle.headline_law.proofs.rows.RowCarries.{KeptBy, NoteAs, RowCarries, heard_former, heard_query, heard_by, now_carried, told_noted}
 use Rattle.rd_base.proofs.lemmas.Among.{all_among}
+use Rattle.headline_law.proofs.entries.JournalLaws.{entries-none_noted}
+use Rattle.rd_base.proofs.lemmas.Each.{each_weaker}
 
 -- ---- kept answers
 
@@ -83,7 +84,8 @@ kept_from rows moment name answer all e =
 -- one that reads a kept answer
 used_carried : (rows : List Row) (r : Row) (m : Message) (answer : Answer) → is_heard r.step.kind ≡ true → reading r.step.datagram ≡ Ok m → is_lookup (path_in m) ≡ true
     → r.notes ≡ note.Used r.step.peer (key_in m) ∷ [] → KeptFrom rows (r.step.peer, key_in m) answer → AreBodiesOf m.token answer.body answer.tag r.sent → AllByRecursion (Carried (record { row = r; before = rows })) r.sent
-used_carried rows r m answer heard read lookup notes from all = each r.sent all
+used_carried rows r m answer heard read lookup notes from all =
+    each_weaker (λ (d : Peer × List ℕ). IsBodyOf m.token answer.body answer.tag d.1) (Carried (record { row = r; before = rows })) one r.sent all
   where
     same_query : from.is_kept.query ≡ query_of m
     same_query = asks_once (key_in m) from.is_kept.query m from.is_kept.asks (lookup_fits (path_in m) lookup) refl
@@ -100,10 +102,6 @@ used_carried rows r m answer heard read lookup notes from all = each r.sent all
           (subst (λ t. Bears m.token (listing from.is_kept.query (entries (from.former.row ∷ from.former.before)) from.former.row.moment.0) t n) from.is_kept.tag_is
           (subst (λ b. Bears m.token b answer.tag n) from.is_kept.body_is (body n e listed))));
     }
-
-    each : (ds : List (Peer × List ℕ)) → AreBodiesOf m.token answer.body answer.tag ds → AllByRecursion (Carried (record { row = r; before = rows })) ds
-    each [] h = tt
-    each (d ∷ ds) h = (one d h.0, each ds h.1)
 
 -- any row of a lookup
 pub lookup_row : (rows : List Row) (r : Row) (m : Message) → AllRows RowCarries rows → is_heard r.step.kind ≡ true → reading r.step.datagram ≡ Ok m → is_lookup (path_in m) ≡ true

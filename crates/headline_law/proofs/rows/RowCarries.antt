@@ -19,16 +19,16 @@ use Rattle.journal_model.specs.Meantime.{is_heard}
 use Rattle.journal_model.specs.Headline.{Placed, former_by, former_noted, former_at, query_read, query_answered}
 use Rattle.journal_model.proofs.EntriesNoted.{entries_in}
 use Rattle.journal_model.proofs.StepNotes.{look_effects-notes}
-use Rattle.headline_law.proofs.observers.Observing.{entries-none_noted}
 use Rattle.headline_law.proofs.sends.ReadAgain.{header_read}
 use Rattle.headline_law.proofs.sends.BodyAnswers.{Bears, IsBodyOf, other_code, bears_carries}
-use Rattle.headline_law.proofs.sends.PlainSteps.{ArePlain}
+use Rattle.headline_law.proofs.sends.PlainSteps.{ArePlain, IsPlain}
 use Rattle.headline_law.proofs.sends.LookupSends.{AreListings, look_lists, tells_earlier}
 use Rattle.headline_law.proofs.notes.Asking.{IsAsking, KeptAt, NoteTold, AreTold}
 use Rattle.headline_law.proofs.flights.TickCarries.{Carried}
-use Rattle.headline_law.proofs.rows.TickRows.{plain_bodies}
 use Rattle.headline_law.proofs.sends.StepGives.{is_keeping}
 use Rattle.std.proofs.lemmas.Bool.{or_parts}
+use Rattle.headline_law.proofs.entries.JournalLaws.{entries-none_noted}
+use Rattle.rd_base.proofs.lemmas.Each.{each_weaker, each_failing}
 
 -- an answer that is kept at a row: the listing of the query of its key, at the row that formed it
 pub record KeptBy (here : Placed) (key body current : List ℕ) : Type 0 where
@@ -51,10 +51,7 @@ pub record RowCarries (before : List Row) (r : Row) : Type 0 where
 
 -- what keeps nothing
 keeps_nothing : (here : Placed) (notes : List Note) → list_any is_keeping notes ≡ false → AllByRecursion (NoteAs here) notes
-keeps_nothing here [] none = tt
-keeps_nothing here (n ∷ notes) none =
-    let both = or_parts (is_keeping n) (list_any is_keeping notes) none in
-    (by n both.0, keeps_nothing here notes both.1)
+keeps_nothing here notes none = each_failing is_keeping (NoteAs here) by notes none
   where
     by : (x : Note) → is_keeping x ≡ false → NoteAs here x
     by (note.Kept peer key body current) h = absurd (false≢true (sym h))
@@ -64,7 +61,7 @@ keeps_nothing here (n ∷ notes) none =
 -- so it is of a row of plain messages
 pub plain_row : (rows : List Row) (r : Row) → ArePlain r.sent → list_any is_keeping r.notes ≡ false → RowCarries rows r
 plain_row rows r plain none = record {
-  carried = plain_bodies (Carried (record { row = r; before = rows })) (λ d p m e listed. absurd (false≢true (sym (other_code d.1 p.no_content m e) ∙ listed))) r.sent plain;
+  carried = each_weaker (λ (d : Peer × List ℕ). IsPlain d.1) (Carried (record { row = r; before = rows })) (λ d p m e listed. absurd (false≢true (sym (other_code d.1 p.no_content m e) ∙ listed))) r.sent plain;
   noted = keeps_nothing (record { row = r; before = rows }) r.notes none;
 }
 
@@ -108,7 +105,8 @@ noted_now peer mid (n ∷ notes) here none =
 -- the listing now
 pub now_carried : (rows : List Row) (r : Row) (m : Message) → is_heard r.step.kind ≡ true → reading r.step.datagram ≡ Ok m → entries (r ∷ rows) ≡ entries rows → list_any tells_earlier r.notes ≡ false
     → AreListings m (entries rows) r.moment.0 r.sent → AllByRecursion (Carried (record { row = r; before = rows })) r.sent
-now_carried rows r m hears read untold none all = each r.sent all
+now_carried rows r m hears read untold none all =
+    each_weaker (λ (d : Peer × List ℕ). IsBodyOf m.token (listing (query_of m) (entries rows) r.moment.0) (tag (entries rows) r.moment.0) d.1) (Carried (record { row = r; before = rows })) one r.sent all
   where
     one : (d : Peer × List ℕ) → IsBodyOf m.token (listing (query_of m) (entries rows) r.moment.0) (tag (entries rows) r.moment.0) d.1 → Carried (record { row = r; before = rows }) d
     one d body n e listed = record {
@@ -119,10 +117,6 @@ now_carried rows r m hears read untold none all = each r.sent all
       carries = bears_carries m.token (query_of m) (entries (r ∷ rows)) r.moment.0 n
           (subst (λ history. Bears m.token (listing (query_of m) history r.moment.0) (tag history r.moment.0) n) (sym untold) (body n e listed));
     }
-
-    each : (ds : List (Peer × List ℕ)) → AreListings m (entries rows) r.moment.0 ds → AllByRecursion (Carried (record { row = r; before = rows })) ds
-    each [] h = tt
-    each (d ∷ ds) h = (one d h.0, each ds h.1)
 
 -- what a row keeps that forms its own answers
 pub told_noted : (rows : List Row) (r : Row) → former_by r.step.kind (record { row = r; before = rows }) ≡ Some (record { row = r; before = rows }) → entries (r ∷ rows) ≡ entries rows → (notes : List Note) → AreTold rows r.moment.0 notes → AllByRecursion (NoteAs (record { row = r; before = rows })) notes

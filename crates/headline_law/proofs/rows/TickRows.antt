@@ -31,7 +31,7 @@ use Rattle.headline_law.proofs.flights.TickFolds.{again_peer}
 use Rattle.headline_law.proofs.flights.KnownFlights.{NoticeOf, FlightKnown, FlightsKnown}
 use Rattle.headline_law.proofs.flights.TickCarries.{Carried, is_used, noted_again, noted_here, stood_before, observer_formed}
 use Rattle.std.proofs.lemmas.Bool.{or_left}
-use Rattle.rd_base.proofs.lemmas.Each.{each_append}
+use Rattle.rd_base.proofs.lemmas.Each.{each_append, each_weaker}
 
 -- a row of a tick: notices, and then requests of fetches that are sent again
 pub record TickRow (rows : List Row) (r : Row) : Type 0 where
@@ -55,11 +55,6 @@ requests_none test resent ceased notes h = none_of of_resent test never notes h
     never (note.Resent peer) e = resent peer
     never (note.Ceased peer) e = ceased peer
     never _ e = absurd (false≢true e)
-
--- plain messages have no listing
-pub plain_bodies : (P : Peer × List ℕ → Type 0) → ((d : Peer × List ℕ) → IsPlain d.1 → P d) → (sent : List (Peer × List ℕ)) → ArePlain sent → AllByRecursion P sent
-plain_bodies P h [] plain = tt
-plain_bodies P h (d ∷ sent) plain = (h d plain.0, plain_bodies P h sent plain.1)
 
 -- a notice that is sent again
 again_carried : (rows : List Row) (r : Row) → (t : TickRow rows r) → (d : Peer × List ℕ) → AgainSent rows r.moment.0 d → Carried (record { row = r; before = rows }) d
@@ -119,13 +114,9 @@ fresh_carried rows r t d f m e listed =
 pub tick_carried : (rows : List Row) (r : Row) → TickRow rows r → AllByRecursion (Carried (record { row = r; before = rows })) r.sent
 tick_carried rows r t =
     subst (AllByRecursion (Carried (record { row = r; before = rows }))) (sym t.sent)
-    (each_append (Carried (record { row = r; before = rows })) t.notified.sent t.requests.sent (each t.notified.sent t.so_far.origins)
-    (plain_bodies (Carried (record { row = r; before = rows })) (λ d plain m e listed. absurd (false≢true (sym (other_code d.1 plain.no_content m e) ∙ listed))) t.requests.sent t.plain))
+    (each_append (Carried (record { row = r; before = rows })) t.notified.sent t.requests.sent (each_weaker (λ (d : Peer × List ℕ). AgainSent rows r.moment.0 d ⊎ FreshSent rows r.moment.0 r.step.word d) (Carried (record { row = r; before = rows })) one t.notified.sent t.so_far.origins)
+    (each_weaker (λ (d : Peer × List ℕ). IsPlain d.1) (Carried (record { row = r; before = rows })) (λ d plain m e listed. absurd (false≢true (sym (other_code d.1 plain.no_content m e) ∙ listed))) t.requests.sent t.plain))
   where
     one : (d : Peer × List ℕ) → AgainSent rows r.moment.0 d ⊎ FreshSent rows r.moment.0 r.step.word d → Carried (record { row = r; before = rows }) d
     one d (inl a) = again_carried rows r t d a
     one d (inr f) = fresh_carried rows r t d f
-
-    each : (ds : List (Peer × List ℕ)) → AllByRecursion (λ (d : Peer × List ℕ). AgainSent rows r.moment.0 d ⊎ FreshSent rows r.moment.0 r.step.word d) ds → AllByRecursion (Carried (record { row = r; before = rows })) ds
-    each [] all = tt
-    each (d ∷ ds) all = (one d all.0, each ds all.1)

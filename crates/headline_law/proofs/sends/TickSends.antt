@@ -1,7 +1,7 @@
 -- What a tick sends again: requests of fetches, and confirmable messages of earlier rows; so no tick sends 2.03.
-use Rattle.std.proofs.Common.{◌≡◌, ℕ, ◌+◌, ◌*◌, ◌/◌, ◌==◌, ◌||◌, ◌&&◌, Bool, true, false, cond, List, [], ◌∷◌, length, fold, Option, Some, None, refl, subst, ◌∙◌, nat_le, eqb-true}
+use Rattle.std.proofs.Common.{◌≡◌, ℕ, ◌+◌, ◌*◌, ◌/◌, ◌==◌, ◌||◌, ◌&&◌, Bool, true, false, List, [], ◌∷◌, length, fold, Option, Some, None, refl, subst, ◌∙◌, nat_le, eqb-true}
 use Rattle.std.specs.List.{AllByRecursion}
-use Rattle.std.specs.Prelude.{find, Ok}
+use Rattle.std.specs.Prelude.{Ok}
 use Rattle.std.proofs.lemmas.Bool.{false≢true, and_parts}
 use Rattle.rd_base.specs.declared.peers.Peer.{Peer}
 use Rattle.message_model.specs.Message.{Message}
@@ -25,15 +25,7 @@ use Rattle.headline_law.proofs.sends.ReadAgain.{header_read}
 use Rattle.headline_law.proofs.sends.PlainSteps.{IsPlain, ArePlain}
 use Rattle.headline_law.proofs.sends.ValidSends.{NotValid, NoneValid, is_confirmable, AreCalm, body_code}
 use Rattle.rd_base.proofs.lemmas.Each.{each_append}
-
--- the first that passes a test
-pub found_passes : {X : Type 0} (P : X → Type 0) (test : X → Bool) (xs : List X) (x : X) → AllByRecursion P xs → find test xs ≡ Some x → P x × (test x ≡ true)
-found_passes P test [] x all found = absurd (let no : None ≡ Some x = found in cc)
-found_passes P test (y ∷ xs) x all found = by (test y) refl found (λ h. found_passes P test xs x all.1 h)
-  where
-    by : (b : Bool) → test y ≡ b → cond b (Some y) (find test xs) ≡ Some x → (find test xs ≡ Some x → P x × (test x ≡ true)) → P x × (test x ≡ true)
-    by true good h more = let same : y ≡ x = cc in subst (λ z. P z × (test z ≡ true)) same (all.0, good)
-    by false bad h more = more h
+use Rattle.rd_base.proofs.lemmas.Among.{find_passes}
 
 -- what is found to be sent again
 pub record FoundSent (P : Peer × List ℕ → Type 0) (peer : Peer) (mid : ℕ) (d : Peer × List ℕ) : Type 0 where
@@ -46,7 +38,7 @@ pub sent_by_found : (P : Peer × List ℕ → Type 0) (at : Option Row) (peer : 
     → sent_by at peer mid ≡ Some d → FoundSent P peer mid d
 sent_by_found P None peer mid d all found = absurd (let no : None ≡ Some d = found in cc)
 sent_by_found P (Some r) peer mid d all found =
-    let it = found_passes P (λ x. is_same_peer x.0 peer && is_confirmable_with mid x.1) r.sent d (all r refl) found in
+    let it = find_passes P (λ x. is_same_peer x.0 peer && is_confirmable_with mid x.1) r.sent d (all r refl) found in
     let both = and_parts (is_same_peer d.0 peer) (is_confirmable_with mid d.1) it.1 in
     record { holds = it.0; to_peer = both.0; confirmable = both.1 }
 
