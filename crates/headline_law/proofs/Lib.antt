@@ -4,3 +4,4 @@ pub mod observers
 pub mod sends
 pub mod flights
 pub mod rows
+pub mod HeadlineLaw

@@ -2,10 +2,10 @@ pub mod ChangeEntries
 pub mod QuietSteps
 pub mod RowLaws
 pub mod JournalLaws
-pub mod AnswerLaws
+pub mod CommitAnswers
 pub mod EntryOrigins
 pub mod TagStates
 pub mod CommitLaws
-pub mod Admitting
+pub mod Admissions
 pub mod FailedLaws
 pub mod HoldsEachOnce

@@ -1,3 +1,4 @@
-pub mod ChangingNotes
-pub mod Asking
+pub mod ChangeNotes
+pub mod LookupNotes
 pub mod SilentSteps
+pub mod TickNotes

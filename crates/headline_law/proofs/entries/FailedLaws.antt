@@ -13,7 +13,7 @@ use Rattle.journal_model.specs.Machine.{IsJournal}
 use Rattle.journal_model.specs.Headline.{Within, admits}
 use Rattle.headline_law.proofs.entries.RowLaws.{row-moment_latest}
 use Rattle.headline_law.proofs.entries.JournalLaws.{Made, newest, latest-row, latest-before}
-use Rattle.headline_law.proofs.entries.Admitting.{row_admits}
+use Rattle.headline_law.proofs.entries.Admissions.{row_admits}
 
 -- a row within a journal is its newest, or within the rows before that
 within_cases : (x : Row) (rest before : List Row) (r : Row) → Within (x ∷ rest) before r → ((x ≡ r) × (rest ≡ before)) ⊎ Within rest before r

@@ -18,7 +18,7 @@ use Rattle.journal_model.specs.Journal.{events, entries, row_at}
 use Rattle.journal_model.specs.Headline.{Placed, last_row, forms_notice, former_of_notice}
 use Rattle.headline_law.proofs.sends.BodyAnswers.{IsBodyOf}
 use Rattle.journal_model.proofs.EventRows.{found_in}
-use Rattle.headline_law.proofs.notes.Asking.{OfWatched, observers_all}
+use Rattle.headline_law.proofs.notes.LookupNotes.{OfWatched, observers_all}
 use Rattle.journal_model.proofs.FlightKeys.{flight_key, key_before_all, is_notice, key_none}
 use Rattle.rd_base.proofs.lemmas.Among.{all_among}
 

@@ -44,17 +44,17 @@ use Rattle.journal_model.proofs.NoteKinds.{of_write, of_empty, of_commit, of_res
 use Rattle.journal_model.proofs.StepNotes.{look_effects-notes, keep_effects-notes, write_effects-notes, acknowledged-notes, reset-notes}
 use Rattle.headline_law.proofs.entries.QuietSteps.{lookup_effects-entries_in}
 use Rattle.headline_law.proofs.notes.SilentSteps.{refusal_notes, unread_notes, looked_notes}
-use Rattle.headline_law.proofs.notes.ChangingNotes.{commit_effects-notes, response_effects-notes}
-use Rattle.headline_law.proofs.observers.Knowing.{KnownIn, AllKnown, is_observing, quiet_row, look_row}
-use Rattle.headline_law.proofs.observers.Observing.{around, observed_row}
-use Rattle.headline_law.proofs.observers.TickKnowing.{tick_row}
+use Rattle.headline_law.proofs.notes.ChangeNotes.{commit_effects-notes, response_effects-notes}
+use Rattle.headline_law.proofs.observers.ObserverKnowledge.{KnownIn, AllKnown, is_observing, quiet_row, look_row}
+use Rattle.headline_law.proofs.observers.AddedObservers.{around, observed_row}
+use Rattle.headline_law.proofs.observers.TickKnowledge.{tick_row}
 use Rattle.rd_base.proofs.lemmas.Among.{all_at_index}
 
 -- what notes do for observers behind a journal at a moment: nothing; or they tell no entry, and add one, with its first listing
-pub data Shows (rows : List Row) (moment : ℕ) (notes : List Note) : Type 0 where
-  quiet : list_any is_observing notes ≡ false → Shows rows moment notes
+pub data ObserverNotes (rows : List Row) (moment : ℕ) (notes : List Note) : Type 0 where
+  quiet : list_any is_observing notes ≡ false → ObserverNotes rows moment notes
   adds : (o : Observer) (front back : List Note) (body : List ℕ) → notes ≡ around front o body back → list_any is_observing front ≡ false → list_any is_observing back ≡ false
-      → body ≡ listing o.query (entries rows) moment → entries_in notes ≡ [] → Shows rows moment notes
+      → body ≡ listing o.query (entries rows) moment → entries_in notes ≡ [] → ObserverNotes rows moment notes
 
 -- notes of a kind that does nothing for observers
 quiet_of : (kind : Note → Bool) → ((o : Observer) → kind (note.Watched o) ≡ false) → ((peer : Peer) (token body : List ℕ) (mid : Option ℕ) → kind (note.Formed peer token body mid) ≡ false)
@@ -68,8 +68,8 @@ quiet_of kind watched formed unchanged notes h = none_of kind is_observing never
     never _ e = refl
 
 -- no notes
-nothing_shown : (rows : List Row) (moment : ℕ) (notes : List Note) → notes ≡ [] → Shows rows moment notes
-nothing_shown rows moment notes none = quiet (ap (list_any is_observing) none)
+no_observer_notes : (rows : List Row) (moment : ℕ) (notes : List Note) → notes ≡ [] → ObserverNotes rows moment notes
+no_observer_notes rows moment notes none = quiet (ap (list_any is_observing) none)
 
 -- an observer that is removed, and an answer that is kept
 removal-quiet : (name : RequestName) (standing : List Observer) → list_any is_observing (removal name standing) ≡ false
@@ -87,9 +87,9 @@ keeping-quiet s m answer = by (is_long (asked_block m) answer.body)
     by false = refl
 
 -- a lookup
-lookup_shows : (rows : List Row) (moment : ℕ) (s : Step) (m : Message) → Shows rows moment (lookup_effects rows moment s m).notes
+lookup_observer_notes : (rows : List Row) (moment : ℕ) (s : Step) (m : Message) → ObserverNotes rows moment (lookup_effects rows moment s m).notes
 unfolding lookup_effects later_block observed unobserved answering
-lookup_shows rows moment s m = by (is_later_block m) refl
+lookup_observer_notes rows moment s m = by (is_later_block m) refl
   where
     silent : entries_in (lookup_effects rows moment s m).notes ≡ []
     silent = lookup_effects-entries_in rows moment s m
@@ -107,75 +107,75 @@ lookup_shows rows moment s m = by (is_later_block m) refl
         list_any-append is_observing (removal (s.peer, m.token) (observers (events rows))) (keeping s m (listing_now rows moment m))
         ∙ rw (removal-quiet (s.peer, m.token) (observers (events rows)), keeping-quiet s m (listing_now rows moment m)) refl
 
-    added : (b : Bool) → entries_in (observed_if b rows s m (listing_now rows moment m)).notes ≡ [] → Shows rows moment (observed_if b rows s m (listing_now rows moment m)).notes
+    added : (b : Bool) → entries_in (observed_if b rows s m (listing_now rows moment m)).notes ≡ [] → ObserverNotes rows moment (observed_if b rows s m (listing_now rows moment m)).notes
     added true none = adds (observer_of s m) (removal (s.peer, m.token) (observers (events rows))) (keeping s m (listing_now rows moment m)) (listing_now rows moment m).body refl
         (removal-quiet (s.peer, m.token) (observers (events rows))) (keeping-quiet s m (listing_now rows moment m)) refl none
     added false none = quiet ended
 
-    valued : (b c : Bool) → entries_in (observed_by b c rows moment s m).notes ≡ [] → Shows rows moment (observed_by b c rows moment s m).notes
+    valued : (b c : Bool) → entries_in (observed_by b c rows moment s m).notes ≡ [] → ObserverNotes rows moment (observed_by b c rows moment s m).notes
     valued true c none = added (has_room_for (query_of m) (without (s.peer, m.token) (observers (events rows)))) none
     valued false true none = quiet ended
-    valued false false none = nothing_shown rows moment (look_effects (entries rows) moment s m).notes (look_effects-notes (entries rows) moment s m)
+    valued false false none = no_observer_notes rows moment (look_effects (entries rows) moment s m).notes (look_effects-notes (entries rows) moment s m)
 
-    observing : (o : Option ℕ) → entries_in (by_observe o rows moment s m).notes ≡ [] → Shows rows moment (by_observe o rows moment s m).notes
-    observing None none = nothing_shown rows moment (look_effects (entries rows) moment s m).notes (look_effects-notes (entries rows) moment s m)
+    observing : (o : Option ℕ) → entries_in (by_observe o rows moment s m).notes ≡ [] → ObserverNotes rows moment (by_observe o rows moment s m).notes
+    observing None none = no_observer_notes rows moment (look_effects (entries rows) moment s m).notes (look_effects-notes (entries rows) moment s m)
     observing (Some value) none = valued (value == register) (value == deregister) none
 
-    by : (b : Bool) → is_later_block m ≡ b → Shows rows moment (by_block b rows moment s m).notes
+    by : (b : Bool) → is_later_block m ≡ b → ObserverNotes rows moment (by_block b rows moment s m).notes
     by true e = quiet (later (kept_answer moment (s.peer, key_in m) (events rows)))
     by false e = observing (observe_in m) (subst (λ b. entries_in (by_block b rows moment s m).notes ≡ []) e silent)
 
 -- a request that is served as it is heard
-served_shows : (p : Path) (rows : List Row) (moment : ℕ) (s : Step) (m : Message) → Shows rows moment (served p rows moment s m).notes
+served_observer_notes : (p : Path) (rows : List Row) (moment : ℕ) (s : Step) (m : Message) → ObserverNotes rows moment (served p rows moment s m).notes
 unfolding served
-served_shows path.Core rows moment s m = nothing_shown rows moment (look_effects (entries rows) moment s m).notes (look_effects-notes (entries rows) moment s m)
-served_shows path.Res rows moment s m = lookup_shows rows moment s m
-served_shows path.Ep rows moment s m = lookup_shows rows moment s m
-served_shows path.SimpleRd rows moment s m = quiet (quiet_of of_write (λ o. refl) (λ p t b n. refl) (λ p t. refl) (write_effects (events rows) moment s m).notes (write_effects-notes (events rows) moment s m))
-served_shows path.Rd rows moment s m = quiet (quiet_of of_write (λ o. refl) (λ p t b n. refl) (λ p t. refl) (write_effects (events rows) moment s m).notes (write_effects-notes (events rows) moment s m))
-served_shows (path.Location number) rows moment s m = quiet (quiet_of of_write (λ o. refl) (λ p t b n. refl) (λ p t. refl) (write_effects (events rows) moment s m).notes (write_effects-notes (events rows) moment s m))
-served_shows path.Other rows moment s m = quiet refl
+served_observer_notes path.Core rows moment s m = no_observer_notes rows moment (look_effects (entries rows) moment s m).notes (look_effects-notes (entries rows) moment s m)
+served_observer_notes path.Res rows moment s m = lookup_observer_notes rows moment s m
+served_observer_notes path.Ep rows moment s m = lookup_observer_notes rows moment s m
+served_observer_notes path.SimpleRd rows moment s m = quiet (quiet_of of_write (λ o. refl) (λ p t b n. refl) (λ p t. refl) (write_effects (events rows) moment s m).notes (write_effects-notes (events rows) moment s m))
+served_observer_notes path.Rd rows moment s m = quiet (quiet_of of_write (λ o. refl) (λ p t b n. refl) (λ p t. refl) (write_effects (events rows) moment s m).notes (write_effects-notes (events rows) moment s m))
+served_observer_notes (path.Location number) rows moment s m = quiet (quiet_of of_write (λ o. refl) (λ p t b n. refl) (λ p t. refl) (write_effects (events rows) moment s m).notes (write_effects-notes (events rows) moment s m))
+served_observer_notes path.Other rows moment s m = quiet refl
 
 -- a request as it is heard
-request_shows : (refusal : Option Reply) (rows : List Row) (moment : ℕ) (s : Step) (m : Message) → Shows rows moment (request_by refusal rows moment s m).notes
+request_observer_notes : (refusal : Option Reply) (rows : List Row) (moment : ℕ) (s : Step) (m : Message) → ObserverNotes rows moment (request_by refusal rows moment s m).notes
 unfolding answering
-request_shows (Some refusal) rows moment s m =
-    nothing_shown rows moment (refusal_answered m.kind (first_bad_option m.options) s m refusal).notes (refusal_notes m.kind (first_bad_option m.options) s m refusal)
-request_shows None rows moment s m = served_shows (path_in m) rows moment s m
+request_observer_notes (Some refusal) rows moment s m =
+    no_observer_notes rows moment (refusal_answered m.kind (first_bad_option m.options) s m refusal).notes (refusal_notes m.kind (first_bad_option m.options) s m refusal)
+request_observer_notes None rows moment s m = served_observer_notes (path_in m) rows moment s m
 
 -- a message that is heard
-role_shows : (r : Role) (starved : Bool) (rows : List Row) (moment : ℕ) (s : Step) (m : Message) → Shows rows moment (by_role r starved rows moment s m).notes
+role_observer_notes : (r : Role) (starved : Bool) (rows : List Row) (moment : ℕ) (s : Step) (m : Message) → ObserverNotes rows moment (by_role r starved rows moment s m).notes
 unfolding answering
-role_shows role.Ping starved rows moment s m = quiet refl
-role_shows role.Acknowledgement starved rows moment s m = quiet (quiet_of of_empty (λ o. refl) (λ p t b n. refl) (λ p t. refl) (acknowledged s.peer m.mid (events rows)).notes (acknowledged-notes s.peer m.mid (events rows)))
-role_shows role.Reset starved rows moment s m = quiet (quiet_of of_empty (λ o. refl) (λ p t b n. refl) (λ p t. refl) (reset s.peer m.mid (events rows)).notes (reset-notes s.peer m.mid (events rows)))
-role_shows role.Request true rows moment s m = quiet refl
-role_shows role.Request false rows moment s m = request_shows (refusal_by_request m) rows moment s m
-role_shows role.Response true rows moment s m = quiet refl
-role_shows role.Response false rows moment s m = quiet (quiet_of of_response (λ o. refl) (λ p t b n. refl) (λ p t. refl) (response_effects rows moment s m).notes (response_effects-notes rows moment s m))
-role_shows role.Ignored starved rows moment s m = quiet refl
+role_observer_notes role.Ping starved rows moment s m = quiet refl
+role_observer_notes role.Acknowledgement starved rows moment s m = quiet (quiet_of of_empty (λ o. refl) (λ p t b n. refl) (λ p t. refl) (acknowledged s.peer m.mid (events rows)).notes (acknowledged-notes s.peer m.mid (events rows)))
+role_observer_notes role.Reset starved rows moment s m = quiet (quiet_of of_empty (λ o. refl) (λ p t b n. refl) (λ p t. refl) (reset s.peer m.mid (events rows)).notes (reset-notes s.peer m.mid (events rows)))
+role_observer_notes role.Request true rows moment s m = quiet refl
+role_observer_notes role.Request false rows moment s m = request_observer_notes (refusal_by_request m) rows moment s m
+role_observer_notes role.Response true rows moment s m = quiet refl
+role_observer_notes role.Response false rows moment s m = quiet (quiet_of of_response (λ o. refl) (λ p t b n. refl) (λ p t. refl) (response_effects rows moment s m).notes (response_effects-notes rows moment s m))
+role_observer_notes role.Ignored starved rows moment s m = quiet refl
 
 -- a datagram that is heard, a commit, and a keep
-pub heard_shows : (starved : Bool) (rows : List Row) (moment : ℕ) (s : Step) (read : Result Message Unread) → Shows rows moment (heard starved rows moment s read).notes
-heard_shows starved rows moment s (Err fault) = nothing_shown rows moment (unread_answered s fault).notes (unread_notes s fault)
-heard_shows starved rows moment s (Ok m) = role_shows (role_of m.kind m.code) starved rows moment s m
+pub heard_observer_notes : (starved : Bool) (rows : List Row) (moment : ℕ) (s : Step) (read : Result Message Unread) → ObserverNotes rows moment (heard starved rows moment s read).notes
+heard_observer_notes starved rows moment s (Err fault) = no_observer_notes rows moment (unread_answered s fault).notes (unread_notes s fault)
+heard_observer_notes starved rows moment s (Ok m) = role_observer_notes (role_of m.kind m.code) starved rows moment s m
 
-pub done_shows : (starved : Bool) (rows : List Row) (moment place : ℕ) (s : Step) (read : Result Message Unread) → Shows rows moment (done starved rows moment place s read).notes
+pub done_observer_notes : (starved : Bool) (rows : List Row) (moment place : ℕ) (s : Step) (read : Result Message Unread) → ObserverNotes rows moment (done starved rows moment place s read).notes
 unfolding answering
-done_shows starved rows moment place s (Err fault) = quiet refl
-done_shows true rows moment place s (Ok m) = quiet refl
-done_shows false rows moment place s (Ok m) = quiet (quiet_of of_commit (λ o. refl) (λ p t b n. refl) (λ p t. refl) (commit_effects rows moment place s m).notes (commit_effects-notes rows moment place s m))
+done_observer_notes starved rows moment place s (Err fault) = quiet refl
+done_observer_notes true rows moment place s (Ok m) = quiet refl
+done_observer_notes false rows moment place s (Ok m) = quiet (quiet_of of_commit (λ o. refl) (λ p t b n. refl) (λ p t. refl) (commit_effects rows moment place s m).notes (commit_effects-notes rows moment place s m))
 
-pub kept_shows : (starved : Bool) (rows : List Row) (moment : ℕ) (s : Step) (read : Result Message Unread) (body tag : List ℕ) → Shows rows moment (kept_body starved s read body tag).notes
+pub kept_observer_notes : (starved : Bool) (rows : List Row) (moment : ℕ) (s : Step) (read : Result Message Unread) (body tag : List ℕ) → ObserverNotes rows moment (kept_body starved s read body tag).notes
 unfolding answering
-kept_shows starved rows moment s (Err fault) body tag = quiet refl
-kept_shows true rows moment s (Ok m) body tag = quiet refl
-kept_shows false rows moment s (Ok m) body tag = quiet (ap (list_any is_observing) (keep_effects-notes s m body tag))
+kept_observer_notes starved rows moment s (Err fault) body tag = quiet refl
+kept_observer_notes true rows moment s (Ok m) body tag = quiet refl
+kept_observer_notes false rows moment s (Ok m) body tag = quiet (ap (list_any is_observing) (keep_effects-notes s m body tag))
 
 -- behind a row that shows so much, each observer that stands knows
-shown_row : (rows : List Row) (r : Row) → is_desk_row r ≡ true → Shows rows r.moment.0 r.notes → AllKnown rows → AllKnown (r ∷ rows)
-shown_row rows r desk (quiet h) all = quiet_row rows r desk h all
-shown_row rows r desk (adds o front back body notes before after listed none) all =
+observer_notes_row : (rows : List Row) (r : Row) → is_desk_row r ≡ true → ObserverNotes rows r.moment.0 r.notes → AllKnown rows → AllKnown (r ∷ rows)
+observer_notes_row rows r desk (quiet h) all = quiet_row rows r desk h all
+observer_notes_row rows r desk (adds o front back body notes before after listed none) all =
     observed_row rows r desk none (record { observer = o; front = front; back = back; body = body; notes = notes; quiet_front = before; quiet_back = after; listed = listed }) all
 
 -- behind each row
@@ -192,16 +192,16 @@ row-AllKnown rows s starved all = by s.kind refl
     notes_of : (k : StepKind) → s.kind ≡ k → (row rows s starved).notes ≡ (effects k starved rows (row_moment rows s) s).notes
     notes_of k e = ap (λ x. (effects x starved rows (row_moment rows s) s).notes) e
 
-    shows : (k : StepKind) → s.kind ≡ k → is_look k ≡ false → Shows rows (row_moment rows s) (effects k starved rows (row_moment rows s) s).notes → AllKnown (row rows s starved ∷ rows)
+    shows : (k : StepKind) → s.kind ≡ k → is_look k ≡ false → ObserverNotes rows (row_moment rows s) (effects k starved rows (row_moment rows s) s).notes → AllKnown (row rows s starved ∷ rows)
     shows k e none h =
-        shown_row rows (row rows s starved) (desk k e none) (subst (Shows rows (row_moment rows s)) (sym (notes_of k e)) h) all
+        observer_notes_row rows (row rows s starved) (desk k e none) (subst (ObserverNotes rows (row_moment rows s)) (sym (notes_of k e)) h) all
 
     by : (k : StepKind) → s.kind ≡ k → AllKnown (row rows s starved ∷ rows)
-    by step.Admit e = shows step.Admit e refl (heard_shows starved rows (row_moment rows s) s (reading s.datagram))
+    by step.Admit e = shows step.Admit e refl (heard_observer_notes starved rows (row_moment rows s) s (reading s.datagram))
     by step.Look e =
         look_row rows (row rows s starved) (ap (λ x. not (is_look x)) e) (notes_of step.Look e ∙ looked_notes starved rows (row_moment rows s) s (reading s.datagram)) all
-    by (step.Commit place) e = shows (step.Commit place) e refl (done_shows starved rows (row_moment rows s) place s (reading s.datagram))
-    by (step.Keep body tag) e = shows (step.Keep body tag) e refl (kept_shows starved rows (row_moment rows s) s (reading s.datagram) body tag)
+    by (step.Commit place) e = shows (step.Commit place) e refl (done_observer_notes starved rows (row_moment rows s) place s (reading s.datagram))
+    by (step.Keep body tag) e = shows (step.Keep body tag) e refl (kept_observer_notes starved rows (row_moment rows s) s (reading s.datagram) body tag)
     by step.Tick e = tick_row rows (row rows s starved) starved (desk step.Tick e refl) (notes_of step.Tick e) all
 
 -- in each journal

@@ -27,10 +27,10 @@ use Rattle.journal_model.proofs.Jobs.{KeepsOf, keeps_of}
 use Rattle.headline_law.proofs.sends.ReadAgain.{header_read}
 use Rattle.headline_law.proofs.sends.BodyAnswers.{Bears, IsBodyOf, tag-length, bears_carries}
 use Rattle.headline_law.proofs.sends.LookupSends.{AreBodiesOf, keep_bears}
-use Rattle.headline_law.proofs.notes.Asking.{look_fits, KeptAt}
+use Rattle.headline_law.proofs.notes.LookupNotes.{look_fits, KeptAt}
 use Rattle.headline_law.proofs.sends.ValidLaw.{LooksAt, a_look_reads, looked_a_look}
-use Rattle.headline_law.proofs.flights.TickCarries.{Carried}
-use Rattle.headline_law.proofs.rows.RowCarries.{NoteAs, RowCarries}
+use Rattle.headline_law.proofs.flights.CarriedListings.{Carried}
+use Rattle.headline_law.proofs.rows.RowCarries.{NoteAsFormed, RowCarries}
 
 -- ---- a row of a keep
 
@@ -95,8 +95,8 @@ keep_of rows s m body current journal may kind read = record {
   is_kept = record {
     query = query_of m;
     asks = record { request = m; fits = look_fits m only; key_is = refl; query_is = refl };
-    body_is = parts.0 ∙ ap (λ history. listing (query_of m) history held.look.row.moment.0) (sym untold);
-    tag_is = parts.1 ∙ ap (λ history. tag history held.look.row.moment.0) (sym untold);
+    body_is = parts.0 ∙ ap (λ history. listing (query_of m) history held.look.row.moment.0) (sym same_entries);
+    tag_is = parts.1 ∙ ap (λ history. tag history held.look.row.moment.0) (sym same_entries);
   };
   query_is = refl;
 }
@@ -113,8 +113,8 @@ keep_of rows s m body current journal may kind read = record {
     same_read : reading held.look.row.step.datagram ≡ Ok m
     same_read = ap reading (sym held.keeps.datagram) ∙ read
 
-    untold : entries (held.look.row ∷ held.look.before) ≡ entries held.look.before
-    untold = entries-none_noted held.look.before held.look.row (ap entries_in its.silent)
+    same_entries : entries (held.look.row ∷ held.look.before) ≡ entries held.look.before
+    same_entries = entries-none_noted held.look.before held.look.row (ap entries_in its.silent)
 
     parts : (body ≡ listing (query_of m) (entries held.look.before) held.look.row.moment.0) × (current ≡ tag (entries held.look.before) held.look.row.moment.0)
     parts = same_keep body current (listing (query_of m) (entries held.look.before) held.look.row.moment.0) (tag (entries held.look.before) held.look.row.moment.0)
@@ -132,7 +132,7 @@ pub keep_row : (rows : List Row) (r : Row) (m : Message) (body current : List �
     → r.sent ≡ (keep_effects r.step m body current).sent → r.notes ≡ (keep_effects r.step m body current).notes → RowCarries rows r
 keep_row rows r m body current journal may kind read sent notes = record {
   carried = subst (AllByRecursion (Carried here)) (sym sent) (each (keep_effects r.step m body current).sent (keep_bears r.step m body current small short));
-  noted = subst (AllByRecursion (NoteAs here)) (sym (notes ∙ keep_effects-notes r.step m body current)) (record { former = it.look; formed = ap (λ k. former_by k here) kind ∙ it.found; is_kept = it.is_kept }, tt);
+  noted = subst (AllByRecursion (NoteAsFormed here)) (sym (notes ∙ keep_effects-notes r.step m body current)) (record { former = it.look; formed = ap (λ k. former_by k here) kind ∙ it.found; is_kept = it.is_kept }, tt);
 }
   where
     here : Placed

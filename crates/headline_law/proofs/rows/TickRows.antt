@@ -21,15 +21,14 @@ use Rattle.journal_model.specs.Headline.{former_noted}
 use Rattle.journal_model.proofs.NoteKinds.{of_resent, are, none_of}
 use Rattle.headline_law.proofs.sends.BodyAnswers.{IsBodyOf, other_code}
 use Rattle.headline_law.proofs.sends.PlainSteps.{IsPlain, ArePlain}
-use Rattle.headline_law.proofs.sends.TickSends.{FoundSent, sent_by_found, mid_of_confirmable}
+use Rattle.headline_law.proofs.sends.TickSends.{FoundSent, sent_by-FoundSent, mid_of_confirmable}
 use Rattle.rd_base.proofs.lemmas.Among.{all_among}
 use Rattle.journal_model.proofs.FlightKeys.{key_of}
-use Rattle.headline_law.proofs.flights.Standing.{Waits}
-use Rattle.headline_law.proofs.flights.AgainFacts.{AgainSent, AgainNoted, behind_again, again_waits}
+use Rattle.headline_law.proofs.flights.WaitedPeers.{Waits}
+use Rattle.headline_law.proofs.flights.NoticesAgain.{again_peer, AgainSent, AgainNoted, events_after_again, again_waits}
 use Rattle.headline_law.proofs.flights.TickNotices.{IsNoticeOf, FreshSent, TickSoFar}
-use Rattle.headline_law.proofs.flights.TickFolds.{again_peer}
 use Rattle.headline_law.proofs.flights.KnownFlights.{NoticeOf, FlightKnown, FlightsKnown}
-use Rattle.headline_law.proofs.flights.TickCarries.{Carried, is_used, noted_again, noted_here, stood_before, observer_formed}
+use Rattle.headline_law.proofs.flights.CarriedListings.{Carried, is_used, noted_again, noted_here, stood_before, observer_formed}
 use Rattle.std.proofs.lemmas.Bool.{or_left}
 use Rattle.rd_base.proofs.lemmas.Each.{each_append, each_weaker}
 
@@ -43,7 +42,7 @@ pub record TickRow (rows : List Row) (r : Row) : Type 0 where
   pub so_far : TickSoFar rows r.moment.0 r.step.word notified
   pub plain : ArePlain requests.sent
   pub resent : are of_resent requests.notes ≡ true
-  pub untold : entries (r ∷ rows) ≡ entries rows
+  pub same_entries : entries (r ∷ rows) ≡ entries rows
   pub unused : list_any is_used r.notes ≡ false
   pub known : FlightsKnown rows
 
@@ -72,7 +71,7 @@ again_carried rows r t d a m e listed =
         → IsBodyOf a.observer.token (listing a.observer.query (entries (notice.placed.row ∷ notice.placed.before)) notice.placed.row.moment.0) (tag (entries (notice.placed.row ∷ notice.placed.before)) notice.placed.row.moment.0) x.1
 
     found : FoundSent To a.observer.peer a.flight_is.mid d
-    found = sent_by_found To (row_at a.flight_is.formed.place rows) a.observer.peer a.flight_is.mid d
+    found = sent_by-FoundSent To (row_at a.flight_is.formed.place rows) a.observer.peer a.flight_is.mid d
         (λ x at. subst (λ (y : Row). AllByRecursion To y.sent) (same_Some notice.placed.row x (sym notice.at_place ∙ at)) notice.sent) a.found
 
     again : list_any (is_again_of a.observer.peer a.flight_is.mid) r.notes ≡ true
@@ -84,20 +83,20 @@ again_carried rows r t d a m e listed =
 -- the listing of a row that tells no entry
 pub as_row : (rows : List Row) (r : Row) (o : Observer) (octets : List ℕ) → entries (r ∷ rows) ≡ entries rows → IsNoticeOf rows r.moment.0 o octets
     → IsBodyOf o.token (listing o.query (entries (r ∷ rows)) r.moment.0) (tag (entries (r ∷ rows)) r.moment.0) octets
-as_row rows r o octets untold h = subst (λ history. IsBodyOf o.token (listing o.query history r.moment.0) (tag history r.moment.0) octets) (sym untold) h
+as_row rows r o octets same_entries h = subst (λ history. IsBodyOf o.token (listing o.query history r.moment.0) (tag history r.moment.0) octets) (sym same_entries) h
 
 -- a new notice
 fresh_carried : (rows : List Row) (r : Row) → (t : TickRow rows r) → (d : Peer × List ℕ) → FreshSent rows r.moment.0 r.step.word d → Carried (record { row = r; before = rows }) d
 fresh_carried rows r t d f m e listed =
     observer_formed (record { row = r; before = rows }) (record { row = r; before = rows }) f.observer d m t.tick (stood_before rows r.moment.0 r.step.word f.observer f.stands) f.of_peer
-    (as_row rows r f.observer d.1 t.untold f.body m e listed)
+    (as_row rows r f.observer d.1 t.same_entries f.body m e listed)
     (noted_here d.0 m.mid r.notes (record { row = r; before = rows }) t.unused none)
   where
     one : (n : Note) → AgainNoted rows r.moment.0 n → is_again_of d.0 m.mid n ≡ false
     one (note.Again p mid) a = by (is_same_peer p d.0) refl
       where
         by : (b : Bool) → is_same_peer p d.0 ≡ b → (is_same_peer p d.0 && mid == m.mid) ≡ false
-        by true same = absurd (f.free (subst (λ q. Waits q (behind_again rows r.moment.0 r.step.word)) (a.of_peer ∙ ((is_same_peer-Decides p d.0).0 same ∙ f.of_peer)) (again_waits rows r.moment.0 r.step.word a.observer a.flight_is a.again)))
+        by true same = absurd (f.free (subst (λ q. Waits q (events_after_again rows r.moment.0 r.step.word)) (a.of_peer ∙ ((is_same_peer-Decides p d.0).0 same ∙ f.of_peer)) (again_waits rows r.moment.0 r.step.word a.observer a.flight_is a.again)))
         by false other = rw other refl
     one _ a = refl
 

@@ -36,7 +36,7 @@ use Rattle.journal_model.specs.Rows.{served, request_by, without_memory, by_role
 use Rattle.journal_model.specs.Machine.{is_look_message, is_look_reading}
 use Rattle.journal_model.proofs.NoteKinds.{of_lookup, of_write, of_empty, of_tick, of_response, are}
 use Rattle.journal_model.proofs.StepNotes.{look_effects-notes, keep_effects-notes, lookup_effects-notes, write_effects-notes, acknowledged-notes, reset-notes, tick_effects-notes}
-use Rattle.headline_law.proofs.notes.ChangingNotes.{response_effects-notes}
+use Rattle.headline_law.proofs.notes.ChangeNotes.{response_effects-notes}
 use Rattle.headline_law.proofs.notes.SilentSteps.{refusal_notes, unread_notes}
 use Rattle.headline_law.proofs.sends.PlainSteps.{IsPlain, ArePlain, SettledPlain, SettlesPlainly, refusal_plain, refused_plain, starved_plain, unread_plain, write_plain, never_settles}
 use Rattle.headline_law.proofs.sends.PlainCommits.{commit_plain, response_plain}

@@ -34,10 +34,10 @@ pub record FoundSent (P : Peer × List ℕ → Type 0) (peer : Peer) (mid : ℕ)
   pub confirmable : is_confirmable_with mid d.1 ≡ true
 
 -- so it is of whatever is found
-pub sent_by_found : (P : Peer × List ℕ → Type 0) (at : Option Row) (peer : Peer) (mid : ℕ) (d : Peer × List ℕ) → ((r : Row) → at ≡ Some r → AllByRecursion P r.sent)
+pub sent_by-FoundSent : (P : Peer × List ℕ → Type 0) (at : Option Row) (peer : Peer) (mid : ℕ) (d : Peer × List ℕ) → ((r : Row) → at ≡ Some r → AllByRecursion P r.sent)
     → sent_by at peer mid ≡ Some d → FoundSent P peer mid d
-sent_by_found P None peer mid d all found = absurd (let no : None ≡ Some d = found in cc)
-sent_by_found P (Some r) peer mid d all found =
+sent_by-FoundSent P None peer mid d all found = absurd (let no : None ≡ Some d = found in cc)
+sent_by-FoundSent P (Some r) peer mid d all found =
     let it = find_passes P (λ x. is_same_peer x.0 peer && is_confirmable_with mid x.1) r.sent d (all r refl) found in
     let both = and_parts (is_same_peer d.0 peer) (is_confirmable_with mid d.1) it.1 in
     record { holds = it.0; to_peer = both.0; confirmable = both.1 }
@@ -85,7 +85,7 @@ requests_plain rows moment asked =
     again true true peer e (Some request) last noted = tt
     again true false peer e (Some request) last noted =
         again_sent (λ (d : Peer × List ℕ). IsPlain d.1) (sent_by (row_at e.place rows) peer request.mid) (note.Resent peer)
-        (λ d found. (sent_by_found (λ (x : Peer × List ℕ). IsPlain x.1) (row_at e.place rows) peer request.mid d (λ r at. asked peer e request r last noted at) found).holds)
+        (λ d found. (sent_by-FoundSent (λ (x : Peer × List ℕ). IsPlain x.1) (row_at e.place rows) peer request.mid d (λ r at. asked peer e request r last noted at) found).holds)
 
     running : (peer : Peer) (e : Option Event) → last_request peer (events rows) ≡ e → ArePlain (fetch_again rows moment peer e).sent
     running peer None last = tt
@@ -113,7 +113,7 @@ again_not_valid rows moment calm =
     again true true o f = tt
     again true false o f =
         again_sent (λ (d : Peer × List ℕ). NotValid d.1) (sent_by (row_at f.formed.place rows) o.peer f.mid) (note.Again o.peer f.mid)
-        (λ d found. let it = sent_by_found (λ (x : Peer × List ℕ). is_confirmable x.1 ≡ true → NotValid x.1) (row_at f.formed.place rows) o.peer f.mid d (λ r at. calm f.formed.place r at) found in
+        (λ d found. let it = sent_by-FoundSent (λ (x : Peer × List ℕ). is_confirmable x.1 ≡ true → NotValid x.1) (row_at f.formed.place rows) o.peer f.mid d (λ r at. calm f.formed.place r at) found in
         it.holds (confirmable_of f.mid d.1 it.confirmable))
 
     flying : (o : Observer) (f : Option Flight) → NoneValid (flight_again rows moment o f).sent

@@ -35,7 +35,7 @@ use Rattle.journal_model.specs.Headline.{admits}
 use Rattle.journal_model.proofs.NoteKinds.{of_lookup, of_empty, of_tick, of_commit, of_response, are, none_of}
 use Rattle.journal_model.proofs.StepNotes.{look_effects-notes, keep_effects-notes, lookup_effects-notes, acknowledged-notes, reset-notes, tick_effects-notes}
 use Rattle.headline_law.proofs.notes.SilentSteps.{refusal_notes, unread_notes, looked_notes}
-use Rattle.headline_law.proofs.notes.ChangingNotes.{commit_effects-notes, response_effects-notes}
+use Rattle.headline_law.proofs.notes.ChangeNotes.{commit_effects-notes, response_effects-notes}
 
 -- one of the notes admits a write of a peer and a Message ID
 abbrev admitted : Peer → ℕ → List Note → Bool

@@ -21,8 +21,8 @@ use Rattle.journal_model.specs.Ticks.{notices_again}
 use Rattle.journal_model.specs.Headline.{Placed, has_listing, former_noted, former_of_notice, former_at, observer_named, query_answered, FormedAs}
 use Rattle.headline_law.proofs.sends.BodyAnswers.{Bears, bears_carries}
 use Rattle.rd_base.proofs.lemmas.Among.{Among, all_among, among_all, find_only}
-use Rattle.headline_law.proofs.notes.Asking.{OfWatched, observers_all}
-use Rattle.headline_law.proofs.flights.AgainFacts.{behind_again, again_none}
+use Rattle.headline_law.proofs.notes.LookupNotes.{OfWatched, observers_all}
+use Rattle.headline_law.proofs.flights.NoticesAgain.{events_after_again, again_none}
 use Rattle.std.proofs.lemmas.Bool.{or_parts}
 use Rattle.rd_base.proofs.lemmas.Each.{each_failing}
 
@@ -72,7 +72,7 @@ noted_here peer mid (n ∷ notes) here unused none =
 -- ---- who stands
 
 -- who stands behind the first part stood before it
-pub stood : (rows : List Row) (moment word : ℕ) (P : Observer → Type 0) → AllByRecursion P (observers (events rows)) → AllByRecursion P (observers (behind_again rows moment word))
+pub stood : (rows : List Row) (moment word : ℕ) (P : Observer → Type 0) → AllByRecursion P (observers (events rows)) → AllByRecursion P (observers (events_after_again rows moment word))
 stood rows moment word P all = observers_all P (length rows) moment word (notices_again rows moment).notes (events rows) (each_failing is_added (OfWatched P) one (notices_again rows moment).notes (again_none is_added (λ p t. refl) (λ p m. refl) rows moment)) all
   where
     is_added : Note → Bool
@@ -84,14 +84,14 @@ stood rows moment word P all = observers_all P (length rows) moment word (notice
     one _ h = tt
 
 -- so an observer that stands stood before
-pub stood_before : (rows : List Row) (moment word : ℕ) (o : Observer) → Among o (observers (behind_again rows moment word)) → Among o (observers (events rows))
+pub stood_before : (rows : List Row) (moment word : ℕ) (o : Observer) → Among o (observers (events_after_again rows moment word)) → Among o (observers (events rows))
 stood_before rows moment word o stands =
-    all_among (λ x. Among x (observers (events rows))) o (observers (behind_again rows moment word))
+    all_among (λ x. Among x (observers (events rows))) o (observers (events_after_again rows moment word))
     (stood rows moment word (λ x. Among x (observers (events rows))) (among_all (λ x. Among x (observers (events rows))) (observers (events rows)) (λ x h. h))) stands
 
 -- an observer that stands is found by its name
-pub found_by_name : (rows : List Row) (o : Observer) → Among o (observers (events rows)) → observer_named (name_of o) rows ≡ Some o
-found_by_name rows o stands =
+pub observer_named-Some : (rows : List Row) (o : Observer) → Among o (observers (events rows)) → observer_named (name_of o) rows ≡ Some o
+observer_named-Some rows o stands =
     find_only (λ x. is_same_request (name_of x) (name_of o)) o (observers (events rows)) stands (is_same_request-refl (name_of o))
     (all_among (λ x. Only x (observers (events rows))) o (observers (events rows)) (apart_only (observers (events rows)) (observers-apart (events rows))) stands)
 
@@ -107,6 +107,6 @@ observer_formed here former o d m tick stands same bears formed = record {
   query = o.query;
   asked = subst (λ k. query_answered k (d.0, m.token) here ≡ Some o.query) (sym tick)
       (ap (λ (name : RequestName). option_map (λ (x : Observer). x.query) (observer_named name here.before)) (ap₂ (λ p t. (p, t)) same bears.token_is)
-      ∙ ap (λ found. option_map (λ (x : Observer). x.query) found) (found_by_name here.before o stands));
+      ∙ ap (λ found. option_map (λ (x : Observer). x.query) found) (observer_named-Some here.before o stands));
   carries = bears_carries o.token o.query (entries (former.row ∷ former.before)) former.row.moment.0 m bears;
 }

@@ -48,10 +48,10 @@ unchanged query t h =
     (not-false (are_same_lines (all_lines query t.before t.moment_before) (all_lines query t.after t.moment_after)) h))
 
 -- who is due, by the event at which it was last looked at
-due_by : (o : Observer) (past : List Event) (rows_seen : List Transition) (e : Event) → last_event (is_looking_for (name_of o)) past ≡ Some e
+due_since : (o : Observer) (past : List Event) (rows_seen : List Transition) (e : Event) → last_event (is_looking_for (name_of o)) past ≡ Some e
     → is_due o past rows_seen ≡ list_any (is_change_of o.query) (filter (λ t. nat_lt e.place t.place) rows_seen)
 unfolding is_due
-due_by o past rows_seen e last = ap (is_changed_since o.query rows_seen) last
+due_since o past rows_seen e last = ap (is_changed_since o.query rows_seen) last
 
 -- behind a row that does not look at its listing, an observer knows as before
 pub known_quiet : (past : List Event) (rows_seen : List Transition) (history more : List Entry) (moment later word count : ℕ) (notes : List Note) (o : Observer)
@@ -61,7 +61,7 @@ known_quiet past rows_seen history more moment later word count notes o known qu
   event = known.event;
   last = last;
   place = let low = known.place in omega (arith, low);
-  knows = λ not_due. last_body_formed-before (name_of o) count later word notes past quiet ∙ given (or_parts _ _ (counted (sym (due_by o (noted count later word notes past) (t ∷ rows_seen) known.event last) ∙ not_due)));
+  knows = λ not_due. last_body_formed-before (name_of o) count later word notes past quiet ∙ was_formed (or_parts _ _ (counted (sym (due_since o (noted count later word notes past) (t ∷ rows_seen) known.event last) ∙ not_due)));
 }
   where
     t : Transition
@@ -75,17 +75,17 @@ known_quiet past rows_seen history more moment later word count notes o known qu
     counted h = subst (λ b. list_any (is_change_of o.query) (cond b (t ∷ filter (λ x. nat_lt known.event.place x.place) rows_seen) (filter (λ x. nat_lt known.event.place x.place) rows_seen)) ≡ false)
         (lt-ltb known.event.place count known.place) h
 
-    given : (is_change_of o.query t ≡ false) × (list_any (is_change_of o.query) (filter (λ x. nat_lt known.event.place x.place) rows_seen) ≡ false)
+    was_formed : (is_change_of o.query t ≡ false) × (list_any (is_change_of o.query) (filter (λ x. nat_lt known.event.place x.place) rows_seen) ≡ false)
         → last_body_formed (name_of o) past ≡ Some (listing o.query more later)
-    given h = known.knows (due_by o past rows_seen known.event known.last ∙ h.1) ∙ ap (λ body. Some body) (unchanged o.query t h.0)
+    was_formed h = known.knows (due_since o past rows_seen known.event known.last ∙ h.1) ∙ ap (λ body. Some body) (unchanged o.query t h.0)
 
 -- behind a row that looks at its listing, and has given it that
 pub known_looked : (past : List Event) (rows_seen : List Transition) (history : List Entry) (later word count : ℕ) (notes : List Note) (o : Observer)
     → list_any (is_looking_for (name_of o)) notes ≡ true → last_body_formed (name_of o) (noted count later word notes past) ≡ Some (listing o.query history later)
     → Known (noted count later word notes past) rows_seen history later (suc count) o
-known_looked past rows_seen history later word count notes o looks given =
+known_looked past rows_seen history later word count notes o looks formed =
     let found : Found (is_looking_for (name_of o)) (noted count later word notes past) count later = last_event-here (is_looking_for (name_of o)) count later word notes past looks in
-    record { event = found.event; last = found.last; place = let here = found.at_place in omega (arith, here); knows = λ not_due. given }
+    record { event = found.event; last = found.last; place = let here = found.at_place in omega (arith, here); knows = λ not_due. formed }
 
 -- what is known of an observer in a journal, and of all that stand
 abbrev pub KnownIn : List Row → Observer → Type 0
@@ -127,8 +127,8 @@ known_row rows r o desk quiet known =
 pub looked_row : (rows : List Row) (r : Row) (o : Observer) → is_desk_row r ≡ true → list_any (is_looking_for (name_of o)) r.notes ≡ true
     → last_body_formed (name_of o) (events (r ∷ rows)) ≡ Some (listing o.query (entries (r ∷ rows)) r.moment.0) → KnownIn (r ∷ rows) o
 unfolding events entries now transitions
-looked_row rows r o desk looks given =
-    rw desk (known_looked (events rows) _ (entries rows ++ entries_of r) r.moment.0 r.step.word (length rows) r.notes o looks given)
+looked_row rows r o desk looks formed =
+    rw desk (known_looked (events rows) _ (entries rows ++ entries_of r) r.moment.0 r.step.word (length rows) r.notes o looks formed)
 
 -- a row that adds no observer and looks at no listing
 pub quiet_row : (rows : List Row) (r : Row) → is_desk_row r ≡ true → list_any is_observing r.notes ≡ false → AllKnown rows → AllKnown (r ∷ rows)
