@@ -100,16 +100,16 @@ registering-NotesNext rows moment s m = by (sent_block m)
     unless false true b body = none refl
     unless false false b body = taken b.more b body
 
-    behind : (front upload : Option (List ℕ)) (b : Block) → NotesNext (entries rows) moment (block_behind front upload rows moment s m b).notes
-    behind None upload b = none refl
-    behind (Some front) upload b =
+    after : (front upload : Option (List ℕ)) (b : Block) → NotesNext (entries rows) moment (block_behind front upload rows moment s m b).notes
+    after None upload b = none refl
+    after (Some front) upload b =
         unless (nat_lt max_body (length front + length m.payload)) (is_one_too_many b upload (live_uploads moment (events rows))) b (front ++ m.payload)
 
     by : (b : Option Block) → NotesNext (entries rows) moment (registered_by b rows moment s m).notes
     by None = registration-NotesNext (entries rows) moment s (registration_values (queries_in m)) m.payload [] [] refl
     by (Some b) =
         let upload : Option (List ℕ) = live_upload moment (s.peer, key_in m) (events rows) in
-        behind (collected_before b upload) upload b
+        after (collected_before b upload) upload b
 
 -- the answer to a write is settled beside what came of it
 settling-NotesNext : (history : List Entry) (moment place : ℕ) (s : Step) (m : Message) (done : Outcome) → NotesNext history moment done.notes → NotesNext history moment (settling place s m done).notes

@@ -1,4 +1,4 @@
--- A commit has an entry exactly where its answer tells of a change, and other entries stand in rows of responses that complete a fetch.
+-- A commit has an entry exactly where its answer reports a change, and other entries stand in rows of responses that complete a fetch.
 use Rattle.std.proofs.Common.{◌≡◌, ℕ, ◌+◌, ◌==◌, Bool, true, false, List, [], ◌∷◌, ◌++◌, length, Option, Some, None, Result, Ok, Err, refl, ap, ◌∙◌, nat_lt, nat_le}
 use Rattle.rd_base.specs.declared.parameters.RegParams.{RegParams}
 use Rattle.message_model.specs.declared.blocks.Block.{Block}
@@ -35,10 +35,10 @@ use Rattle.journal_model.specs.Rows.{done, effects}
 use Rattle.journal_model.specs.Headline.{code_sent, names_location, is_telling}
 use Rattle.journal_model.proofs.EntriesNoted.{entries_in, entries_in-append}
 
--- no entry beside an answer that tells of no change, or one beside an answer that tells of one
-pub data EntryAsAnswered (entries : List Entry) (tells : Bool) : Type 0 where
-  no_change : entries ≡ [] → tells ≡ false → EntryAsAnswered entries tells
-  one_change : (entry : Entry) → entries ≡ entry ∷ [] → tells ≡ true → EntryAsAnswered entries tells
+-- no entry beside an answer that reports no change, or one beside an answer that reports one
+pub data EntryAsAnswered (entries : List Entry) (reports : Bool) : Type 0 where
+  no_change : entries ≡ [] → reports ≡ false → EntryAsAnswered entries reports
+  one_change : (entry : Entry) → entries ≡ entry ∷ [] → reports ≡ true → EntryAsAnswered entries reports
 
 -- what comes of a write, for a path that is a location or is none
 abbrev pub OutcomeAsAnswered : Outcome → Bool → Type 0
@@ -47,7 +47,7 @@ OutcomeAsAnswered outcome of_location = EntryAsAnswered (entries_in outcome.note
 -- a change
 change_made-EntryAsAnswered : (history : List Entry) (entry : Entry) (outcome : Outcome) (l : Bool) → entries_in outcome.notes ≡ [] → is_telling outcome.reply.code l ≡ true
     → OutcomeAsAnswered (change_made history entry outcome) l
-change_made-EntryAsAnswered history entry outcome l silent tells = by (change_refusal 0 history entry)
+change_made-EntryAsAnswered history entry outcome l silent reports = by (change_refusal 0 history entry)
   where
     refused : (why : Refusal) → OutcomeAsAnswered (refused_as why) l
     refused refusal.Registration = no_change refl refl
@@ -57,7 +57,7 @@ change_made-EntryAsAnswered history entry outcome l silent tells = by (change_re
 
     by : (why : Option Refusal) → OutcomeAsAnswered (entered_unless why entry outcome) l
     by (Some why) = refused why
-    by None = one_change entry (ap (λ entries. entry ∷ entries) silent) tells
+    by None = one_change entry (ap (λ entries. entry ∷ entries) silent) reports
 
 -- the two refusals of a body
 bad_body-EntryAsAnswered : (history : List Entry) (moment : ℕ) (s : Step) (params : RegParams) (further : List Opt) (notes : List Note) (word : List ℕ) (l : Bool)
@@ -90,23 +90,23 @@ registering-EntryAsAnswered rows moment s m l = by (sent_block m)
     unless false true b body = no_change refl refl
     unless false false b body = taken b.more b body
 
-    behind : (front upload : Option (List ℕ)) (b : Block) → OutcomeAsAnswered (block_behind front upload rows moment s m b) l
-    behind None upload b = no_change refl refl
-    behind (Some front) upload b =
+    after : (front upload : Option (List ℕ)) (b : Block) → OutcomeAsAnswered (block_behind front upload rows moment s m b) l
+    after None upload b = no_change refl refl
+    after (Some front) upload b =
         unless (nat_lt max_body (length front + length m.payload)) (is_one_too_many b upload (live_uploads moment (events rows))) b (front ++ m.payload)
 
     by : (b : Option Block) → OutcomeAsAnswered (registered_by b rows moment s m) l
     by None = registration-EntryAsAnswered (entries rows) moment s (registration_values (queries_in m)) m.payload [] [] l refl
     by (Some b) =
         let upload : Option (List ℕ) = live_upload moment (s.peer, key_in m) (events rows) in
-        behind (collected_before b upload) upload b
+        after (collected_before b upload) upload b
 
--- the answer has the code of what came of the write, and settling it tells nothing more
+-- the answer has the code of what came of the write, and settling it notes no entry
 settling-EntryAsAnswered : (place : ℕ) (s : Step) (m : Message) (outcome : Outcome) (l : Bool) → OutcomeAsAnswered outcome l
     → EntryAsAnswered (entries_in (settling place s m outcome).notes) (is_telling (code_sent (settling place s m outcome).sent) l)
 unfolding answering spelling header_spelling
-settling-EntryAsAnswered place s m outcome l (no_change h tells) = no_change (entries_in-append outcome.notes _ ∙ ap (λ entries. entries ++ []) h) tells
-settling-EntryAsAnswered place s m outcome l (one_change entry h tells) = one_change entry (entries_in-append outcome.notes _ ∙ ap (λ entries. entries ++ []) h) tells
+settling-EntryAsAnswered place s m outcome l (no_change h reports) = no_change (entries_in-append outcome.notes _ ∙ ap (λ entries. entries ++ []) h) reports
+settling-EntryAsAnswered place s m outcome l (one_change entry h reports) = one_change entry (entries_in-append outcome.notes _ ∙ ap (λ entries. entries ++ []) h) reports
 
 -- a commit of a write that was read
 commit_effects-EntryAsAnswered : (rows : List Row) (moment place : ℕ) (s : Step) (m : Message)
@@ -134,7 +134,7 @@ commit_effects-EntryAsAnswered rows moment place s m = by (path_in m)
     by path.Ep = no_change refl refl
     by path.Other = no_change refl refl
 
--- a commit has an entry exactly where its answer tells of a change
+-- a commit has an entry exactly where its answer reports a change
 pub commit-EntryAsAnswered : (place : ℕ) (starved : Bool) (rows : List Row) (moment : ℕ) (s : Step)
     → EntryAsAnswered (entries_in (effects (step.Commit place) starved rows moment s).notes)
     (is_telling (code_sent (effects (step.Commit place) starved rows moment s).sent) (names_location (reading s.datagram)))

@@ -59,7 +59,7 @@ begun_may_commit rows s place jobs (hears none heard) e = absurd (hearing_no_com
 begun_may_commit rows s place jobs (goes holds) e = jobs s.worker place (record { kind = s.kind; peer = s.peer; datagram = s.datagram }) holds e
 begun_may_commit rows s place jobs (ticks tick) e = absurd (let h : step.Tick ≡ step.Commit place = sym tick ∙ e in cc)
 
--- what a worker may commit, it may behind a row that does not commit it
+-- what a worker may commit, it may after a row that does not commit it
 MayCommit-row : (rows : List Row) (r : Row) (worker place : ℕ) → MayCommit rows worker place → (Commits r place → ⊥) → MayCommit (r ∷ rows) worker place
 unfolding row_at
 MayCommit-row rows r worker place held not_here = record {
@@ -146,11 +146,11 @@ orderly (r ∷ before) (made {rows} {s} starved journal may) =
 
 -- what nobody committed, no row committed
 nobody : (rows before : List Row) (r : Row) (place : ℕ) → NoCommit place rows → Within rows before r → Commits r place → ⊥
-nobody rows before r place fresh within commits = behind within.later (subst (NoCommit place) within.whole fresh)
+nobody rows before r place fresh within commits = after within.later (subst (NoCommit place) within.whole fresh)
   where
-    behind : (later : List Row) → NoCommit place (later ++ r ∷ before) → ⊥
-    behind [] h = h.0 commits
-    behind (x ∷ later) h = behind later h.1
+    after : (later : List Row) → NoCommit place (later ++ r ∷ before) → ⊥
+    after [] h = h.0 commits
+    after (x ∷ later) h = after later h.1
 
 -- each admission is committed at most once
 pub journal-once : (rows before earlier : List Row) (r other : Row) (place : ℕ) → IsJournal rows → Within rows before r → Within before earlier other → Commits r place → Commits other place → ⊥

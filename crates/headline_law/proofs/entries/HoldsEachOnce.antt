@@ -16,7 +16,7 @@ use Rattle.headline_law.proofs.entries.RowLaws.{row-origin}
 use Rattle.headline_law.proofs.entries.CommitLaws.{journal-once}
 use Rattle.headline_law.proofs.entries.FailedLaws.{journal-failed}
 
--- the row of a commit has an entry exactly where its answer tells of a change
+-- the row of a commit has an entry exactly where its answer reports a change
 row-EntryAsAnswered : (rows : List Row) (s : Step) (starved : Bool) (place : ℕ) → Commits (row rows s starved) place → EntryAsAnswered (entries_of (row rows s starved)) (tells_change (row rows s starved))
 unfolding row
 row-EntryAsAnswered rows s starved place commits =
@@ -31,12 +31,12 @@ commit_as_answered rows before r place journal within commits =
 
 -- one entry, or none
 one_entry : (r : Row) → EntryAsAnswered (entries_of r) (tells_change r) → tells_change r ≡ true → length (entries_of r) ≡ 1
-one_entry r (no_change none silent) tells = absurd (false≢true (sym silent ∙ tells))
-one_entry r (one_change entry one also) tells = ap length one
+one_entry r (no_change none silent) reports = absurd (false≢true (sym silent ∙ reports))
+one_entry r (one_change entry one also) reports = ap length one
 
 no_entry : (r : Row) → EntryAsAnswered (entries_of r) (tells_change r) → tells_change r ≡ false → entries_of r ≡ []
-no_entry r (no_change none silent) tells = none
-no_entry r (one_change entry one also) tells = absurd (false≢true (sym tells ∙ also))
+no_entry r (no_change none silent) reports = none
+no_entry r (one_change entry one also) reports = absurd (false≢true (sym reports ∙ also))
 
 -- so it is in each journal of the machine
 pub journal-HoldsEachOnce : (rows : List Row) → IsJournal rows → HoldsEachOnce rows
@@ -44,8 +44,8 @@ journal-HoldsEachOnce rows journal = record {
   legal = (journal-HasHistory rows journal).legal;
   single = λ before r within. journal-single rows before r journal within;
   origin = λ before r within some. origin before r within some;
-  answered = λ before r place within commits tells. one_entry r (commit_as_answered rows before r place journal within commits) tells;
-  untold = λ before r place within commits tells. no_entry r (commit_as_answered rows before r place journal within commits) tells;
+  answered = λ before r place within commits reports. one_entry r (commit_as_answered rows before r place journal within commits) reports;
+  untold = λ before r place within commits reports. no_entry r (commit_as_answered rows before r place journal within commits) reports;
   once = λ before earlier r other place within further commits again. journal-once rows before earlier r other place journal within further commits again;
   failed = λ before earlier r other peer mid within further now then close. journal-failed rows before earlier r other peer mid journal within further now then close;
 }

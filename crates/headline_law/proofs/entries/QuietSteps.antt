@@ -1,4 +1,4 @@
--- Steps that tell no entry: looks, keeps, lookups, writes as they are heard, empty messages, and ticks.
+-- Steps that note no entry: looks, keeps, lookups, writes as they are heard, empty messages, and ticks.
 use Rattle.std.proofs.Common.{◌≡◌, ℕ, Bool, List, [], refl}
 use Rattle.rd_base.specs.declared.peers.Peer.{Peer}
 use Rattle.message_model.specs.Message.{Message}

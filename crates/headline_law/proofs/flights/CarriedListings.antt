@@ -1,4 +1,4 @@
--- What a tick sends carries the listing of the row that formed it, and what is in flight behind it is known.
+-- What a tick sends carries the listing of the row that formed it, and what is in flight after it is known.
 use Rattle.std.proofs.Common.{◌≡◌, ℕ, ◌||◌, ◌&&◌, ◌==◌, Bool, true, false, cond, List, [], ◌∷◌, length, Some, option_map, Ok, refl, sym, ap, ap₂, subst, ◌∙◌}
 use Rattle.std.specs.List.{list_any, AllByRecursion}
 use Rattle.std.proofs.lemmas.Bool.{false≢true}
@@ -30,9 +30,9 @@ use Rattle.rd_base.proofs.lemmas.Each.{each_failing}
 abbrev pub Carried : Placed → Peer × List ℕ → Type 0
 Carried here d = (m : Message) → reading d.1 ≡ Ok m → has_listing m ≡ true → FormedAs here d.0 m
 
--- ---- which note tells of the former
+-- ---- which note names the row that formed a body
 
--- the note tells that a kept answer was read
+-- the note is of a kept answer that was read
 abbrev pub is_used : Note → Bool
 is_used (note.Used peer key) = true
 is_used _ = false
@@ -71,7 +71,7 @@ noted_here peer mid (n ∷ notes) here unused none =
 
 -- ---- who stands
 
--- who stands behind the first part stood before it
+-- who stands after the first part stood before it
 pub stood : (rows : List Row) (moment word : ℕ) (P : Observer → Type 0) → AllByRecursion P (observers (events rows)) → AllByRecursion P (observers (events_after_again rows moment word))
 stood rows moment word P all = observers_all P (length rows) moment word (notices_again rows moment).notes (events rows) (each_failing is_added (OfWatched P) one (notices_again rows moment).notes (again_none is_added (λ p t. refl) (λ p m. refl) rows moment)) all
   where
@@ -89,7 +89,7 @@ stood_before rows moment word o stands =
     all_among (λ x. Among x (observers (events rows))) o (observers (events_after_again rows moment word))
     (stood rows moment word (λ x. Among x (observers (events rows))) (among_all (λ x. Among x (observers (events rows))) (observers (events rows)) (λ x h. h))) stands
 
--- an observer that stands is found by its name
+-- an observer that stands is the one of its name
 pub observer_named-Some : (rows : List Row) (o : Observer) → Among o (observers (events rows)) → observer_named (name_of o) rows ≡ Some o
 observer_named-Some rows o stands =
     find_only (λ x. is_same_request (name_of x) (name_of o)) o (observers (events rows)) stands (is_same_request-refl (name_of o))

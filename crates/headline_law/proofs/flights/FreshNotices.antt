@@ -152,7 +152,7 @@ so_far_noticed rows moment word done new drew it = record {
     none_before d h same m e listed =
         absurd (new.free (subst (λ p. Waits p (noted (length rows) moment word done.notes (events rows))) ((is_same_peer-Decides d.0 new.observer.peer).0 same) (h m e listed)))
 
-    -- it was given the notice
+    -- the notice was formed for it
     was_noticed : FlightSoFar rows moment word new.observer (with_notice new drew)
     was_noticed = noticed new.mid own_key
         (list_any-append (forms_notice new.observer.peer new.mid) done.notes (notes_of new)

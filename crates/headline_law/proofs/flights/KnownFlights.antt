@@ -39,7 +39,7 @@ FlightKnown rows o = (mid place : ℕ) → flight_key o (events rows) ≡ Some (
 abbrev pub FlightsKnown : List Row → Type 0
 FlightsKnown rows = AllByRecursion (FlightKnown rows) (observers (events rows))
 
--- behind a row that forms no notice to the peer with this Message ID
+-- after a row that forms no notice to the peer with this Message ID
 pub notice_of_row : (rows : List Row) (r : Row) (o : Observer) (mid place : ℕ) → list_any (forms_notice o.peer mid) r.notes ≡ false → NoticeOf rows o mid place → NoticeOf (r ∷ rows) o mid place
 unfolding last_row row_at
 notice_of_row rows r o mid place none it = record {
@@ -69,7 +69,7 @@ none_in_flight rows r o none forms =
     key_none o (noted (length rows) r.moment.0 r.step.word r.notes (events rows)) found.event found.last
     (all_among (λ n. is_notice n ≡ false) found.event.note r.notes (each_failing is_notice (λ n. is_notice n ≡ false) (λ n h. h) r.notes none) it.0)
 
--- behind a row that forms no notice, and whatever observer it adds is formed for
+-- after a row that forms no notice, and whatever observer it adds is formed for
 pub flights_row : (rows : List Row) (r : Row) → list_any is_notice r.notes ≡ false → AllByRecursion (OfWatched (λ o. list_any (is_forming_for (name_of o)) r.notes ≡ true)) r.notes → FlightsKnown rows → FlightsKnown (r ∷ rows)
 unfolding events
 flights_row rows r none added all =

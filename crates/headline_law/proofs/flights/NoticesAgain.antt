@@ -133,7 +133,7 @@ again_notes rows moment =
     flying o stands None flies = tt
     flying o stands (Some f) flies = again (nat_le (deadline f.formed f.again) moment) (nat_le max_again (length f.again)) o f stands flies refl refl
 
--- ---- behind the first part
+-- ---- after the first part
 
 -- it forms nothing and acknowledges nothing
 pub again_none : (test : Note → Bool) → ((peer : Peer) (token : List ℕ) → test (note.Unwatched peer token) ≡ false) → ((peer : Peer) (mid : ℕ) → test (note.Again peer mid) ≡ false) → (rows : List Row) (moment : ℕ)
@@ -145,11 +145,11 @@ again_none test unwatched again rows moment = none_of of_again test never (notic
     never (note.Again peer mid) h = again peer mid
     never _ h = absurd (false≢true h)
 
--- the events behind it
+-- the events after it
 abbrev pub events_after_again : List Row → ℕ → ℕ → List Event
 events_after_again rows moment word = noted (length rows) moment word (notices_again rows moment).notes (events rows)
 
--- flights are the same behind it
+-- flights are the same after it
 pub again_key : (rows : List Row) (moment word : ℕ) (o : Observer) → flight_key o (events_after_again rows moment word) ≡ flight_key o (events rows)
 again_key rows moment word o =
     key_same_all o (length rows) moment word (notices_again rows moment).notes (events rows)

@@ -1,4 +1,4 @@
--- Behind a row of a tick, the notices in flight are known.
+-- After a row of a tick, the notices in flight are known.
 use Rattle.std.proofs.Common.{◌≡◌, ℕ, true, false, List, ◌∷◌, length, Option, Some, None, refl, sym, ap, subst, ◌∙◌, arith}
 use Rattle.std.specs.Prelude.{is_some}
 use Rattle.std.specs.List.{list_any, AllByRecursion}
@@ -45,14 +45,14 @@ events_after_requests : (rows : List Row) (r : Row) → (t : TickRow rows r) →
 unfolding events
 events_after_requests rows r t = ap (λ ns. noted (length rows) r.moment.0 r.step.word ns (events rows)) t.notes ∙ noted-append (length rows) r.moment.0 r.step.word t.notified.notes t.requests.notes (events rows)
 
--- the same stand as behind its first part
+-- the same stand as after its first part
 standing_of : (rows : List Row) (r : Row) → TickRow rows r → observers (events (r ∷ rows)) ≡ observers (events_after_again rows r.moment.0 r.step.word)
 standing_of rows r t =
     ap observers (events_after_requests rows r t)
     ∙ (observers_same (length rows) r.moment.0 r.step.word t.requests.notes (noted (length rows) r.moment.0 r.step.word t.notified.notes (events rows))
     (requests_none changes_observers (λ p. refl) (λ p. refl) t.requests.notes t.resent) ∙ t.so_far.stand)
 
--- flights are as behind its notices
+-- flights are as after its notices
 key_of_row : (rows : List Row) (r : Row) → (t : TickRow rows r) → (o : Observer) → flight_key o (events (r ∷ rows)) ≡ flight_key o (noted (length rows) r.moment.0 r.step.word t.notified.notes (events rows))
 key_of_row rows r t o =
     ap (flight_key o) (events_after_requests rows r t)

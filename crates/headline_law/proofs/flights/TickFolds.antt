@@ -31,7 +31,7 @@ use Rattle.journal_model.specs.Headline.{has_listing}
 use Rattle.headline_law.proofs.flights.FreshNotices.{NewNotice, so_far_noticed}
 use Rattle.rd_base.proofs.lemmas.Each.{each_weaker}
 
--- behind its first part
+-- after its first part
 pub tick_begins : (rows : List Row) (moment word : ℕ) → TickSoFar rows moment word (notices_again rows moment)
 tick_begins rows moment word = record {
   stand = refl;
@@ -50,7 +50,7 @@ kept_does : (test : Note → Bool) → ((peer : Peer) (key body current : List �
 kept_does test never true peer key body current = rw (never peer key body current) refl
 kept_does test never false peer key body current = refl
 
--- and tells of nothing that is sent again
+-- and is no note of what is sent again
 kept_again : (rows : List Row) (moment : ℕ) (b : Bool) (peer : Peer) (key body current : List ℕ) → AllByRecursion (AgainNoted rows moment) (cond b (note.Kept peer key body current ∷ []) [])
 kept_again rows moment true peer key body current = (tt, tt)
 kept_again rows moment false peer key body current = tt
@@ -113,7 +113,7 @@ tick_folds rows moment s [] done known it = it
 tick_folds rows moment s (x ∷ left) done known it =
     tick_folds rows moment s left (notice_next (ticking rows moment s) done x) known.1 (tick_step rows moment s x done known.0.0 known.0.1 it)
 
--- behind its notices
+-- after its notices
 pub tick_notifies : (rows : List Row) (moment : ℕ) (s : Step) → ((x : Observer) → Among x (observers (events_after_again rows moment s.word)) → length x.token ≤ longest_token)
     → TickSoFar rows moment s.word (notices (ticking rows moment s) (notices_again rows moment))
 unfolding notices

@@ -38,7 +38,7 @@ is_notice_to peer _ = false
 abbrev pub IsNoticeOf : List Row → ℕ → Observer → List ℕ → Type 0
 IsNoticeOf rows moment o octets = IsBodyOf o.token (listing o.query (entries rows) moment) (tag (entries rows) moment) octets
 
--- what a tick did so far to an observer that stands: its flight is as before, and where it has one its peer got no notice; or it was given a notice
+-- what a tick did so far to an observer that stands: its flight is as before, and where it has one its peer got no notice; or a notice was formed for it
 pub data FlightSoFar (rows : List Row) (moment word : ℕ) (o : Observer) (done : Effects) : Type 0 where
   as_before : flight_key o (noted (length rows) moment word done.notes (events rows)) ≡ flight_key o (events rows)
       → (is_some (flight_key o (events rows)) ≡ true → list_any (is_notice_to o.peer) done.notes ≡ false) → FlightSoFar rows moment word o done

@@ -1,4 +1,4 @@
--- Who stands behind the first part of a tick, and whom it waits for: notices that are sent again keep their observers.
+-- Who stands after the first part of a tick, and whom it waits for: notices that are sent again keep their observers.
 use Rattle.std.proofs.Common.{◌≡◌, ℕ, ◌&&◌, Bool, true, false, not, List, [], ◌∷◌, ◌++◌, length, filter, Option, Some, None, option_map, refl, sym, ap, subst, ◌∙◌, append-nil, nat_le}
 use Rattle.std.specs.Prelude.{is_some}
 use Rattle.std.specs.List.{list_any}

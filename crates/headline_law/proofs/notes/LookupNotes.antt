@@ -82,7 +82,7 @@ pub record KeptAt (history : List Entry) (moment : ℕ) (key body current : List
   pub body_is : body ≡ listing query history moment
   pub tag_is : current ≡ tag history moment
 
--- what a note says behind a history at a moment
+-- the note is as its lookup asked, after a history at a moment: what is kept is the listing of its query, and an observer asks for its query
 abbrev pub NoteAsAsked : List Entry → ℕ → Note → Type 0
 NoteAsAsked history moment (note.Kept peer key body current) = KeptAt history moment key body current
 NoteAsAsked history moment (note.Watched o) = IsAsking o
@@ -94,7 +94,7 @@ NotesAsAsked rows moment notes = AllByRecursion (NoteAsAsked (entries rows) mome
 
 -- ---- lookups
 
--- so it is of the notes of a lookup
+-- the notes of a lookup are so
 pub lookup_notes_as_asked : (rows : List Row) (moment : ℕ) (s : Step) (m : Message) → is_lookup (path_in m) ≡ true → length m.token ≤ longest_token → NotesAsAsked rows moment (lookup_effects rows moment s m).notes
 unfolding lookup_effects later_block observed unobserved answering
 lookup_notes_as_asked rows moment s m lookup small = by (is_later_block m)
@@ -148,7 +148,7 @@ lookup_notes_as_asked rows moment s m lookup small = by (is_later_block m)
 
 -- ---- observers
 
--- what a note says of the observer that it adds
+-- what holds of the observer that a note adds
 abbrev pub OfWatched : (Observer → Type 0) → Note → Type 0
 OfWatched P (note.Watched o) = P o
 OfWatched P _ = Unit {0}

@@ -1,4 +1,4 @@
--- What observers know behind a row that adds one.
+-- What observers know after a row that adds one.
 use Rattle.std.proofs.Common.{◌≡◌, ℕ, ◌||◌, Bool, true, false, not, List, [], ◌∷◌, ◌++◌, length, filter, Some, None, refl, sym, ap, subst, ◌∙◌}
 use Rattle.std.specs.List.{list_any, AllByRecursion}
 use Rattle.std.proofs.lemmas.List.Folds.{list_any-append}
@@ -20,7 +20,7 @@ use Rattle.journal_model.proofs.EntriesNoted.{entries_in}
 use Rattle.headline_law.proofs.entries.JournalLaws.{entries-none_noted}
 use Rattle.headline_law.proofs.observers.ObserverKnowledge.{KnownIn, AllKnown, is_observing, not_looking, not_watching, known_row, looked_row}
 
--- notes around those that add an observer and give it its first listing
+-- notes around those that add an observer and form its first listing
 abbrev pub around : List Note → Observer → List ℕ → List Note → List Note
 around front o body back = front ++ note.Watched o ∷ note.Formed o.peer o.token body None ∷ back
 
@@ -51,7 +51,7 @@ new_looked front back o body =
     by true = refl
     by false = rw (is_same_request-refl (name_of o)) refl
 
--- and it is given the body
+-- and the body is formed for it
 new_formed : (place moment word : ℕ) (front back : List Note) (o : Observer) (body : List ℕ) (past : List Event) → list_any is_observing back ≡ false
     → last_body_formed (name_of o) (noted place moment word (around front o body back) past) ≡ Some body
 unfolding last_body_formed last_said
@@ -62,7 +62,7 @@ new_formed place moment word front back o body past quiet_back =
     (not_looking (name_of o) back quiet_back)
     ∙ rw (is_same_request-refl (name_of o)) refl)
 
--- behind a row that adds an observer, each that stands knows
+-- after a row that adds an observer, each that stands knows
 pub observed_row : (rows : List Row) (r : Row) → is_desk_row r ≡ true → entries_in r.notes ≡ [] → Adds rows r → AllKnown rows → AllKnown (r ∷ rows)
 unfolding events observers
 observed_row rows r desk silent adds all =

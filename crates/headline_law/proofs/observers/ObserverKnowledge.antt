@@ -1,4 +1,4 @@
--- What an observer knows: when its listing was last looked at, and that the body it was given is the listing now unless it is due.
+-- What an observer knows: when its listing was last looked at, and that the last body formed for it is the listing now unless it is due.
 use Rattle.std.proofs.Common.{◌≡◌, ℕ, suc, ◌<◌, ◌==◌, ◌&&◌, ◌||◌, Bool, true, false, cond, List, [], ◌∷◌, ◌++◌, length, map, filter, Some, refl, sym, ap, ap₂, subst, ◌∙◌, bytes_eq, nat_lt, lt-ltb, eqb-true, arith}
 use Rattle.std.specs.List.{list_any, AllByRecursion}
 use Rattle.std.proofs.lemmas.Bool.{false≢true, and_parts, or_parts, not-false}
@@ -21,7 +21,7 @@ use Rattle.journal_model.specs.Journal.{is_desk_row, transition_of, events, entr
 use Rattle.headline_law.proofs.entries.JournalLaws.{entries-none_noted}
 use Rattle.journal_model.proofs.EntriesNoted.{entries_in}
 
--- what is known of an observer behind events, rows, a history and a moment
+-- what is known of an observer after events, rows, a history and a moment
 pub record Known (past : List Event) (rows_seen : List Transition) (history : List Entry) (moment count : ℕ) (o : Observer) : Type 0 where
   pub event : Event
   pub last : last_event (is_looking_for (name_of o)) past ≡ Some event
@@ -47,13 +47,13 @@ unchanged query t h =
     (same_lines (all_lines query t.before t.moment_before) (all_lines query t.after t.moment_after)
     (not-false (are_same_lines (all_lines query t.before t.moment_before) (all_lines query t.after t.moment_after)) h))
 
--- who is due, by the event at which it was last looked at
+-- who is due since the event at which its listing was last looked at
 due_since : (o : Observer) (past : List Event) (rows_seen : List Transition) (e : Event) → last_event (is_looking_for (name_of o)) past ≡ Some e
     → is_due o past rows_seen ≡ list_any (is_change_of o.query) (filter (λ t. nat_lt e.place t.place) rows_seen)
 unfolding is_due
 due_since o past rows_seen e last = ap (is_changed_since o.query rows_seen) last
 
--- behind a row that does not look at its listing, an observer knows as before
+-- after a row that does not look at its listing, an observer knows as before
 pub known_quiet : (past : List Event) (rows_seen : List Transition) (history more : List Entry) (moment later word count : ℕ) (notes : List Note) (o : Observer)
     → Known past rows_seen history moment count o → list_any (is_looking_for (name_of o)) notes ≡ false
     → Known (noted count later word notes past) (record { place = count; before = history; moment_before = moment; after = more; moment_after = later } ∷ rows_seen) more later (suc count) o
@@ -79,7 +79,7 @@ known_quiet past rows_seen history more moment later word count notes o known qu
         → last_body_formed (name_of o) past ≡ Some (listing o.query more later)
     was_formed h = known.knows (due_since o past rows_seen known.event known.last ∙ h.1) ∙ ap (λ body. Some body) (unchanged o.query t h.0)
 
--- behind a row that looks at its listing, and has given it that
+-- after a row that looks at its listing, and formed it or found it unchanged
 pub known_looked : (past : List Event) (rows_seen : List Transition) (history : List Entry) (later word count : ℕ) (notes : List Note) (o : Observer)
     → list_any (is_looking_for (name_of o)) notes ≡ true → last_body_formed (name_of o) (noted count later word notes past) ≡ Some (listing o.query history later)
     → Known (noted count later word notes past) rows_seen history later (suc count) o

@@ -1,4 +1,4 @@
--- An observer with no notice due was last given the listing now.
+-- Of each observer with no notice due: the last body formed for it is the listing now (the sentence ObserversKnow).
 use Rattle.std.proofs.Common.{◌≡◌, ℕ, ◌==◌, Bool, true, false, cond, not, List, [], ◌∷◌, Option, Some, None, Result, Ok, Err, refl, sym, ap, subst, ◌∙◌}
 use Rattle.std.specs.List.{list_any}
 use Rattle.std.proofs.lemmas.Bool.{false≢true}
@@ -50,7 +50,7 @@ use Rattle.headline_law.proofs.observers.AddedObservers.{around, observed_row}
 use Rattle.headline_law.proofs.observers.TickKnowledge.{tick_row}
 use Rattle.rd_base.proofs.lemmas.Among.{all_at_index}
 
--- what notes do for observers behind a journal at a moment: nothing; or they tell no entry, and add one, with its first listing
+-- what notes do for observers after a journal at a moment: nothing; or they add one, with its first listing, and have no entry
 pub data ObserverNotes (rows : List Row) (moment : ℕ) (notes : List Note) : Type 0 where
   quiet : list_any is_observing notes ≡ false → ObserverNotes rows moment notes
   adds : (o : Observer) (front back : List Note) (body : List ℕ) → notes ≡ around front o body back → list_any is_observing front ≡ false → list_any is_observing back ≡ false
@@ -172,13 +172,13 @@ kept_observer_notes starved rows moment s (Err fault) body tag = quiet refl
 kept_observer_notes true rows moment s (Ok m) body tag = quiet refl
 kept_observer_notes false rows moment s (Ok m) body tag = quiet (ap (list_any is_observing) (keep_effects-notes s m body tag))
 
--- behind a row that shows so much, each observer that stands knows
+-- after a row with such notes, each observer that stands knows
 observer_notes_row : (rows : List Row) (r : Row) → is_desk_row r ≡ true → ObserverNotes rows r.moment.0 r.notes → AllKnown rows → AllKnown (r ∷ rows)
 observer_notes_row rows r desk (quiet h) all = quiet_row rows r desk h all
 observer_notes_row rows r desk (adds o front back body notes before after listed none) all =
     observed_row rows r desk none (record { observer = o; front = front; back = back; body = body; notes = notes; quiet_front = before; quiet_back = after; listed = listed }) all
 
--- behind each row
+-- after each row
 row-AllKnown : (rows : List Row) (s : Step) (starved : Bool) → AllKnown rows → AllKnown (row rows s starved ∷ rows)
 unfolding row effects row_moment
 row-AllKnown rows s starved all = by s.kind refl
@@ -210,7 +210,7 @@ unfolding events observers
 journal-AllKnown [] begun = tt
 journal-AllKnown (r ∷ before) (made {rows} {s} starved journal may) = row-AllKnown before s starved (journal-AllKnown before journal)
 
--- an observer that is not due was last given the listing now
+-- the last body formed for an observer that is not due is the listing now
 pub journal-ObserversKnow : (rows : List Row) → IsJournal rows → ObserversKnow rows
 journal-ObserversKnow rows journal = record {
   given = λ o among not_due. (all_at_index (KnownIn rows) (observers (events rows)) o among (journal-AllKnown rows journal)).knows not_due;

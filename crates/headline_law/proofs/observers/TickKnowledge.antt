@@ -1,4 +1,4 @@
--- What observers know behind a tick.
+-- What observers know after a tick.
 use Rattle.std.proofs.Common.{◌≡◌, ◌⊎◌, inl, inr, ℕ, ◌+◌, Bool, true, false, cond, List, [], ◌∷◌, ◌++◌, length, fold, Option, Some, None, refl, sym, ap, subst, ◌∙◌}
 use Rattle.std.specs.List.{list_any}
 use Rattle.std.proofs.lemmas.Bool.{false≢true, or_right, or_left}
@@ -29,13 +29,13 @@ use Rattle.journal_model.proofs.StepNotes.{tick_effects-notes, notices_again-not
 use Rattle.headline_law.proofs.observers.ObserverKnowledge.{KnownIn, AllKnown, is_observing, not_looking, not_watching, known_row, looked_row}
 use Rattle.headline_law.proofs.entries.JournalLaws.{entries-none_noted}
 
--- what notes of a tick say of an observer: nothing, or that its listing was looked at, and then it was given the listing now
+-- what notes of a tick do for an observer: nothing, or they look at its listing, and then the last body formed for it is the listing now
 abbrev pub QuietOrLooked : List Row → ℕ → ℕ → Observer → List Note → Type 0
 QuietOrLooked rows moment word o notes =
     (list_any (is_looking_for (name_of o)) notes ≡ false)
     ⊎ ((list_any (is_looking_for (name_of o)) notes ≡ true) × (last_body_formed (name_of o) (noted (length rows) moment word notes (events rows)) ≡ Some (listing o.query (entries rows) moment)))
 
--- further notes that say nothing of it
+-- further notes that do nothing for it
 with_quiet : (rows : List Row) (moment word : ℕ) (o : Observer) (notes more : List Note) → list_any (is_looking_for (name_of o)) more ≡ false → QuietOrLooked rows moment word o notes → QuietOrLooked rows moment word o (notes ++ more)
 with_quiet rows moment word o notes more quiet (inl h) = inl (list_any-append (is_looking_for (name_of o)) notes more ∙ rw (h, quiet) refl)
 with_quiet rows moment word o notes more quiet (inr h) = inr (
@@ -44,7 +44,7 @@ with_quiet rows moment word o notes more quiet (inr h) = inr (
       ∙ (last_body_formed-before (name_of o) (length rows) moment word more (noted (length rows) moment word notes (events rows)) quiet ∙ h.1),
 )
 
--- further notes that look at its listing, where it is then given the listing now
+-- further notes that look at its listing, where the last body formed is then the listing now
 with_look : (rows : List Row) (moment word : ℕ) (o : Observer) (notes more : List Note) → list_any (is_looking_for (name_of o)) more ≡ true
     → last_body_formed (name_of o) (noted (length rows) moment word more (noted (length rows) moment word notes (events rows))) ≡ Some (listing o.query (entries rows) moment) → QuietOrLooked rows moment word o (notes ++ more)
 with_look rows moment word o notes more looks formed = inr (
@@ -52,7 +52,7 @@ with_look rows moment word o notes more looks formed = inr (
   ap (last_body_formed (name_of o)) (noted-append (length rows) moment word notes more (events rows)) ∙ formed,
 )
 
--- a body that equals what was given was given
+-- a body that equals the last that was formed is the last
 formed_same : (last : Option (List ℕ)) (body : List ℕ) → is_given last body ≡ true → last ≡ Some body
 formed_same None body h = absurd (false≢true h)
 formed_same (Some octets) body h = ap (λ x. Some x) ((bytes_eq-Decides octets body).0 h)
@@ -155,7 +155,7 @@ tick_adds_none starved rows moment s = none_of of_tick is_watching never (tick_e
     never (note.Watched o) h = absurd (false≢true h)
     never _ h = refl
 
--- behind a tick, each observer that stands knows
+-- after a tick, each observer that stands knows
 pub tick_row : (rows : List Row) (r : Row) (starved : Bool) → is_desk_row r ≡ true → r.notes ≡ (tick_effects starved rows r.moment.0 r.step).notes → AllKnown rows → AllKnown (r ∷ rows)
 unfolding events
 tick_row rows r starved desk notes all =

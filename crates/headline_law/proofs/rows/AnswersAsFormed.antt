@@ -64,7 +64,7 @@ asking_row rows r carries all = observers_all IsAsking (length rows) r.moment.0 
     by (note.Watched o) h = h
     by _ h = tt
 
--- a row that is no tick, by what its step outcome
+-- a row that is no tick, from the outcome of its step
 row_of_outcome : (rows : List Row) (r : Row) (e : Effects) → AllRows RowCarries rows → IsJournal rows → MayBegin rows r.step → r.sent ≡ e.sent → r.notes ≡ e.notes → StepOutcome rows r.moment.0 r.step e → RowCarries rows r
 row_of_outcome rows r e all journal may sent notes (plain sends none) = plain_row rows r (subst ArePlain (sym sent) sends) (ap (list_any is_keeping) notes ∙ none)
 row_of_outcome rows r e all journal may sent notes (look m heard_so read is) = look_row rows r m heard_so read (sent ∙ ap (λ x. x.sent) is) (notes ∙ ap (λ x. x.notes) is)
@@ -164,7 +164,7 @@ unfolding events observers
 journal_carries [] begun = record { each = tt; asking = tt; flights = tt }
 journal_carries (r ∷ before) (made {rows} {s} starved journal may) = row_step before s starved journal may (journal_carries before journal)
 
--- each lookup answers the listing of the history at the row that formed it, and 2.03 is given exactly where a look names the tag
+-- each lookup answers the listing of the history at the row that formed it, and 2.03 is sent exactly where a look names the tag
 pub answers_as_formed : (rows : List Row) → IsJournal rows → AnswersAsFormed rows
 answers_as_formed rows journal = record {
   carried = λ before r peer octets m within among read listed.

@@ -36,7 +36,7 @@ pub record KeptAsFormed (here : Placed) (key body current : List ℕ) : Type 0 w
   pub formed : former_by here.row.step.kind here ≡ Some former
   pub is_kept : KeptAt (entries (former.row ∷ former.before)) former.row.moment.0 key body current
 
--- what a note says at its row
+-- a note of a row is as it was formed: what is kept is the listing at the row that formed it, and an observer asks for its query
 abbrev pub NoteAsFormed : Placed → Note → Type 0
 NoteAsFormed here (note.Kept peer key body current) = KeptAsFormed here key body current
 NoteAsFormed here (note.Watched o) = IsAsking o
@@ -67,7 +67,7 @@ plain_row rows r plain none = record {
 
 -- ---- rows of datagrams that are heard
 
--- the former is entries_in by the notes
+-- the row that formed what a heard datagram is answered with is the one that its notes name
 pub heard_former : (k : StepKind) (peer : Peer) (mid : ℕ) (here : Placed) → is_heard k ≡ true → former_at k peer mid here ≡ former_noted peer mid here.row.notes here
 heard_former step.Admit peer mid here h = refl
 heard_former step.Look peer mid here h = refl
@@ -83,7 +83,7 @@ heard_query (step.Commit place) name here h = absurd (false≢true h)
 heard_query (step.Keep body current) name here h = absurd (false≢true h)
 heard_query step.Tick name here h = absurd (false≢true h)
 
--- and what is kept is formed by the row itself
+-- and what such a row keeps, it formed itself
 pub heard_forms_itself : (k : StepKind) (here : Placed) → is_heard k ≡ true → former_by k here ≡ Some here
 heard_forms_itself step.Admit here h = refl
 heard_forms_itself step.Look here h = refl
@@ -91,7 +91,7 @@ heard_forms_itself (step.Commit place) here h = absurd (false≢true h)
 heard_forms_itself (step.Keep body current) here h = absurd (false≢true h)
 heard_forms_itself step.Tick here h = absurd (false≢true h)
 
--- notes that tell of nothing earlier
+-- notes that name no earlier row
 noted_now : (peer : Peer) (mid : ℕ) (notes : List Note) (here : Placed) → list_any names_earlier_row notes ≡ false → former_noted peer mid notes here ≡ Some here
 noted_now peer mid [] here none = refl
 noted_now peer mid (n ∷ notes) here none =

@@ -1,4 +1,4 @@
--- A row of a tick: what it sends was formed as the headline says, and the notices in flight behind it are known.
+-- A row of a tick: what it sends was formed as the headline says, and the notices in flight after it are known.
 use Rattle.std.proofs.Common.{◌≡◌, ◌⊎◌, inl, inr, ℕ, ◌&&◌, ◌==◌, Bool, true, false, List, [], ◌∷◌, ◌++◌, Some, option_map, refl, sym, ap, subst, ◌∙◌}
 use Rattle.std.specs.List.{list_any, AllByRecursion}
 use Rattle.std.proofs.lemmas.Bool.{false≢true}
@@ -80,7 +80,7 @@ again_carried rows r t d a m e listed =
         ∙ or_left (list_any (is_again_of a.observer.peer a.flight_is.mid) t.notified.notes) (list_any (is_again_of a.observer.peer a.flight_is.mid) t.requests.notes)
         (t.so_far.keeps (is_again_of a.observer.peer a.flight_is.mid) a.noted))
 
--- the listing of a row that tells no entry
+-- the listing of a row that notes no entry
 pub as_row : (rows : List Row) (r : Row) (o : Observer) (octets : List ℕ) → entries (r ∷ rows) ≡ entries rows → IsNoticeOf rows r.moment.0 o octets
     → IsBodyOf o.token (listing o.query (entries (r ∷ rows)) r.moment.0) (tag (entries (r ∷ rows)) r.moment.0) octets
 as_row rows r o octets same_entries h = subst (λ history. IsBodyOf o.token (listing o.query history r.moment.0) (tag history r.moment.0) octets) (sym same_entries) h

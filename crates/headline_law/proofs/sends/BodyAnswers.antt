@@ -1,4 +1,4 @@
--- An answer with a body, as it is read: its payload is a block of the body, and its entity tag the one that it was given.
+-- An answer with a body, as it is read: its payload is a block of the body, and its entity tag the one that it was formed with.
 use Rattle.std.proofs.Common.{◌≡◌, ℕ, ◌/◌, ◌%◌, ◌≤◌, ◌==◌, Bool, true, false, cond, ltb, eqb, List, [], ◌∷◌, ◌++◌, length, Option, Some, None, Result, Ok, refl, sym, ap, subst, ◌∙◌, arith}
 use Rattle.std.proofs.lemmas.Bool.{false≢true}
 use Rattle.std.specs.List.{AllByRecursion}
@@ -26,7 +26,7 @@ use Rattle.journal_model.specs.Bodies.{tag_option, observe_option, block2_option
 use Rattle.journal_model.specs.Headline.{has_listing, Carries, code_at}
 use Rattle.headline_law.proofs.sends.ReadAgain.{AreInOrder, reading_in_order, code_read}
 
--- a message with what a response says
+-- a message with the code, options and payload of a reply
 abbrev pub with_reply : Kind4 → ℕ → List ℕ → Reply → Message
 with_reply kind mid token reply = record { kind = kind; code = reply.code; mid = mid; token = token; options = reply.options; payload = reply.payload }
 
@@ -132,7 +132,7 @@ tagged : (kind : Kind4) (mid : ℕ) (token tag : List ℕ) (observe : Option ℕ
     → etags_in (with_reply kind mid token (part_of (Some tag) observe asked part)) ≡ tag ∷ []
 tagged kind mid token tag observe asked part short = values_tag tag _ short (others_none observe (answered_block asked part.1))
 
--- it has none where it was given none
+-- it has none where it was formed with none
 untagged : (kind : Kind4) (mid : ℕ) (token : List ℕ) (observe : Option ℕ) (asked : Option Block) (part : List ℕ × Bool)
     → etags_in (with_reply kind mid token (part_of None observe asked part)) ≡ []
 untagged kind mid token observe asked part = values_none table.etag _ (others_none observe (answered_block asked part.1))

@@ -56,7 +56,7 @@ pub keep_bears : (s : Step) (m : Message) (body tag : List ℕ) → length m.tok
 unfolding keep_effects answering
 keep_bears s m body tag small short = (body_bears (answer_kind m.kind) (answer_mid s m m.kind) m.token tag None (asked_block m) body small short, tt)
 
--- the note tells of a body that was formed earlier
+-- the note names an earlier row: what was formed there is sent now
 abbrev pub names_earlier_row : Note → Bool
 names_earlier_row (note.Used peer key) = true
 names_earlier_row (note.Again peer mid) = true

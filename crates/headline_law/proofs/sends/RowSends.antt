@@ -43,7 +43,7 @@ use Rattle.headline_law.proofs.sends.PlainCommits.{commit_plain, response_plain}
 use Rattle.headline_law.proofs.sends.ValidSends.{NoneValid, AreCalm, none_calm, look_calm, keep_not_valid, lookup_not_valid}
 use Rattle.headline_law.proofs.sends.TickSends.{AskedPlain, CalmAt, plain_not_valid, tick_not_valid}
 
--- what a note says of octets: those that it settles, and those that its row sent where it asks for a block
+-- what holds of the octets that a note settles, and of those that its row sent where it asks for a block
 abbrev pub NoteFact : List (Peer × List ℕ) → Note → Type 0
 NoteFact sent (note.Settled place octets) = IsPlain octets
 NoteFact sent (note.Asked peer token mid params number) = ArePlain sent

@@ -1,4 +1,4 @@
--- What each kind of step gives but a tick: plain messages, a look, a lookup, or the keep of a look.
+-- The outcome of each kind of step but a tick: plain messages, a look, a lookup, or the keep of a look.
 use Rattle.std.proofs.Common.{◌≡◌, ℕ, Bool, true, false, List, [], Option, Some, None, Result, Ok, Err, refl, sym, ap, ◌∙◌}
 use Rattle.std.specs.List.{list_any}
 use Rattle.std.proofs.lemmas.Bool.{false≢true}
@@ -43,7 +43,7 @@ is_keeping (note.Kept peer key body current) = true
 is_keeping (note.Watched o) = true
 is_keeping _ = false
 
--- what a step gives
+-- the outcome of a step
 pub data StepOutcome (rows : List Row) (moment : ℕ) (s : Step) (e : Effects) : Type 0 where
   plain : ArePlain e.sent → list_any is_keeping e.notes ≡ false → StepOutcome rows moment s e
   look : (m : Message) → is_heard s.kind ≡ true → reading s.datagram ≡ Ok m → e ≡ look_effects (entries rows) moment s m → StepOutcome rows moment s e

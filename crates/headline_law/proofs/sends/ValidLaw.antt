@@ -1,4 +1,4 @@
--- 2.03 is given exactly where a look names the tag at its own row.
+-- 2.03 is sent exactly where a look names the tag at its own row.
 use Rattle.std.proofs.Common.{◌≡◌, ℕ, ◌==◌, ◌&&◌, Bool, true, false, cond, List, [], ◌∷◌, length, Some, None, Result, Ok, Err, refl, sym, ap, subst, ◌∙◌}
 use Rattle.std.specs.Prelude.{is_none, is_some}
 use Rattle.std.proofs.lemmas.Bool.{false≢true, and_parts}
@@ -149,7 +149,7 @@ row_is_valid rows s may sends = by s.kind refl sends.others
     by (step.Keep body current) is others = first_not_valid _ (others refl)
     by step.Tick is others = first_not_valid _ (others refl)
 
--- 2.03 is given exactly where a look names the tag at its own row
+-- 2.03 is sent exactly where a look names the tag at its own row
 pub looks_are_validated : (rows before : List Row) (r : Row) → IsJournal rows → Within rows before r → r.starved ≡ false
     → (code_sent r.sent == codes_of.valid) ≡ (is_look r.step.kind && looks_with_tag (tag (entries before) r.moment.0) (reading r.step.datagram))
 unfolding row
