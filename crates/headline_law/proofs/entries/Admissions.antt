@@ -1,17 +1,9 @@
 -- A write is admitted only where no kept admission has its peer and Message ID.
-use Rattle.std.proofs.Common.{◌≡◌, ℕ, ◌==◌, ◌&&◌, ◌||◌, Bool, true, false, List, [], Option, Some, None, Result, Ok, Err, refl, sym, ap, subst, ◌∙◌, eqb-true}
+use Rattle.std.proofs.Common.{◌≡◌, ℕ, ◌==◌, ◌&&◌, ◌||◌, Bool, true, false, List, [], Option, Some, None, refl, sym, ap, subst, ◌∙◌, eqb-true}
 use Rattle.std.specs.List.{list_any}
 use Rattle.std.proofs.lemmas.Bool.{and_parts, false≢true}
 use Rattle.rd_base.specs.declared.peers.Peer.{Peer}
-use Rattle.message_model.specs.declared.messages.Role.{Role}
-use Rattle.message_model.specs.declared.messages.Role.TheVariants as role
-use Rattle.message_model.specs.declared.messages.Unread.{Unread}
-use Rattle.message_model.specs.declared.requests.Path.{Path}
-use Rattle.message_model.specs.declared.requests.Path.TheVariants as path
-use Rattle.message_model.specs.Message.{Message, role_of}
-use Rattle.message_model.specs.OptionTable.{first_bad_option}
-use Rattle.message_model.specs.Reading.{reading}
-use Rattle.message_model.specs.Request.{path_in}
+use Rattle.message_model.specs.Message.{Message}
 use Rattle.event_model.specs.declared.notes.Note.{Note}
 use Rattle.event_model.specs.declared.notes.Note.TheVariants as note
 use Rattle.event_model.specs.Same.{is_same_peer}
@@ -20,21 +12,16 @@ use Rattle.event_model.specs.Repeats.{is_admission_of, repeated, settled, is_ful
 use Rattle.event_model.proofs.SameLaws.{is_same_peer-Decides}
 use Rattle.journal_model.specs.declared.steps.Step.{Step}
 use Rattle.journal_model.specs.declared.steps.StepKind.{StepKind}
-use Rattle.journal_model.specs.declared.steps.StepKind.TheVariants as step
 use Rattle.journal_model.specs.declared.rows.Row.{Row}
-use Rattle.journal_model.specs.Journal.{events, entries}
-use Rattle.journal_model.specs.Sending.{Reply, answering}
-use Rattle.journal_model.specs.Requests.{refusal_by_request}
-use Rattle.journal_model.specs.Lookups.{lookup_effects}
-use Rattle.journal_model.specs.Empties.{acknowledged, reset}
-use Rattle.journal_model.specs.Responses.{response_effects}
-use Rattle.journal_model.specs.Ticks.{tick_effects}
+use Rattle.journal_model.specs.Journal.{events}
+use Rattle.journal_model.specs.Sending.{answering}
 use Rattle.journal_model.specs.Writes.{again_answered, admitted_unless, write_unless, write_effects}
-use Rattle.journal_model.specs.Rows.{served, request_by, by_role, heard, done, kept_body, effects, row_moment, row}
+use Rattle.journal_model.specs.Rows.{effects, row_moment, row}
 use Rattle.journal_model.specs.Headline.{admits}
 use Rattle.journal_model.proofs.NoteKinds.{of_lookup, of_empty, of_tick, of_commit, of_response, are, none_of}
-use Rattle.journal_model.proofs.StepNotes.{look_effects-notes, keep_effects-notes, lookup_effects-notes, acknowledged-notes, reset-notes, tick_effects-notes}
-use Rattle.headline_law.proofs.notes.SilentSteps.{refusal_notes, unread_notes, looked_notes}
+use Rattle.journal_model.proofs.StepNotes.{keep_effects-notes, lookup_effects-notes, tick_effects-notes}
+use Rattle.headline_law.proofs.notes.StepTable.{StepNoted, effects-StepNoted}
+use Rattle.headline_law.proofs.notes.StepTable as noted
 use Rattle.headline_law.proofs.notes.ChangeNotes.{commit_effects-notes, response_effects-notes}
 
 -- one of the notes admits a write of a peer and a Message ID
@@ -82,57 +69,20 @@ write_admits rows moment s m peer mid = by (repeated moment s.peer m.mid (events
     by (Some first) found = nothing_noted rows moment peer mid _ (again (settled first.place (events rows)))
     by None none = full (is_full_of_exchanges moment (events rows)) none
 
--- a request that is served as it is heard
-served_admits : (p : Path) (rows : List Row) (moment : ℕ) (s : Step) (m : Message) (peer : Peer) (mid : ℕ) → Admits rows moment peer mid (served p rows moment s m).notes
-unfolding served
-served_admits path.Core rows moment s m peer mid = nothing_noted rows moment peer mid _ (look_effects-notes (entries rows) moment s m)
-served_admits path.Res rows moment s m peer mid = never_of of_lookup (λ p n. refl) rows moment peer mid (lookup_effects rows moment s m).notes (lookup_effects-notes rows moment s m)
-served_admits path.Ep rows moment s m peer mid = never_of of_lookup (λ p n. refl) rows moment peer mid (lookup_effects rows moment s m).notes (lookup_effects-notes rows moment s m)
-served_admits path.SimpleRd rows moment s m peer mid = write_admits rows moment s m peer mid
-served_admits path.Rd rows moment s m peer mid = write_admits rows moment s m peer mid
-served_admits (path.Location number) rows moment s m peer mid = write_admits rows moment s m peer mid
-served_admits path.Other rows moment s m peer mid = nothing_noted rows moment peer mid [] refl
-
--- a request as it is heard
-request_admits : (refusal : Option Reply) (rows : List Row) (moment : ℕ) (s : Step) (m : Message) (peer : Peer) (mid : ℕ) → Admits rows moment peer mid (request_by refusal rows moment s m).notes
-unfolding answering
-request_admits (Some refusal) rows moment s m peer mid = nothing_noted rows moment peer mid _ (refusal_notes m.kind (first_bad_option m.options) s m refusal)
-request_admits None rows moment s m peer mid = served_admits (path_in m) rows moment s m peer mid
-
--- a message that is heard
-role_admits : (r : Role) (starved : Bool) (rows : List Row) (moment : ℕ) (s : Step) (m : Message) (peer : Peer) (mid : ℕ) → Admits rows moment peer mid (by_role r starved rows moment s m).notes
-unfolding answering
-role_admits role.Ping starved rows moment s m peer mid = nothing_noted rows moment peer mid [] refl
-role_admits role.Acknowledgement starved rows moment s m peer mid = never_of of_empty (λ p n. refl) rows moment peer mid (acknowledged s.peer m.mid (events rows)).notes (acknowledged-notes s.peer m.mid (events rows))
-role_admits role.Reset starved rows moment s m peer mid = never_of of_empty (λ p n. refl) rows moment peer mid (reset s.peer m.mid (events rows)).notes (reset-notes s.peer m.mid (events rows))
-role_admits role.Request true rows moment s m peer mid = nothing_noted rows moment peer mid [] refl
-role_admits role.Request false rows moment s m peer mid = request_admits (refusal_by_request m) rows moment s m peer mid
-role_admits role.Response true rows moment s m peer mid = nothing_noted rows moment peer mid [] refl
-role_admits role.Response false rows moment s m peer mid = never_of of_response (λ p n. refl) rows moment peer mid (response_effects rows moment s m).notes (response_effects-notes rows moment s m)
-role_admits role.Ignored starved rows moment s m peer mid = nothing_noted rows moment peer mid [] refl
-
 -- any step
 effects_admit : (kind : StepKind) (starved : Bool) (rows : List Row) (moment : ℕ) (s : Step) (peer : Peer) (mid : ℕ) → Admits rows moment peer mid (effects kind starved rows moment s).notes
-unfolding effects answering
-effects_admit step.Admit starved rows moment s peer mid = by (reading s.datagram)
+effects_admit kind starved rows moment s peer mid = by (effects kind starved rows moment s).notes (effects-StepNoted kind starved rows moment s)
   where
-    by : (read : Result Message Unread) → Admits rows moment peer mid (heard starved rows moment s read).notes
-    by (Err fault) = nothing_noted rows moment peer mid _ (unread_notes s fault)
-    by (Ok m) = role_admits (role_of m.kind m.code) starved rows moment s m peer mid
-effects_admit step.Look starved rows moment s peer mid = nothing_noted rows moment peer mid _ (looked_notes starved rows moment s (reading s.datagram))
-effects_admit (step.Commit place) starved rows moment s peer mid = never_of of_commit (λ p n. refl) rows moment peer mid (done starved rows moment place s (reading s.datagram)).notes (by starved (reading s.datagram))
-  where
-    by : (b : Bool) (read : Result Message Unread) → are of_commit (done b rows moment place s read).notes ≡ true
-    by b (Err fault) = refl
-    by true (Ok m) = refl
-    by false (Ok m) = commit_effects-notes rows moment place s m
-effects_admit (step.Keep body tag) starved rows moment s peer mid = never_of of_lookup (λ p n. refl) rows moment peer mid (kept_body starved s (reading s.datagram) body tag).notes (by starved (reading s.datagram))
-  where
-    by : (b : Bool) (read : Result Message Unread) → are of_lookup (kept_body b s read body tag).notes ≡ true
-    by b (Err fault) = refl
-    by true (Ok m) = refl
-    by false (Ok m) = rw (keep_effects-notes s m body tag) refl
-effects_admit step.Tick starved rows moment s peer mid = never_of of_tick (λ p n. refl) rows moment peer mid (tick_effects starved rows moment s).notes (tick_effects-notes starved rows moment s)
+    by : (ns : List Note) → StepNoted kind starved rows moment s ns → Admits rows moment peer mid ns
+    by ns (noted.nothing blank) = nothing_noted rows moment peer mid ns blank
+    by ns (noted.write m here is) = subst (Admits rows moment peer mid) (sym is) (write_admits rows moment s m peer mid)
+    by ns (noted.lookup m here is) = never_of of_lookup (λ p n. refl) rows moment peer mid ns (ap (are of_lookup) is ∙ lookup_effects-notes rows moment s m)
+    by ns (noted.empty here all) = never_of of_empty (λ p n. refl) rows moment peer mid ns all
+    by ns (noted.response m here is) = never_of of_response (λ p n. refl) rows moment peer mid ns (ap (are of_response) is ∙ response_effects-notes rows moment s m)
+    by ns (noted.commit m place commits is) = never_of of_commit (λ p n. refl) rows moment peer mid ns (ap (are of_commit) is ∙ commit_effects-notes rows moment place s m)
+    by ns (noted.failed place commits is) = never_of of_commit (λ p n. refl) rows moment peer mid ns (ap (are of_commit) is)
+    by ns (noted.keep m body tag keeps is) = never_of of_lookup (λ p n. refl) rows moment peer mid ns (ap (are of_lookup) (is ∙ keep_effects-notes s m body tag))
+    by ns (noted.tick ticks is) = never_of of_tick (λ p n. refl) rows moment peer mid ns (ap (are of_tick) is ∙ tick_effects-notes starved rows moment s)
 
 -- a row that admits a write of a peer and a Message ID finds none that is kept before it
 pub row_admits : (rows : List Row) (s : Step) (starved : Bool) (peer : Peer) (mid : ℕ) → admits peer mid (row rows s starved) ≡ true

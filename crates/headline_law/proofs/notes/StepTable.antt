@@ -1,5 +1,5 @@
--- The one table of what each step notes: nothing, or what a write, a lookup, an empty message, a response, a commit or a tick notes.
-use Rattle.std.proofs.Common.{◌≡◌, ℕ, Bool, true, false, List, [], Option, Some, None, Result, Ok, Err, refl}
+-- The one table of what each step notes: nothing, or what a write, a lookup, an empty message, a response, a commit, a keep or a tick notes, or that a commit failed, where it ran out of memory.
+use Rattle.std.proofs.Common.{◌≡◌, ℕ, Bool, true, false, List, [], ◌∷◌, Option, Some, None, Result, Ok, Err, refl}
 use Rattle.message_model.specs.declared.messages.Role.{Role}
 use Rattle.message_model.specs.declared.messages.Role.TheVariants as role
 use Rattle.message_model.specs.declared.messages.Unread.{Unread}
@@ -10,6 +10,7 @@ use Rattle.message_model.specs.OptionTable.{first_bad_option}
 use Rattle.message_model.specs.Reading.{reading}
 use Rattle.message_model.specs.Request.{path_in}
 use Rattle.event_model.specs.declared.notes.Note.{Note}
+use Rattle.event_model.specs.declared.notes.Note.TheVariants as note
 use Rattle.journal_model.specs.declared.steps.Step.{Step}
 use Rattle.journal_model.specs.declared.steps.StepKind.{StepKind}
 use Rattle.journal_model.specs.declared.steps.StepKind.TheVariants as step
@@ -17,15 +18,15 @@ use Rattle.journal_model.specs.declared.rows.Row.{Row}
 use Rattle.journal_model.specs.Journal.{events, entries}
 use Rattle.journal_model.specs.Sending.{Reply, answering}
 use Rattle.journal_model.specs.Requests.{refusal_by_request}
+use Rattle.journal_model.specs.Looks.{keep_effects}
 use Rattle.journal_model.specs.Lookups.{lookup_effects}
 use Rattle.journal_model.specs.Writes.{write_effects}
-use Rattle.journal_model.specs.Empties.{acknowledged, reset}
 use Rattle.journal_model.specs.Responses.{response_effects}
 use Rattle.journal_model.specs.Commits.{commit_effects}
 use Rattle.journal_model.specs.Ticks.{tick_effects}
 use Rattle.journal_model.specs.Rows.{served, request_by, by_role, heard, done, kept_body, effects}
 use Rattle.journal_model.proofs.NoteKinds.{of_empty, are}
-use Rattle.journal_model.proofs.StepNotes.{look_effects-notes, keep_effects-notes, acknowledged-notes, reset-notes}
+use Rattle.journal_model.proofs.StepNotes.{look_effects-notes, acknowledged-notes, reset-notes}
 use Rattle.headline_law.proofs.notes.SilentSteps.{refusal_notes, unread_notes, looked_notes}
 
 -- what a step of a kind notes, after rows at a moment
@@ -36,6 +37,8 @@ pub data StepNoted (kind : StepKind) (starved : Bool) (rows : List Row) (moment 
   empty : kind ≡ step.Admit → are of_empty notes ≡ true → StepNoted kind starved rows moment s notes
   response : (m : Message) → kind ≡ step.Admit → notes ≡ (response_effects rows moment s m).notes → StepNoted kind starved rows moment s notes
   commit : (m : Message) (place : ℕ) → kind ≡ step.Commit place → notes ≡ (commit_effects rows moment place s m).notes → StepNoted kind starved rows moment s notes
+  failed : (place : ℕ) → kind ≡ step.Commit place → notes ≡ note.Failed place ∷ [] → StepNoted kind starved rows moment s notes
+  keep : (m : Message) (body tag : List ℕ) → kind ≡ step.Keep body tag → notes ≡ (keep_effects s m body tag).notes → StepNoted kind starved rows moment s notes
   tick : kind ≡ step.Tick → notes ≡ (tick_effects starved rows moment s).notes → StepNoted kind starved rows moment s notes
 
 -- a request that is served as it is heard
@@ -79,12 +82,12 @@ effects-StepNoted (step.Commit place) starved rows moment s = by starved (readin
   where
     by : (b : Bool) (read : Result Message Unread) → StepNoted (step.Commit place) starved rows moment s (done b rows moment place s read).notes
     by b (Err fault) = nothing refl
-    by true (Ok m) = nothing refl
+    by true (Ok m) = failed place refl refl
     by false (Ok m) = commit m place refl refl
-effects-StepNoted (step.Keep body tag) starved rows moment s = nothing (by starved (reading s.datagram))
+effects-StepNoted (step.Keep body tag) starved rows moment s = by starved (reading s.datagram)
   where
-    by : (b : Bool) (read : Result Message Unread) → (kept_body b s read body tag).notes ≡ []
-    by b (Err fault) = refl
-    by true (Ok m) = refl
-    by false (Ok m) = keep_effects-notes s m body tag
+    by : (b : Bool) (read : Result Message Unread) → StepNoted (step.Keep body tag) starved rows moment s (kept_body b s read body tag).notes
+    by b (Err fault) = nothing refl
+    by true (Ok m) = nothing refl
+    by false (Ok m) = keep m body tag refl refl
 effects-StepNoted step.Tick starved rows moment s = tick refl refl

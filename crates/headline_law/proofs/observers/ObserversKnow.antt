@@ -1,18 +1,12 @@
 -- Of each observer with no notice due: the last body formed for it is the listing now (the sentence ObserversKnow).
-use Rattle.std.proofs.Common.{◌≡◌, ℕ, ◌==◌, Bool, true, false, cond, not, List, [], ◌∷◌, Option, Some, None, Result, Ok, Err, refl, sym, ap, subst, ◌∙◌}
+use Rattle.std.proofs.Common.{◌≡◌, ℕ, ◌==◌, Bool, true, false, cond, not, List, [], ◌∷◌, Option, Some, None, refl, sym, ap, subst, ◌∙◌}
 use Rattle.std.specs.List.{list_any}
 use Rattle.std.proofs.lemmas.Bool.{false≢true}
 use Rattle.std.proofs.lemmas.List.Folds.{list_any-append}
 use Rattle.rd_base.specs.declared.peers.Peer.{Peer}
-use Rattle.message_model.specs.declared.messages.Role.{Role}
-use Rattle.message_model.specs.declared.messages.Role.TheVariants as role
-use Rattle.message_model.specs.declared.messages.Unread.{Unread}
-use Rattle.message_model.specs.declared.requests.Path.{Path}
-use Rattle.message_model.specs.declared.requests.Path.TheVariants as path
-use Rattle.message_model.specs.Message.{Message, role_of}
-use Rattle.message_model.specs.OptionTable.{first_bad_option}
+use Rattle.message_model.specs.Message.{Message}
 use Rattle.message_model.specs.Reading.{reading}
-use Rattle.message_model.specs.Request.{path_in, observe_in}
+use Rattle.message_model.specs.Request.{observe_in}
 use Rattle.message_model.specs.RequestKey.{key_in}
 use Rattle.message_model.specs.Blocks.{block_of}
 use Rattle.history_model.specs.Listing.{listing}
@@ -27,23 +21,21 @@ use Rattle.journal_model.specs.declared.steps.StepKind.{StepKind}
 use Rattle.journal_model.specs.declared.steps.StepKind.TheVariants as step
 use Rattle.journal_model.specs.declared.rows.Row.{Row}
 use Rattle.journal_model.specs.Journal.{is_look, is_desk_row, events, entries}
-use Rattle.journal_model.specs.Sending.{Reply, answering}
+use Rattle.journal_model.specs.Sending.{answering}
 use Rattle.journal_model.specs.Bodies.{is_long}
-use Rattle.journal_model.specs.Requests.{refusal_by_request, query_of, asked_block, number_of, szx_of, is_later_block, register, deregister}
+use Rattle.journal_model.specs.Requests.{query_of, asked_block, number_of, szx_of, is_later_block, register, deregister}
 use Rattle.journal_model.specs.Looks.{look_effects}
 use Rattle.journal_model.specs.Lookups.{listing_now, block_now, block_of_kept, later_block, removal, without, observer_of, keeping, observed_if, observed, unobserved, observed_by, by_observe, by_block, lookup_effects}
-use Rattle.journal_model.specs.Writes.{write_effects}
-use Rattle.journal_model.specs.Commits.{commit_effects}
-use Rattle.journal_model.specs.Empties.{acknowledged, reset}
-use Rattle.journal_model.specs.Responses.{response_effects}
-use Rattle.journal_model.specs.Rows.{served, refusal_answered, request_by, by_role, unread_answered, heard, done, kept_body, effects, row_moment, row}
+use Rattle.journal_model.specs.Rows.{effects, row_moment, row}
 use Rattle.journal_model.specs.Machine.{IsJournal, begun, made}
 use Rattle.journal_model.specs.Headline.{ObserversKnow}
 use Rattle.journal_model.proofs.EntriesNoted.{entries_in}
 use Rattle.journal_model.proofs.NoteKinds.{of_write, of_empty, of_commit, of_response, are, none_of}
-use Rattle.journal_model.proofs.StepNotes.{look_effects-notes, keep_effects-notes, write_effects-notes, acknowledged-notes, reset-notes}
+use Rattle.journal_model.proofs.StepNotes.{look_effects-notes, keep_effects-notes, write_effects-notes}
 use Rattle.headline_law.proofs.entries.QuietSteps.{lookup_effects-entries_in}
-use Rattle.headline_law.proofs.notes.SilentSteps.{refusal_notes, unread_notes, looked_notes}
+use Rattle.headline_law.proofs.notes.SilentSteps.{looked_notes}
+use Rattle.headline_law.proofs.notes.StepTable.{StepNoted, effects-StepNoted}
+use Rattle.headline_law.proofs.notes.StepTable as noted
 use Rattle.headline_law.proofs.notes.ChangeNotes.{commit_effects-notes, response_effects-notes}
 use Rattle.headline_law.proofs.observers.ObserverKnowledge.{KnownIn, AllKnown, is_observing, quiet_row, look_row}
 use Rattle.headline_law.proofs.observers.AddedObservers.{around, observed_row}
@@ -125,52 +117,29 @@ lookup_observer_notes rows moment s m = by (is_later_block m) refl
     by true e = quiet (later (kept_answer moment (s.peer, key_in m) (events rows)))
     by false e = observing (observe_in m) (subst (λ b. entries_in (by_block b rows moment s m).notes ≡ []) e silent)
 
--- a request that is served as it is heard
-served_observer_notes : (p : Path) (rows : List Row) (moment : ℕ) (s : Step) (m : Message) → ObserverNotes rows moment (served p rows moment s m).notes
-unfolding served
-served_observer_notes path.Core rows moment s m = no_observer_notes rows moment (look_effects (entries rows) moment s m).notes (look_effects-notes (entries rows) moment s m)
-served_observer_notes path.Res rows moment s m = lookup_observer_notes rows moment s m
-served_observer_notes path.Ep rows moment s m = lookup_observer_notes rows moment s m
-served_observer_notes path.SimpleRd rows moment s m = quiet (quiet_of of_write (λ o. refl) (λ p t b n. refl) (λ p t. refl) (write_effects (events rows) moment s m).notes (write_effects-notes (events rows) moment s m))
-served_observer_notes path.Rd rows moment s m = quiet (quiet_of of_write (λ o. refl) (λ p t b n. refl) (λ p t. refl) (write_effects (events rows) moment s m).notes (write_effects-notes (events rows) moment s m))
-served_observer_notes (path.Location number) rows moment s m = quiet (quiet_of of_write (λ o. refl) (λ p t b n. refl) (λ p t. refl) (write_effects (events rows) moment s m).notes (write_effects-notes (events rows) moment s m))
-served_observer_notes path.Other rows moment s m = quiet refl
+-- the step is no tick
+abbrev pub IsNoTick : StepKind → Type 0
+IsNoTick step.Tick = ⊥
+IsNoTick _ = Unit {0}
 
--- a request as it is heard
-request_observer_notes : (refusal : Option Reply) (rows : List Row) (moment : ℕ) (s : Step) (m : Message) → ObserverNotes rows moment (request_by refusal rows moment s m).notes
-unfolding answering
-request_observer_notes (Some refusal) rows moment s m =
-    no_observer_notes rows moment (refusal_answered m.kind (first_bad_option m.options) s m refusal).notes (refusal_notes m.kind (first_bad_option m.options) s m refusal)
-request_observer_notes None rows moment s m = served_observer_notes (path_in m) rows moment s m
+-- any step but a tick
+pub step_observer_notes : (kind : StepKind) (starved : Bool) (rows : List Row) (moment : ℕ) (s : Step) → IsNoTick kind → ObserverNotes rows moment (effects kind starved rows moment s).notes
+step_observer_notes kind starved rows moment s no_tick = by (effects kind starved rows moment s).notes (effects-StepNoted kind starved rows moment s)
+  where
+    quiet_kind : (of_kind : Note → Bool) → ((o : Observer) → of_kind (note.Watched o) ≡ false) → ((peer : Peer) (token body : List ℕ) (mid : Option ℕ) → of_kind (note.Formed peer token body mid) ≡ false)
+        → ((peer : Peer) (token : List ℕ) → of_kind (note.Unchanged peer token) ≡ false) → (ns : List Note) → are of_kind ns ≡ true → ObserverNotes rows moment ns
+    quiet_kind of_kind watched formed unchanged ns all = quiet (quiet_of of_kind watched formed unchanged ns all)
 
--- a message that is heard
-role_observer_notes : (r : Role) (starved : Bool) (rows : List Row) (moment : ℕ) (s : Step) (m : Message) → ObserverNotes rows moment (by_role r starved rows moment s m).notes
-unfolding answering
-role_observer_notes role.Ping starved rows moment s m = quiet refl
-role_observer_notes role.Acknowledgement starved rows moment s m = quiet (quiet_of of_empty (λ o. refl) (λ p t b n. refl) (λ p t. refl) (acknowledged s.peer m.mid (events rows)).notes (acknowledged-notes s.peer m.mid (events rows)))
-role_observer_notes role.Reset starved rows moment s m = quiet (quiet_of of_empty (λ o. refl) (λ p t b n. refl) (λ p t. refl) (reset s.peer m.mid (events rows)).notes (reset-notes s.peer m.mid (events rows)))
-role_observer_notes role.Request true rows moment s m = quiet refl
-role_observer_notes role.Request false rows moment s m = request_observer_notes (refusal_by_request m) rows moment s m
-role_observer_notes role.Response true rows moment s m = quiet refl
-role_observer_notes role.Response false rows moment s m = quiet (quiet_of of_response (λ o. refl) (λ p t b n. refl) (λ p t. refl) (response_effects rows moment s m).notes (response_effects-notes rows moment s m))
-role_observer_notes role.Ignored starved rows moment s m = quiet refl
-
--- a datagram that is heard, a commit, and a keep
-pub heard_observer_notes : (starved : Bool) (rows : List Row) (moment : ℕ) (s : Step) (read : Result Message Unread) → ObserverNotes rows moment (heard starved rows moment s read).notes
-heard_observer_notes starved rows moment s (Err fault) = no_observer_notes rows moment (unread_answered s fault).notes (unread_notes s fault)
-heard_observer_notes starved rows moment s (Ok m) = role_observer_notes (role_of m.kind m.code) starved rows moment s m
-
-pub done_observer_notes : (starved : Bool) (rows : List Row) (moment place : ℕ) (s : Step) (read : Result Message Unread) → ObserverNotes rows moment (done starved rows moment place s read).notes
-unfolding answering
-done_observer_notes starved rows moment place s (Err fault) = quiet refl
-done_observer_notes true rows moment place s (Ok m) = quiet refl
-done_observer_notes false rows moment place s (Ok m) = quiet (quiet_of of_commit (λ o. refl) (λ p t b n. refl) (λ p t. refl) (commit_effects rows moment place s m).notes (commit_effects-notes rows moment place s m))
-
-pub kept_observer_notes : (starved : Bool) (rows : List Row) (moment : ℕ) (s : Step) (read : Result Message Unread) (body tag : List ℕ) → ObserverNotes rows moment (kept_body starved s read body tag).notes
-unfolding answering
-kept_observer_notes starved rows moment s (Err fault) body tag = quiet refl
-kept_observer_notes true rows moment s (Ok m) body tag = quiet refl
-kept_observer_notes false rows moment s (Ok m) body tag = quiet (ap (list_any is_observing) (keep_effects-notes s m body tag))
+    by : (ns : List Note) → StepNoted kind starved rows moment s ns → ObserverNotes rows moment ns
+    by ns (noted.nothing blank) = no_observer_notes rows moment ns blank
+    by ns (noted.write m here is) = quiet_kind of_write (λ o. refl) (λ p t b n. refl) (λ p t. refl) ns (ap (are of_write) is ∙ write_effects-notes (events rows) moment s m)
+    by ns (noted.lookup m here is) = subst (ObserverNotes rows moment) (sym is) (lookup_observer_notes rows moment s m)
+    by ns (noted.empty here all) = quiet_kind of_empty (λ o. refl) (λ p t b n. refl) (λ p t. refl) ns all
+    by ns (noted.response m here is) = quiet_kind of_response (λ o. refl) (λ p t b n. refl) (λ p t. refl) ns (ap (are of_response) is ∙ response_effects-notes rows moment s m)
+    by ns (noted.commit m place commits is) = quiet_kind of_commit (λ o. refl) (λ p t b n. refl) (λ p t. refl) ns (ap (are of_commit) is ∙ commit_effects-notes rows moment place s m)
+    by ns (noted.failed place commits is) = quiet (ap (list_any is_observing) is)
+    by ns (noted.keep m body tag keeps is) = quiet (ap (list_any is_observing) (is ∙ keep_effects-notes s m body tag))
+    by ns (noted.tick ticks is) = absurd (subst IsNoTick ticks no_tick)
 
 -- after a row with such notes, each observer that stands knows
 observer_notes_row : (rows : List Row) (r : Row) → is_desk_row r ≡ true → ObserverNotes rows r.moment.0 r.notes → AllKnown rows → AllKnown (r ∷ rows)
@@ -192,16 +161,16 @@ row-AllKnown rows s starved all = by s.kind refl
     notes_of : (k : StepKind) → s.kind ≡ k → (row rows s starved).notes ≡ (effects k starved rows (row_moment rows s) s).notes
     notes_of k e = ap (λ x. (effects x starved rows (row_moment rows s) s).notes) e
 
-    shows : (k : StepKind) → s.kind ≡ k → is_look k ≡ false → ObserverNotes rows (row_moment rows s) (effects k starved rows (row_moment rows s) s).notes → AllKnown (row rows s starved ∷ rows)
-    shows k e none h =
-        observer_notes_row rows (row rows s starved) (desk k e none) (subst (ObserverNotes rows (row_moment rows s)) (sym (notes_of k e)) h) all
+    no_tick : (k : StepKind) → s.kind ≡ k → is_look k ≡ false → IsNoTick k → AllKnown (row rows s starved ∷ rows)
+    no_tick k e none other =
+        observer_notes_row rows (row rows s starved) (desk k e none) (subst (ObserverNotes rows (row_moment rows s)) (sym (notes_of k e)) (step_observer_notes k starved rows (row_moment rows s) s other)) all
 
     by : (k : StepKind) → s.kind ≡ k → AllKnown (row rows s starved ∷ rows)
-    by step.Admit e = shows step.Admit e refl (heard_observer_notes starved rows (row_moment rows s) s (reading s.datagram))
+    by step.Admit e = no_tick step.Admit e refl tt
     by step.Look e =
         look_row rows (row rows s starved) (ap (λ x. not (is_look x)) e) (notes_of step.Look e ∙ looked_notes starved rows (row_moment rows s) s (reading s.datagram)) all
-    by (step.Commit place) e = shows (step.Commit place) e refl (done_observer_notes starved rows (row_moment rows s) place s (reading s.datagram))
-    by (step.Keep body tag) e = shows (step.Keep body tag) e refl (kept_observer_notes starved rows (row_moment rows s) s (reading s.datagram) body tag)
+    by (step.Commit place) e = no_tick (step.Commit place) e refl tt
+    by (step.Keep body tag) e = no_tick (step.Keep body tag) e refl tt
     by step.Tick e = tick_row rows (row rows s starved) starved (desk step.Tick e refl) (notes_of step.Tick e) all
 
 -- in each journal

@@ -23,11 +23,9 @@ use Rattle.journal_model.specs.Headline.{former_by, AnswersAsFormed}
 use Rattle.journal_model.proofs.NoteKinds.{of_tick, none_of}
 use Rattle.journal_model.proofs.StepNotes.{requests_again-notes, tick_effects-notes}
 use Rattle.journal_model.proofs.EntriesNoted.{entries_in}
-use Rattle.headline_law.proofs.observers.ObserverKnowledge.{is_observing}
 use Rattle.headline_law.proofs.sends.PlainSteps.{ArePlain}
 use Rattle.headline_law.proofs.entries.QuietSteps.{tick_effects-entries_in}
-use Rattle.headline_law.proofs.observers.ObserversKnow.{ObserverNotes, quiet, heard_observer_notes, done_observer_notes, kept_observer_notes}
-use Rattle.headline_law.proofs.notes.SilentSteps.{looked_notes}
+use Rattle.headline_law.proofs.observers.ObserversKnow.{IsNoTick, step_observer_notes}
 use Rattle.headline_law.proofs.sends.TickSends.{requests_plain}
 use Rattle.headline_law.proofs.sends.ValidLaw.{before_all, journal_sends, looks_are_validated}
 use Rattle.headline_law.proofs.sends.RowSends.{Before}
@@ -141,21 +139,17 @@ row_step rows s starved journal may all = by s.kind refl
     notes_of : (k : StepKind) → s.kind ≡ k → (row rows s starved).notes ≡ (effects k starved rows (row_moment rows s) s).notes
     notes_of k is = ap (λ x. (effects x starved rows (row_moment rows s) s).notes) is
 
-    with_outcome : (k : StepKind) → s.kind ≡ k → StepOutcome rows (row_moment rows s) s (effects k starved rows (row_moment rows s) s) → ObserverNotes rows (row_moment rows s) (effects k starved rows (row_moment rows s) s).notes
+    with_outcome : (k : StepKind) → s.kind ≡ k → StepOutcome rows (row_moment rows s) s (effects k starved rows (row_moment rows s) s) → IsNoTick k
         → CarriesAll (row rows s starved ∷ rows)
-    with_outcome k is outcome observer_notes =
+    with_outcome k is outcome no_tick =
         quiet_step rows (row rows s starved) (row_of_outcome rows (row rows s starved) (effects k starved rows (row_moment rows s) s) all.each journal may.begin (sent_of k is) (notes_of k is) outcome)
-        (subst FormsFirst (sym (notes_of k is)) (first_forms rows (row_moment rows s) (effects k starved rows (row_moment rows s) s).notes observer_notes)) all
+        (subst FormsFirst (sym (notes_of k is)) (first_forms rows (row_moment rows s) (effects k starved rows (row_moment rows s) s).notes (step_observer_notes k starved rows (row_moment rows s) s no_tick))) all
 
     by : (k : StepKind) → s.kind ≡ k → CarriesAll (row rows s starved ∷ rows)
-    by step.Admit is =
-        with_outcome step.Admit is (heard_outcome starved rows (row_moment rows s) s (reading s.datagram) past.settled (ap is_heard is) refl) (heard_observer_notes starved rows (row_moment rows s) s (reading s.datagram))
-    by step.Look is =
-        with_outcome step.Look is (looked_outcome starved rows (row_moment rows s) s (reading s.datagram) (ap is_heard is) refl)
-        (quiet (ap (list_any is_observing) (looked_notes starved rows (row_moment rows s) s (reading s.datagram))))
-    by (step.Commit place) is = with_outcome (step.Commit place) is (done_outcome starved rows (row_moment rows s) place s (reading s.datagram)) (done_observer_notes starved rows (row_moment rows s) place s (reading s.datagram))
-    by (step.Keep body current) is =
-        with_outcome (step.Keep body current) is (kept_outcome starved rows (row_moment rows s) s (reading s.datagram) body current refl is) (kept_observer_notes starved rows (row_moment rows s) s (reading s.datagram) body current)
+    by step.Admit is = with_outcome step.Admit is (heard_outcome starved rows (row_moment rows s) s (reading s.datagram) past.settled (ap is_heard is) refl) tt
+    by step.Look is = with_outcome step.Look is (looked_outcome starved rows (row_moment rows s) s (reading s.datagram) (ap is_heard is) refl) tt
+    by (step.Commit place) is = with_outcome (step.Commit place) is (done_outcome starved rows (row_moment rows s) place s (reading s.datagram)) tt
+    by (step.Keep body current) is = with_outcome (step.Keep body current) is (kept_outcome starved rows (row_moment rows s) s (reading s.datagram) body current refl is) tt
     by step.Tick is = tick_step rows (row rows s starved) starved past all is (sent_of step.Tick is) (notes_of step.Tick is)
 
 -- each journal
