@@ -3,9 +3,9 @@
 -- HeadlineLaw: all four, of journals and of traces. Its laws of traces nothing here cites.
 --
 -- HoldsEachOnce: each accepted request stands once in one legal history.
---   entries: EntryOrigins has the one table of cases (which steps note an entry, where it comes from, and that it comes next), by ChangeEntries
---   (commits and responses) and QuietSteps (all others); RowLaws and JournalLaws lift it to rows and journals; CommitAnswers has that an entry stands
---   beside an answer that reports a change; CommitLaws that an admission is committed once; Admissions and FailedLaws that a repeat is recognized.
+--   entries: EntryOrigins says which steps note an entry, where it comes from, and that it comes next, by ChangeEntries (commits: an entry stands beside
+--   an answer that reports a change), ResponseEntries (responses that complete a fetch) and QuietSteps (all others); RowLaws and JournalLaws lift it to
+--   rows and journals; CommitLaws has that an admission is committed once; Admissions and FailedLaws that a repeat is recognized; HoldsEachOnce, the sentence.
 --
 -- TagsTellStates: equal tags mean one state.
 --   entries: TagStates, by JournalLaws.
@@ -23,9 +23,9 @@
 --   CarriedListings (what it is to carry the listing of the row that formed it).
 --   rows: each row carries what was formed as the headline says: RowCarries (looks and plain rows), LookupRows, KeepRows, TickRows; and AnswersAsFormed, the sentence.
 --
--- Shared. notes: what steps note. SilentSteps (nothing), ChangeNotes (kinds of notes of commits and responses: used by all but TagsTellStates),
+-- Shared. notes: what steps note. StepTable (the one table of cases, of all but TagsTellStates), SilentSteps (what notes nothing), ChangeNotes (the kinds of notes of commits and responses),
 --   LookupNotes and TickNotes (what is kept, and who observes, is as it was asked: AnswersAsFormed).
---   entries: JournalLaws (a row of a journal is that of its step). observers: ObserversKnow has the table ObserverNotes, which FirstBodies reads too.
+--   entries: JournalLaws (a row of a journal is that of its step). observers: ObserversKnow says what the notes of each step do for observers (ObserverNotes), which FirstBodies reads too.
 pub mod notes
 pub mod entries
 pub mod observers

@@ -2,7 +2,7 @@ pub mod ChangeEntries
 pub mod QuietSteps
 pub mod RowLaws
 pub mod JournalLaws
-pub mod CommitAnswers
+pub mod ResponseEntries
 pub mod EntryOrigins
 pub mod TagStates
 pub mod CommitLaws

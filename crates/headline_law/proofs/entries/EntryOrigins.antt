@@ -8,13 +8,15 @@ use Rattle.journal_model.specs.declared.steps.StepKind.{StepKind}
 use Rattle.journal_model.specs.declared.steps.StepKind.TheVariants as step
 use Rattle.journal_model.specs.declared.rows.Row.{Row}
 use Rattle.journal_model.specs.Journal.{events, entries}
+use Rattle.journal_model.specs.Commits.{commit_effects}
 use Rattle.journal_model.specs.Rows.{effects}
 use Rattle.journal_model.proofs.NoteKinds.{empty-entries_in}
 use Rattle.journal_model.proofs.EntriesNoted.{entries_in, NotesNext, none}
 use Rattle.headline_law.proofs.notes.StepTable.{StepNoted, effects-StepNoted}
 use Rattle.headline_law.proofs.notes.StepTable as noted
 use Rattle.headline_law.proofs.entries.QuietSteps.{keep_effects-entries_in, lookup_effects-entries_in, write_effects-entries_in, tick_effects-entries_in}
-use Rattle.headline_law.proofs.entries.ChangeEntries.{ends_fetch_of, EntryHeard, silent, ends, commit_effects-NotesNext, response_effects-EntryHeard}
+use Rattle.headline_law.proofs.entries.ChangeEntries.{commit_effects-ChangeEntry, ChangeEntry-NotesNext}
+use Rattle.headline_law.proofs.entries.ResponseEntries.{ends_fetch_of, EntryHeard, silent, ends, response_effects-EntryHeard}
 
 -- where the entry of a step comes from, and that it comes next
 pub data EntryOrigin (kind : StepKind) (peer : Peer) (history : List Entry) (moment : ℕ) (notes : List Note) : Type 0 where
@@ -36,7 +38,7 @@ effects-EntryOrigin kind starved rows moment s = by (effects kind starved rows m
     by ns (noted.lookup m here is) = nowhere (ap entries_in is ∙ lookup_effects-entries_in rows moment s m)
     by ns (noted.empty here all) = nowhere (empty-entries_in ns all)
     by ns (noted.response m here is) = heard_entry ns here (subst (EntryHeard s.peer (entries rows) moment) (sym is) (response_effects-EntryHeard rows moment s m))
-    by ns (noted.commit m place commits is) = commit place commits (subst (NotesNext (entries rows) moment) (sym is) (commit_effects-NotesNext rows moment place s m))
+    by ns (noted.commit m place commits is) = commit place commits (subst (NotesNext (entries rows) moment) (sym is) (ChangeEntry-NotesNext (entries rows) moment (commit_effects rows moment place s m).notes _ (commit_effects-ChangeEntry rows moment place s m)))
     by ns (noted.failed place commits is) = commit place commits (none (ap entries_in is))
     by ns (noted.keep m body tag keeps is) = nowhere (ap entries_in is ∙ keep_effects-entries_in s m body tag)
     by ns (noted.tick ticks is) = nowhere (ap entries_in is ∙ tick_effects-entries_in starved rows moment s)
