@@ -1,7 +1,8 @@
 -- What a tick notes: what it keeps is the listing of an observer's query, under the key of the request that asks for it.
-use Rattle.std.proofs.Common.{◌≡◌, ℕ, Bool, true, false, cond, List, [], ◌∷◌, fold, refl}
+use Rattle.std.proofs.Common.{◌≡◌, ℕ, Bool, true, false, cond, List, [], ◌∷◌, fold, refl, sym, ◌∙◌}
 use Rattle.std.specs.List.{AllByRecursion}
 use Rattle.std.proofs.lemmas.Bool.{false≢true, and_parts}
+use Rattle.rd_base.specs.declared.peers.Peer.{Peer}
 use Rattle.history_model.specs.Listing.{listing, tag}
 use Rattle.event_model.specs.declared.notes.Note.{Note}
 use Rattle.event_model.specs.declared.notes.Note.TheVariants as note
@@ -20,27 +21,25 @@ use Rattle.headline_law.proofs.flights.NoticesAgain.{events_after_again}
 use Rattle.rd_base.proofs.lemmas.Each.{each_append}
 
 -- notes of a kind that keeps nothing and adds nobody
-kind_as_asked : (kind : Note → Bool) → ((n : Note) → kind n ≡ true → (rows : List Row) (moment : ℕ) → NoteAsAsked (entries rows) moment n) → (rows : List Row) (moment : ℕ) (notes : List Note) → are kind notes ≡ true → NotesAsAsked rows moment notes
-kind_as_asked kind h rows moment [] fits = tt
-kind_as_asked kind h rows moment (n ∷ notes) fits = (h n (and_parts (kind n) (are kind notes) fits).0 rows moment, kind_as_asked kind h rows moment notes (and_parts (kind n) (are kind notes) fits).1)
+kind_as_asked : (kind : Note → Bool) → ((peer : Peer) (key body current : List ℕ) → kind (note.Kept peer key body current) ≡ false) → ((o : Observer) → kind (note.Watched o) ≡ false)
+    → (rows : List Row) (moment : ℕ) (notes : List Note) → are kind notes ≡ true → NotesAsAsked rows moment notes
+kind_as_asked kind kept watched rows moment [] fits = tt
+kind_as_asked kind kept watched rows moment (n ∷ notes) fits =
+    let both = and_parts (kind n) (are kind notes) fits in
+    (by n both.0, kind_as_asked kind kept watched rows moment notes both.1)
+  where
+    by : (x : Note) → kind x ≡ true → NoteAsAsked (entries rows) moment x
+    by (note.Kept peer key body current) h = absurd (false≢true (sym (kept peer key body current) ∙ h))
+    by (note.Watched o) h = absurd (false≢true (sym (watched o) ∙ h))
+    by _ h = tt
 
 -- what is sent again
 again_notes_as_asked : (rows : List Row) (moment : ℕ) → NotesAsAsked rows moment (notices_again rows moment).notes
-again_notes_as_asked rows moment = kind_as_asked of_again by rows moment (notices_again rows moment).notes (notices_again-notes rows moment)
-  where
-    by : (n : Note) → of_again n ≡ true → (some : List Row) (at : ℕ) → NoteAsAsked (entries some) at n
-    by (note.Kept peer key body current) h some at = absurd (false≢true h)
-    by (note.Watched o) h some at = absurd (false≢true h)
-    by _ h some at = tt
+again_notes_as_asked rows moment = kind_as_asked of_again (λ p k b c. refl) (λ o. refl) rows moment (notices_again rows moment).notes (notices_again-notes rows moment)
 
 -- and requests of fetches
 request_notes_as_asked : (rows : List Row) (moment : ℕ) → NotesAsAsked rows moment (requests_again rows moment).notes
-request_notes_as_asked rows moment = kind_as_asked of_resent by rows moment (requests_again rows moment).notes (requests_again-notes rows moment)
-  where
-    by : (n : Note) → of_resent n ≡ true → (some : List Row) (at : ℕ) → NoteAsAsked (entries some) at n
-    by (note.Kept peer key body current) h some at = absurd (false≢true h)
-    by (note.Watched o) h some at = absurd (false≢true h)
-    by _ h some at = tt
+request_notes_as_asked rows moment = kind_as_asked of_resent (λ p k b c. refl) (λ o. refl) rows moment (requests_again rows moment).notes (requests_again-notes rows moment)
 
 -- the notices of a tick
 notice_notes_as_asked : (rows : List Row) (moment : ℕ) (s : Step) → AllByRecursion IsAsking (observers (events_after_again rows moment s.word)) → NotesAsAsked rows moment (notices (ticking rows moment s) (notices_again rows moment)).notes

@@ -170,7 +170,7 @@ unfolding tag_from
 tag-length history moment = refl
 
 -- what is spelled and read again is the message
-same_message : (m n : Message) (octets : List ℕ) → reading octets ≡ Ok m → reading octets ≡ Ok n → m ≡ n
+pub same_message : (m n : Message) (octets : List ℕ) → reading octets ≡ Ok m → reading octets ≡ Ok n → m ≡ n
 same_message m n octets e f = let both : ◌≡◌ {A = Result Message Unread} (Ok m) (Ok n) = sym e ∙ f in cc
 
 -- an answer with a block of a body bears it
