@@ -84,13 +84,13 @@ placed_none number [] none = tt
 placed_none number (o ∷ options) none = (none.0, each_map (λ (p : Placed). (p.1.0 == number) ≡ false) (λ (p : Placed). (o ∷ p.0, p.1)) (placed_options options) (placed_none number options none.1))
 
 -- so they have no value of it, whichever stand before them
-none_picked : (number : ℕ) (places : List Placed) → AllByRecursion (λ (p : Placed). (p.1.0 == number) ≡ false) places
-    → map (λ (o : Opt). o.1) (filter (λ (o : Opt). o.0 == number) (map (λ (p : Placed). p.1) (filter is_recognized_there places))) ≡ []
+none_picked : (number : ℕ) (placed : List Placed) → AllByRecursion (λ (p : Placed). (p.1.0 == number) ≡ false) placed
+    → map (λ (o : Opt). o.1) (filter (λ (o : Opt). o.0 == number) (map (λ (p : Placed). p.1) (filter is_recognized_there placed))) ≡ []
 none_picked number [] none = refl
-none_picked number (p ∷ places) none = by (is_recognized_there p) (none_picked number places none.1)
+none_picked number (p ∷ placed) none = by (is_recognized_there p) (none_picked number placed none.1)
   where
-    by : (b : Bool) → map (λ (o : Opt). o.1) (filter (λ (o : Opt). o.0 == number) (map (λ (q : Placed). q.1) (filter is_recognized_there places))) ≡ []
-        → map (λ (o : Opt). o.1) (filter (λ (o : Opt). o.0 == number) (map (λ (q : Placed). q.1) (cond b (p ∷ filter is_recognized_there places) (filter is_recognized_there places)))) ≡ []
+    by : (b : Bool) → map (λ (o : Opt). o.1) (filter (λ (o : Opt). o.0 == number) (map (λ (q : Placed). q.1) (filter is_recognized_there placed))) ≡ []
+        → map (λ (o : Opt). o.1) (filter (λ (o : Opt). o.0 == number) (map (λ (q : Placed). q.1) (cond b (p ∷ filter is_recognized_there placed) (filter is_recognized_there placed)))) ≡ []
     by true rest = rw none.0 rest
     by false rest = rest
 

@@ -23,7 +23,7 @@ use Rattle.journal_model.specs.Sending.{Effects}
 use Rattle.journal_model.specs.Ticks.{is_confirmable_with, sent_by, sent_again, each_of, notice_again, flight_again, notices_again, Ticking, ticking, events_with, block_told, noticed_unless, listing_for, is_given, noticed_if, is_looked_at, notice_next, notices, request_again, fetch_again, requests_again, tick_effects}
 use Rattle.headline_law.proofs.sends.ReadAgain.{header_read}
 use Rattle.headline_law.proofs.sends.PlainSteps.{IsPlain, ArePlain}
-use Rattle.headline_law.proofs.sends.ValidSends.{NotValid, NoneValid, is_confirmable, AreCalm, body_code}
+use Rattle.headline_law.proofs.sends.ValidSends.{NotValid, NoneValid, is_confirmable, NoConfirmableValid, body_code}
 use Rattle.rd_base.proofs.lemmas.Each.{each_append}
 use Rattle.rd_base.proofs.lemmas.Among.{find_passes}
 
@@ -99,13 +99,13 @@ requests_plain rows moment asked =
 -- ---- 2.03
 
 -- no row sends a confirmable 2.03
-abbrev pub CalmAt : List Row → Type 0
-CalmAt rows = (place : ℕ) (r : Row) → row_at place rows ≡ Some r → AreCalm r.sent
+abbrev pub NoConfirmableValidAt : List Row → Type 0
+NoConfirmableValidAt rows = (place : ℕ) (r : Row) → row_at place rows ≡ Some r → NoConfirmableValid r.sent
 
 -- so no notice that is sent again has this code
-again_not_valid : (rows : List Row) (moment : ℕ) → CalmAt rows → NoneValid (notices_again rows moment).sent
+again_not_valid : (rows : List Row) (moment : ℕ) → NoConfirmableValidAt rows → NoneValid (notices_again rows moment).sent
 unfolding notices_again
-again_not_valid rows moment calm =
+again_not_valid rows moment confirmables =
     each_of_sent (λ (d : Peer × List ℕ). NotValid d.1) (λ o. flight_again rows moment o (flight o (events rows))) (observers (events rows)) (each (observers (events rows)))
   where
     again : (b c : Bool) (o : Observer) (f : Flight) → NoneValid (notice_again b c rows o f).sent
@@ -113,7 +113,7 @@ again_not_valid rows moment calm =
     again true true o f = tt
     again true false o f =
         again_sent (λ (d : Peer × List ℕ). NotValid d.1) (sent_by (row_at f.formed.place rows) o.peer f.mid) (note.Again o.peer f.mid)
-        (λ d found. let it = sent_by-FoundSent (λ (x : Peer × List ℕ). is_confirmable x.1 ≡ true → NotValid x.1) (row_at f.formed.place rows) o.peer f.mid d (λ r at. calm f.formed.place r at) found in
+        (λ d found. let it = sent_by-FoundSent (λ (x : Peer × List ℕ). is_confirmable x.1 ≡ true → NotValid x.1) (row_at f.formed.place rows) o.peer f.mid d (λ r at. confirmables f.formed.place r at) found in
         it.holds (confirmable_of f.mid d.1 it.confirmable))
 
     flying : (o : Observer) (f : Option Flight) → NoneValid (flight_again rows moment o f).sent
@@ -149,12 +149,12 @@ plain_not_valid [] h = tt
 plain_not_valid (d ∷ sent) h = (h.0.no_valid, plain_not_valid sent h.1)
 
 -- no tick sends 2.03
-pub tick_not_valid : (starved : Bool) (rows : List Row) (moment : ℕ) (s : Step) → CalmAt rows → AskedPlain rows → NoneValid (tick_effects starved rows moment s).sent
+pub tick_not_valid : (starved : Bool) (rows : List Row) (moment : ℕ) (s : Step) → NoConfirmableValidAt rows → AskedPlain rows → NoneValid (tick_effects starved rows moment s).sent
 unfolding tick_effects
-tick_not_valid true rows moment s calm asked =
-    each_append (λ (d : Peer × List ℕ). NotValid d.1) (notices_again rows moment).sent (requests_again rows moment).sent (again_not_valid rows moment calm)
+tick_not_valid true rows moment s confirmables asked =
+    each_append (λ (d : Peer × List ℕ). NotValid d.1) (notices_again rows moment).sent (requests_again rows moment).sent (again_not_valid rows moment confirmables)
     (plain_not_valid (requests_again rows moment).sent (requests_plain rows moment asked))
-tick_not_valid false rows moment s calm asked =
+tick_not_valid false rows moment s confirmables asked =
     each_append (λ (d : Peer × List ℕ). NotValid d.1) (notices (ticking rows moment s) (notices_again rows moment)).sent (requests_again rows moment).sent
-    (notices_not_valid (ticking rows moment s) (notices_again rows moment) (again_not_valid rows moment calm))
+    (notices_not_valid (ticking rows moment s) (notices_again rows moment) (again_not_valid rows moment confirmables))
     (plain_not_valid (requests_again rows moment).sent (requests_plain rows moment asked))
