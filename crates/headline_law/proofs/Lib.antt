@@ -23,7 +23,7 @@
 --   CarriedListings (what it is to carry the listing of the row that formed it).
 --   rows: each row carries what was formed as the headline says: RowCarries (looks and plain rows), LookupRows, KeepRows, TickRows; and AnswersAsFormed, the sentence.
 --
--- Shared. notes: what steps note. StepTable (the one table of cases, of all but TagsTellStates), SilentSteps (what notes nothing), ChangeNotes (the kinds of notes of commits and responses),
+-- Shared. notes: what steps note. StepTable (the one table of cases, on which all four rest), SilentSteps (what notes nothing), ChangeNotes (the kinds of notes of commits and responses),
 --   LookupNotes and TickNotes (what is kept, and who observes, is as it was asked: AnswersAsFormed).
 --   entries: JournalLaws (a row of a journal is that of its step). observers: ObserversKnow says what the notes of each step do for observers (ObserverNotes), which FirstBodies reads too.
 pub mod notes

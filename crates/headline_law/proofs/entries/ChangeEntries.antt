@@ -56,6 +56,7 @@ pub ChangeEntry-one : (history : List Entry) (moment : ℕ) (notes : List Note) 
 ChangeEntry-one history moment notes reports (no_change h r) e = absurd (false≢true (sym r ∙ e))
 ChangeEntry-one history moment notes reports (one_change entry h at good accepted r) e = ap length h
 
+-- where it reports no change, they have none
 pub ChangeEntry-none : (history : List Entry) (moment : ℕ) (notes : List Note) (reports : Bool) → ChangeEntry history moment notes reports → reports ≡ false → entries_in notes ≡ []
 ChangeEntry-none history moment notes reports (no_change h r) e = h
 ChangeEntry-none history moment notes reports (one_change entry h at good accepted r) e = absurd (false≢true (sym e ∙ r))

@@ -48,6 +48,7 @@ pub latest-row : (before : List Row) (r : Row) → r.moment.0 ≤ latest (r ∷ 
 unfolding latest
 latest-row before r = le-max_left r.moment.0 (latest before)
 
+-- which is not below the greatest before
 pub latest-before : (before : List Row) (r : Row) → latest before ≤ latest (r ∷ before)
 unfolding latest
 latest-before before r = le-max_right r.moment.0 (latest before)

@@ -87,10 +87,11 @@ known_looked past rows_seen history later word count notes o looks formed =
     let found : Found (is_looking_for (name_of o)) (noted count later word notes past) count later = last_event-here (is_looking_for (name_of o)) count later word notes past looks in
     record { event = found.event; last = found.last; place = let here = found.at_place in omega (arith, here); knows = λ not_due. formed }
 
--- what is known of an observer in a journal, and of all that stand
+-- what is known of an observer in a journal
 abbrev pub KnownIn : List Row → Observer → Type 0
 KnownIn rows o = Known (events rows) (transitions rows) (entries rows) (now rows) (length rows) o
 
+-- and of all that stand
 abbrev pub AllKnown : List Row → Type 0
 AllKnown rows = AllByRecursion (KnownIn rows) (observers (events rows))
 
@@ -110,6 +111,7 @@ not_looking name notes h = none_pass is_observing (is_looking_for name) by notes
     by (note.Unchanged peer token) e = absurd (false≢true (sym e))
     by _ e = refl
 
+-- and adds none
 pub not_watching : (notes : List Note) → list_any is_observing notes ≡ false → list_any is_watching notes ≡ false
 not_watching notes h = none_pass is_observing is_watching by notes h
   where
