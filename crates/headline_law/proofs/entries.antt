@@ -1,11 +1,11 @@
-pub mod ChangingSteps
+pub mod ChangeEntries
 pub mod QuietSteps
 pub mod RowLaws
 pub mod JournalLaws
-pub mod AnswerLaws
-pub mod Origins
+pub mod ResponseEntries
+pub mod EntryOrigins
 pub mod TagStates
 pub mod CommitLaws
-pub mod Admitting
+pub mod Admissions
 pub mod FailedLaws
 pub mod HoldsEachOnce

@@ -1,9 +1,9 @@
-pub mod AgainFacts
-pub mod Standing
+pub mod NoticesAgain
+pub mod WaitedPeers
 pub mod TickNotices
 pub mod FreshNotices
 pub mod TickFolds
 pub mod KnownFlights
-pub mod TickCarries
+pub mod CarriedListings
 pub mod TickFlights
-pub mod TickTold
+pub mod FirstBodies

@@ -1,2 +1,5 @@
-pub mod ChangingNotes
-pub mod Asking
+pub mod ChangeNotes
+pub mod LookupNotes
+pub mod SilentSteps
+pub mod TickNotes
+pub mod StepTable

@@ -1,4 +1,4 @@
-pub mod Knowing
-pub mod Observing
-pub mod TickKnowing
+pub mod ObserverKnowledge
+pub mod AddedObservers
+pub mod TickKnowledge
 pub mod ObserversKnow

@@ -1,7 +1,5 @@
 pub mod TickRows
 pub mod RowCarries
-pub mod KeptRows
+pub mod LookupRows
 pub mod KeepRows
 pub mod AnswersAsFormed
-pub mod WholeHeadline
-pub mod HeadlineLaw

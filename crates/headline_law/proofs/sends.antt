@@ -6,5 +6,5 @@ pub mod LookupSends
 pub mod ValidSends
 pub mod TickSends
 pub mod RowSends
-pub mod StepGives
+pub mod StepOutcomes
 pub mod ValidLaw

@@ -39,14 +39,14 @@ abbrev worker_at : ℕ → List Row → Option ℕ
 worker_at place rows = option_map (λ (r : Row). r.step.worker) (row_at place rows)
 
 -- a worker may commit the write of a place: its own row admitted it, and nobody committed it since
-pub record Holds (rows : List Row) (worker place : ℕ) : Type 0 where
+pub record MayCommit (rows : List Row) (worker place : ℕ) : Type 0 where
   pub below : place < length rows
-  pub by : worker_at place rows ≡ Some worker
+  pub admitted_by : worker_at place rows ≡ Some worker
   pub fresh : NoCommit place rows
 
 -- each worker that holds such a job may commit it
-abbrev pub JobsHold : List Row → Type 0
-JobsHold rows = (worker place : ℕ) (job : Job) → job_of worker rows ≡ Some job → job.kind ≡ step.Commit place → Holds rows worker place
+abbrev pub JobsMayCommit : List Row → Type 0
+JobsMayCommit rows = (worker place : ℕ) (job : Job) → job_of worker rows ≡ Some job → job.kind ≡ step.Commit place → MayCommit rows worker place
 
 -- a datagram that is heard is no commit
 hearing_no_commit : (b : Bool) (place : ℕ) → cond b step.Look step.Admit ≡ step.Commit place → ⊥
@@ -54,17 +54,17 @@ hearing_no_commit true place e = let h : step.Look ≡ step.Commit place = e in 
 hearing_no_commit false place e = let h : step.Admit ≡ step.Commit place = e in absurd cc
 
 -- a commit that may be made is of a job that is held
-may_commit : (rows : List Row) (s : Step) (place : ℕ) → JobsHold rows → MayBegin rows s → s.kind ≡ step.Commit place → Holds rows s.worker place
-may_commit rows s place jobs (hears none heard) e = absurd (hearing_no_commit (is_look_datagram s.datagram) place (sym heard ∙ e))
-may_commit rows s place jobs (goes holds) e = jobs s.worker place (record { kind = s.kind; peer = s.peer; datagram = s.datagram }) holds e
-may_commit rows s place jobs (ticks tick) e = absurd (let h : step.Tick ≡ step.Commit place = sym tick ∙ e in cc)
+begun_may_commit : (rows : List Row) (s : Step) (place : ℕ) → JobsMayCommit rows → MayBegin rows s → s.kind ≡ step.Commit place → MayCommit rows s.worker place
+begun_may_commit rows s place jobs (hears none heard) e = absurd (hearing_no_commit (is_look_datagram s.datagram) place (sym heard ∙ e))
+begun_may_commit rows s place jobs (goes holds) e = jobs s.worker place (record { kind = s.kind; peer = s.peer; datagram = s.datagram }) holds e
+begun_may_commit rows s place jobs (ticks tick) e = absurd (let h : step.Tick ≡ step.Commit place = sym tick ∙ e in cc)
 
--- what a worker may commit, it may behind a row that does not commit it
-Holds-row : (rows : List Row) (r : Row) (worker place : ℕ) → Holds rows worker place → (Commits r place → ⊥) → Holds (r ∷ rows) worker place
+-- what a worker may commit, it may after a row that does not commit it
+MayCommit-row : (rows : List Row) (r : Row) (worker place : ℕ) → MayCommit rows worker place → (Commits r place → ⊥) → MayCommit (r ∷ rows) worker place
 unfolding row_at
-Holds-row rows r worker place held not_here = record {
+MayCommit-row rows r worker place held not_here = record {
   below = omega (arith, held.below);
-  by = subst (λ b. option_map (λ (x : Row). x.step.worker) (cond b (Some r) (row_at place rows)) ≡ Some worker) (sym (other (place == length rows) refl)) held.by;
+  admitted_by = subst (λ b. option_map (λ (x : Row). x.step.worker) (cond b (Some r) (row_at place rows)) ≡ Some worker) (sym (other (place == length rows) refl)) held.admitted_by;
   fresh = (not_here, held.fresh);
 }
   where
@@ -74,14 +74,14 @@ Holds-row rows r worker place held not_here = record {
 
 -- an admission leaves its worker with the job of its own place
 after_admission : (rows : List Row) (r : Row) (place : ℕ) (notes : List Note) (job : Job) → CommitsBelow rows → r.step.kind ≡ step.Admit
-    → write_job notes r rows ≡ Some job → job.kind ≡ step.Commit place → Holds (r ∷ rows) r.step.worker place
+    → write_job notes r rows ≡ Some job → job.kind ≡ step.Commit place → MayCommit (r ∷ rows) r.step.worker place
 unfolding row_at
 after_admission rows r place (note.Admitted peer mid ∷ notes) job below kind e commits =
     let kinds : step.Commit (length rows) ≡ step.Commit place = ap (λ (j : Option Job). kind_of j) e ∙ commits in
     let here : length rows ≡ place = cc in
-    subst (λ n. Holds (r ∷ rows) r.step.worker n) here (record {
+    subst (λ n. MayCommit (r ∷ rows) r.step.worker n) here (record {
       below = omega arith;
-      by = rw (eqb-refl (length rows)) refl;
+      admitted_by = rw (eqb-refl (length rows)) refl;
       fresh = (λ commit. absurd (let h : step.Admit ≡ step.Commit (length rows) = sym kind ∙ commit in cc), not_yet rows (length rows) below (omega arith));
     })
   where
@@ -104,35 +104,35 @@ after_look rows r place [] job e commits = kept (reading r.step.datagram) (ap ki
 after_look rows r place (d ∷ sent) job e commits = absurd (let h : None ≡ Some job = e in cc)
 
 -- the jobs with one row more
-jobs_step : (rows : List Row) (s : Step) (starved : Bool) → CommitsBelow rows → JobsHold rows → MayBegin rows s → JobsHold (row rows s starved ∷ rows)
+jobs_step : (rows : List Row) (s : Step) (starved : Bool) → CommitsBelow rows → JobsMayCommit rows → MayBegin rows s → JobsMayCommit (row rows s starved ∷ rows)
 unfolding job_of row
 jobs_step rows s starved below jobs may worker place job held commits = by (s.worker == worker) refl held
   where
     r : Row
     r = row rows s starved
 
-    own : (kind : StepKind) → s.kind ≡ kind → job_after kind (row rows s starved) rows (job_of worker rows) ≡ Some job → s.worker ≡ worker → Holds (row rows s starved ∷ rows) worker place
-    own step.Admit kind e same = subst (λ w. Holds (row rows s starved ∷ rows) w place) same (after_admission rows (row rows s starved) place (row rows s starved).notes job below kind e commits)
+    own : (kind : StepKind) → s.kind ≡ kind → job_after kind (row rows s starved) rows (job_of worker rows) ≡ Some job → s.worker ≡ worker → MayCommit (row rows s starved ∷ rows) worker place
+    own step.Admit kind e same = subst (λ w. MayCommit (row rows s starved ∷ rows) w place) same (after_admission rows (row rows s starved) place (row rows s starved).notes job below kind e commits)
     own step.Look kind e same = absurd (after_look rows (row rows s starved) place (row rows s starved).sent job e commits)
     own (step.Commit q) kind e same = absurd (let h : None ≡ Some job = e in cc)
     own (step.Keep body tag) kind e same = absurd (let h : None ≡ Some job = e in cc)
     own step.Tick kind e same =
-        Holds-row rows (row rows s starved) worker place (jobs worker place job e commits) (λ commit. absurd (let h : step.Tick ≡ step.Commit place = sym kind ∙ commit in cc))
+        MayCommit-row rows (row rows s starved) worker place (jobs worker place job e commits) (λ commit. absurd (let h : step.Tick ≡ step.Commit place = sym kind ∙ commit in cc))
 
-    by : (b : Bool) → (s.worker == worker) ≡ b → cond b (job_after s.kind (row rows s starved) rows (job_of worker rows)) (job_of worker rows) ≡ Some job → Holds (row rows s starved ∷ rows) worker place
+    by : (b : Bool) → (s.worker == worker) ≡ b → cond b (job_after s.kind (row rows s starved) rows (job_of worker rows)) (job_of worker rows) ≡ Some job → MayCommit (row rows s starved ∷ rows) worker place
     by true same e = own s.kind refl e (eqb-true s.worker worker same)
     by false other e =
-        let mine : Holds rows worker place = jobs worker place job e commits in
-        Holds-row rows (row rows s starved) worker place mine (λ commit.
-        let its : Holds rows s.worker place = may_commit rows s place jobs may commit in
-        let both : Some s.worker ≡ Some worker = sym its.by ∙ mine.by in
+        let mine : MayCommit rows worker place = jobs worker place job e commits in
+        MayCommit-row rows (row rows s starved) worker place mine (λ commit.
+        let its : MayCommit rows s.worker place = begun_may_commit rows s place jobs may commit in
+        let both : Some s.worker ≡ Some worker = sym its.admitted_by ∙ mine.admitted_by in
         let same : s.worker ≡ worker = cc in
         false≢true (sym other ∙ subst (λ w. (s.worker == w) ≡ true) same (eqb-refl s.worker)))
 
 -- in each journal, commits are of earlier places, and jobs may be committed
 record Orderly (rows : List Row) : Type 0 where
   below : CommitsBelow rows
-  jobs : JobsHold rows
+  jobs : JobsMayCommit rows
 
 orderly : (rows : List Row) → IsJournal rows → Orderly rows
 unfolding job_of row
@@ -140,17 +140,17 @@ orderly [] begun = record { below = tt; jobs = λ worker place job held commits.
 orderly (r ∷ before) (made {rows} {s} starved journal may) =
     let h : Orderly before = orderly before journal in
     record {
-      below = (λ place commits. (may_commit before s place h.jobs may.begin commits).below, h.below);
+      below = (λ place commits. (begun_may_commit before s place h.jobs may.begin commits).below, h.below);
       jobs = jobs_step before s starved h.below h.jobs may.begin;
     }
 
 -- what nobody committed, no row committed
 nobody : (rows before : List Row) (r : Row) (place : ℕ) → NoCommit place rows → Within rows before r → Commits r place → ⊥
-nobody rows before r place fresh within commits = behind within.later (subst (NoCommit place) within.whole fresh)
+nobody rows before r place fresh within commits = after within.later (subst (NoCommit place) within.whole fresh)
   where
-    behind : (later : List Row) → NoCommit place (later ++ r ∷ before) → ⊥
-    behind [] h = h.0 commits
-    behind (x ∷ later) h = behind later h.1
+    after : (later : List Row) → NoCommit place (later ++ r ∷ before) → ⊥
+    after [] h = h.0 commits
+    after (x ∷ later) h = after later h.1
 
 -- each admission is committed at most once
 pub journal-once : (rows before earlier : List Row) (r other : Row) (place : ℕ) → IsJournal rows → Within rows before r → Within before earlier other → Commits r place → Commits other place → ⊥
@@ -158,5 +158,5 @@ unfolding row
 journal-once rows before earlier r other place journal within further commits again =
     let it : Made before r = each_row rows before r journal within in
     let kind : it.step.kind ≡ step.Commit place = ap (λ (x : Row). x.step.kind) (sym it.is) ∙ commits in
-    let held : Holds before it.step.worker place = may_commit before it.step place (orderly before it.journal).jobs it.may.begin kind in
+    let held : MayCommit before it.step.worker place = begun_may_commit before it.step place (orderly before it.journal).jobs it.may.begin kind in
     nobody before earlier other place held.fresh further again

@@ -13,7 +13,7 @@ use Rattle.journal_model.specs.Machine.{IsJournal}
 use Rattle.journal_model.specs.Headline.{Within, admits}
 use Rattle.headline_law.proofs.entries.RowLaws.{row-moment_latest}
 use Rattle.headline_law.proofs.entries.JournalLaws.{Made, newest, latest-row, latest-before}
-use Rattle.headline_law.proofs.entries.Admitting.{row_admits}
+use Rattle.headline_law.proofs.entries.Admissions.{row_admits}
 
 -- a row within a journal is its newest, or within the rows before that
 within_cases : (x : Row) (rest before : List Row) (r : Row) → Within (x ∷ rest) before r → ((x ≡ r) × (rest ≡ before)) ⊎ Within rest before r
@@ -51,11 +51,11 @@ has_event-more test x rest h = has_event-noted test (length rest) x.moment.0 x.s
 -- the last admission of a peer and a Message ID, where an admission of them is within: it is that one, or a later one
 record LastAdmission (peer : Peer) (mid : ℕ) (rows earlier : List Row) (other : Row) : Type 0 where
   row_of : Row
-  behind : List Row
-  within : Within rows behind row_of
+  rows_before : List Row
+  within : Within rows rows_before row_of
   admitted : admits peer mid row_of ≡ true
-  found : Found (is_admission_of peer mid) (events rows) (length behind) row_of.moment.0
-  order : ((row_of ≡ other) × (behind ≡ earlier)) ⊎ Within behind earlier other
+  found : Found (is_admission_of peer mid) (events rows) (length rows_before) row_of.moment.0
+  order : ((row_of ≡ other) × (rows_before ≡ earlier)) ⊎ Within rows_before earlier other
 
 last_admission : (peer : Peer) (mid : ℕ) (rows earlier : List Row) (other : Row) → Within rows earlier other → admits peer mid other ≡ true → LastAdmission peer mid rows earlier other
 unfolding events
@@ -70,7 +70,7 @@ last_admission peer mid (x ∷ rest) earlier other within it =
         → LastAdmission peer mid (x ∷ rest) earlier other
     by true here cases more = record {
       row_of = x;
-      behind = rest;
+      rows_before = rest;
       within = record { later = []; whole = refl };
       admitted = here;
       found = last_event-here (is_admission_of peer mid) (length rest) x.moment.0 x.step.word x.notes (events rest) here;
@@ -81,8 +81,8 @@ last_admission peer mid (x ∷ rest) earlier other within it =
         let old : LastAdmission peer mid rest earlier other = more further in
         record {
           row_of = old.row_of;
-          behind = old.behind;
-          within = within_more x rest old.behind old.row_of old.within;
+          rows_before = old.rows_before;
+          within = within_more x rest old.rows_before old.row_of old.within;
           admitted = old.admitted;
           found = record {
             event = old.found.event;
@@ -114,7 +114,7 @@ newest_failed before earlier r other peer mid it further now then close more = b
     not_below : latest before ≤ r.moment.0
     not_below = subst (λ (y : Row). latest before ≤ y.moment.0) (sym it.is) (row-moment_latest before it.step it.starved)
 
-    by : ((last.row_of ≡ other) × (last.behind ≡ earlier)) ⊎ Within last.behind earlier other → Failed before earlier
+    by : ((last.row_of ≡ other) × (last.rows_before ≡ earlier)) ⊎ Within last.rows_before earlier other → Failed before earlier
     by (inl same) =
         let moments : last.row_of.moment.0 ≡ other.moment.0 = ap (λ (y : Row). y.moment.0) same.0 in
         let at = last.found.at_moment in
@@ -122,8 +122,8 @@ newest_failed before earlier r other peer mid it further now then close more = b
         last_failed r.moment.0 peer mid (events before) last.found.event nothing_kept last.found.last (lt-ltb r.moment.0 (last.found.event.moment + exchange_lifetime) (omega (arith, close, moments, at))) in
         subst (λ n. has_event (is_failure_of n) (events before) ≡ true) (last.found.at_place ∙ ap length same.1) failed
     by (inr between) =
-        let low : last.row_of.moment.0 ≤ latest before = moment-latest before last.behind last.row_of last.within in
-        more last.behind last.row_of last.within between last.admitted (omega (arith, low, not_below, close))
+        let low : last.row_of.moment.0 ≤ latest before = moment-latest before last.rows_before last.row_of last.within in
+        more last.rows_before last.row_of last.within between last.admitted (omega (arith, low, not_below, close))
 
 -- of two admissions with one peer and Message ID that are less than the lifetime of an exchange apart, the earlier failed
 pub journal-failed : (rows before earlier : List Row) (r other : Row) (peer : Peer) (mid : ℕ) → IsJournal rows → Within rows before r → Within before earlier other

@@ -26,10 +26,10 @@ in_time rows before r journal within =
     omega (arith, here.in_time, last)
 
 -- where the tags at two rows are equal, so are the histories and the live registrations
-both : (rows before other_before : List Row) (r other : Row) → IsJournal rows → Within rows before r → Within rows other_before other
+tags_tell : (rows before other_before : List Row) (r other : Row) → IsJournal rows → Within rows before r → Within rows other_before other
     → tag (entries (r ∷ before)) r.moment.0 ≡ tag (entries (other ∷ other_before)) other.moment.0
     → (entries (r ∷ before) ≡ entries (other ∷ other_before)) × (live (entries (r ∷ before)) r.moment.0 ≡ live (entries (other ∷ other_before)) other.moment.0)
-both rows before other_before r other journal here there same =
+tags_tell rows before other_before r other journal here there same =
     tag_from_tells 0 (entries rows) (entries (r ∷ before)) (entries (other ∷ other_before)) r.moment.0 other.moment.0 (omega arith)
     (journal-HasHistory rows journal).legal (entries-IsFront rows before r here) (entries-IsFront rows other_before other there)
     (in_time rows before r journal here) (in_time rows other_before other journal there) same
@@ -37,11 +37,12 @@ both rows before other_before r other journal here there same =
 -- equally tagged answers come from one state
 pub journal-TagsTellStates : (rows : List Row) → IsJournal rows → TagsTellStates rows
 journal-TagsTellStates rows journal = record {
-  histories = λ before other_before r other here there same. (both rows before other_before r other journal here there same).0;
-  records = λ before other_before r other here there same. (both rows before other_before r other journal here there same).1;
+  histories = λ before other_before r other here there same. (tags_tell rows before other_before r other journal here there same).0;
+  records = λ before other_before r other here there same. (tags_tell rows before other_before r other journal here there same).1;
 }
 
 -- and so they carry blocks of one listing, for an equal query
+-- An end theorem: nothing here cites it.
 pub journal-listings : (rows before other_before : List Row) (r other : Row) (query : Query) → IsJournal rows → Within rows before r → Within rows other_before other
     → tag (entries (r ∷ before)) r.moment.0 ≡ tag (entries (other ∷ other_before)) other.moment.0
     → listing query (entries (r ∷ before)) r.moment.0 ≡ listing query (entries (other ∷ other_before)) other.moment.0

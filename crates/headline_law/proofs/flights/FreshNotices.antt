@@ -20,14 +20,14 @@ use Rattle.journal_model.specs.declared.rows.Row.{Row}
 use Rattle.journal_model.specs.Journal.{events}
 use Rattle.journal_model.specs.Sending.{Effects}
 use Rattle.journal_model.specs.Headline.{has_listing, forms_notice}
-use Rattle.rd_base.proofs.lemmas.Among.{Among, each_weak}
+use Rattle.rd_base.proofs.lemmas.Among.{Among}
 use Rattle.journal_model.proofs.FlightKeys.{flight_key, is_landing, key_same_all, key_formed}
-use Rattle.headline_law.proofs.flights.Standing.{is_turning, observers_same, Waits, flies_key}
-use Rattle.headline_law.proofs.flights.AgainFacts.{AgainSent, AgainNoted, behind_again}
-use Rattle.headline_law.proofs.flights.TickNotices.{is_notice_to, IsNoticeOf, Stat, as_before, given, FreshSent, TickSoFar}
+use Rattle.headline_law.proofs.flights.WaitedPeers.{changes_observers, observers_same, Waits, flies_key}
+use Rattle.headline_law.proofs.flights.NoticesAgain.{AgainSent, AgainNoted, events_after_again}
+use Rattle.headline_law.proofs.flights.TickNotices.{is_notice_to, IsNoticeOf, FlightSoFar, as_before, noticed, FreshSent, TickSoFar}
 use Rattle.std.proofs.lemmas.Bool.{or_left, or_right}
 use Rattle.rd_base.proofs.lemmas.Numbers.{eqb-refl}
-use Rattle.rd_base.proofs.lemmas.Each.{each_append}
+use Rattle.rd_base.proofs.lemmas.Each.{each_append, each_weaker}
 
 -- a new notice, with what is kept of it
 pub record NewNotice (rows : List Row) (moment word : ℕ) (done : Effects) : Type 0 where
@@ -36,13 +36,13 @@ pub record NewNotice (rows : List Row) (moment word : ℕ) (done : Effects) : Ty
   pub body : List ℕ
   pub octets : List ℕ
   pub kept : List Note
-  pub stands : Among observer (observers (behind_again rows moment word))
-  pub only : (o : Observer) → Among o (observers (behind_again rows moment word)) → is_same_request (name_of observer) (name_of o) ≡ true → observer ≡ o
+  pub stands : Among observer (observers (events_after_again rows moment word))
+  pub only : (o : Observer) → Among o (observers (events_after_again rows moment word)) → is_same_request (name_of observer) (name_of o) ≡ true → observer ≡ o
   pub free : Waits observer.peer (noted (length rows) moment word done.notes (events rows)) → ⊥
   pub notice : IsNoticeOf rows moment observer octets
   pub forms_none : (o : Observer) → list_any (is_forming_for (name_of o)) kept ≡ false
   pub lands_none : list_any is_landing kept ≡ false
-  pub turns_none : list_any is_turning kept ≡ false
+  pub changes_none : list_any changes_observers kept ≡ false
   pub notifies_none : (peer : Peer) → list_any (is_notice_to peer) kept ≡ false
   pub agains : AllByRecursion (AgainNoted rows moment) kept
 
@@ -61,13 +61,13 @@ with_notice {done = done} new drew = record {
 -- all that is known so far is known with it
 pub so_far_noticed : (rows : List Row) (moment word : ℕ) (done : Effects) (new : NewNotice rows moment word done) (drew : ℕ) → TickSoFar rows moment word done → TickSoFar rows moment word (with_notice new drew)
 so_far_noticed rows moment word done new drew it = record {
-  stand = ap observers split ∙ (observers_same (length rows) moment word (notes_of new) Before turning ∙ it.stand);
+  stand = ap observers split ∙ (observers_same (length rows) moment word (notes_of new) Before changing ∙ it.stand);
   sends = each_append (λ (d : Peer × List ℕ). (m : Message) → reading d.1 ≡ Ok m → has_listing m ≡ true → Waits d.0 After) done.sent ((new.observer.peer, new.octets) ∷ [])
-      (each_weak (λ d h m e listed. on d.0 (h m e listed)) done.sent it.sends) ((λ m e listed. x_waits), tt);
+      (each_weaker (λ (d : Peer × List ℕ). (m : Message) → reading d.1 ≡ Ok m → has_listing m ≡ true → Waits d.0 Before) (λ (d : Peer × List ℕ). (m : Message) → reading d.1 ≡ Ok m → has_listing m ≡ true → Waits d.0 After) (λ d h m e listed. on d.0 (h m e listed)) done.sent it.sends) ((λ m e listed. x_waits), tt);
   waits_on = λ peer w. on peer (it.waits_on peer w);
   origins = each_append (λ (d : Peer × List ℕ). AgainSent rows moment d ⊎ FreshSent rows moment word d) done.sent ((new.observer.peer, new.octets) ∷ []) it.origins
       (inr (record { observer = new.observer; stands = new.stands; of_peer = refl; body = new.notice; free = λ w. new.free (it.waits_on new.observer.peer w) }), tt);
-  stats = λ o stands. stat o stands (it.stats o stands);
+  flights_so_far = λ o stands. flight_so_far o stands (it.flights_so_far o stands);
   agains = each_append (AgainNoted rows moment) done.notes (notes_of new) it.agains (tt, new.agains);
   keeps = λ test h. list_any-append test done.notes (notes_of new) ∙ or_left (list_any test done.notes) (list_any test (notes_of new)) (it.keeps test h);
 }
@@ -81,8 +81,8 @@ so_far_noticed rows moment word done new drew it = record {
     split : noted (length rows) moment word (done.notes ++ notes_of new) (events rows) ≡ noted (length rows) moment word (notes_of new) (noted (length rows) moment word done.notes (events rows))
     split = noted-append (length rows) moment word done.notes (notes_of new) (events rows)
 
-    turning : list_any is_turning (notes_of new) ≡ false
-    turning = new.turns_none
+    changing : list_any changes_observers (notes_of new) ≡ false
+    changing = new.changes_none
 
     landing : list_any is_landing (notes_of new) ≡ false
     landing = new.lands_none
@@ -103,7 +103,7 @@ so_far_noticed rows moment word done new drew it = record {
         ∙ key_formed new.observer (length rows) moment word new.body new.mid (noted (length rows) moment word done.notes (events rows)))
 
     same_standing : observers (noted (length rows) moment word (done.notes ++ notes_of new) (events rows)) ≡ observers (noted (length rows) moment word done.notes (events rows))
-    same_standing = ap observers split ∙ observers_same (length rows) moment word (notes_of new) (noted (length rows) moment word done.notes (events rows)) turning
+    same_standing = ap observers split ∙ observers_same (length rows) moment word (notes_of new) (noted (length rows) moment word done.notes (events rows)) changing
 
     -- its peer is waited for
     x_waits : Waits new.observer.peer (noted (length rows) moment word (done.notes ++ notes_of new) (events rows))
@@ -142,7 +142,7 @@ so_far_noticed rows moment word done new drew it = record {
         }
 
     -- one whose flight is known to be there is waited for
-    known_flying : (o : Observer) → Among o (observers (behind_again rows moment word)) → is_some (flight_key o (noted (length rows) moment word done.notes (events rows))) ≡ true
+    known_flying : (o : Observer) → Among o (observers (events_after_again rows moment word)) → is_some (flight_key o (noted (length rows) moment word done.notes (events rows))) ≡ true
         → Waits o.peer (noted (length rows) moment word done.notes (events rows))
     known_flying o stands flies = flying o (subst (Among o) (sym it.stand) stands) (flies_key o (noted (length rows) moment word done.notes (events rows)) ∙ flies)
 
@@ -152,28 +152,28 @@ so_far_noticed rows moment word done new drew it = record {
     none_before d h same m e listed =
         absurd (new.free (subst (λ p. Waits p (noted (length rows) moment word done.notes (events rows))) ((is_same_peer-Decides d.0 new.observer.peer).0 same) (h m e listed)))
 
-    -- it was given the notice
-    was_given : Stat rows moment word new.observer (with_notice new drew)
-    was_given = given new.mid own_key
+    -- the notice was formed for it
+    was_noticed : FlightSoFar rows moment word new.observer (with_notice new drew)
+    was_noticed = noticed new.mid own_key
         (list_any-append (forms_notice new.observer.peer new.mid) done.notes (notes_of new)
         ∙ or_right (list_any (forms_notice new.observer.peer new.mid) done.notes) (list_any (forms_notice new.observer.peer new.mid) (notes_of new))
         (or_left (is_same_peer new.observer.peer new.observer.peer && new.mid == new.mid) (list_any (forms_notice new.observer.peer new.mid) new.kept)
         (and_from (is_same_peer new.observer.peer new.observer.peer) (new.mid == new.mid) (is_same_peer-refl new.observer.peer) (eqb-refl new.mid))))
         (each_append (λ (d : Peer × List ℕ). is_same_peer d.0 new.observer.peer ≡ true → IsNoticeOf rows moment new.observer d.1) done.sent ((new.observer.peer, new.octets) ∷ [])
-        (each_weak none_before done.sent it.sends) ((λ same. new.notice), tt))
+        (each_weaker (λ (d : Peer × List ℕ). (m : Message) → reading d.1 ≡ Ok m → has_listing m ≡ true → Waits d.0 Before) (λ (d : Peer × List ℕ). is_same_peer d.0 new.observer.peer ≡ true → IsNoticeOf rows moment new.observer d.1) none_before done.sent it.sends) ((λ same. new.notice), tt))
 
     -- the others
-    stat : (o : Observer) → Among o (observers (behind_again rows moment word)) → Stat rows moment word o done → Stat rows moment word o (with_notice new drew)
-    stat o stands (given mid flies noted_so sent) =
+    flight_so_far : (o : Observer) → Among o (observers (events_after_again rows moment word)) → FlightSoFar rows moment word o done → FlightSoFar rows moment word o (with_notice new drew)
+    flight_so_far o stands (noticed mid flies noted_so sent) =
         let apart = peers_apart o (known_flying o stands (ap is_some flies)) in
-        given mid (key o (names_apart o apart) ∙ flies)
+        noticed mid (key o (names_apart o apart) ∙ flies)
         (list_any-append (forms_notice o.peer mid) done.notes (notes_of new) ∙ or_left (list_any (forms_notice o.peer mid) done.notes) (list_any (forms_notice o.peer mid) (notes_of new)) noted_so)
         (each_append (λ (d : Peer × List ℕ). is_same_peer d.0 o.peer ≡ true → IsNoticeOf rows moment o d.1) done.sent ((new.observer.peer, new.octets) ∷ []) sent
         ((λ same. absurd (false≢true (sym apart ∙ same))), tt))
-    stat o stands (as_before same none) = by (is_same_request (name_of new.observer) (name_of o)) refl
+    flight_so_far o stands (as_before same none) = by (is_same_request (name_of new.observer) (name_of o)) refl
       where
-        by : (b : Bool) → is_same_request (name_of new.observer) (name_of o) ≡ b → Stat rows moment word o (with_notice new drew)
-        by true e = subst (λ y. Stat rows moment word y (with_notice new drew)) (new.only o stands e) was_given
+        by : (b : Bool) → is_same_request (name_of new.observer) (name_of o) ≡ b → FlightSoFar rows moment word o (with_notice new drew)
+        by true e = subst (λ y. FlightSoFar rows moment word y (with_notice new drew)) (new.only o stands e) was_noticed
         by false e = as_before (key o e ∙ same) (λ some.
             list_any-append (is_notice_to o.peer) done.notes (notes_of new)
             ∙ rw (none some, peers_apart o (known_flying o stands (ap is_some same ∙ some)), new.notifies_none o.peer) refl)

@@ -1,10 +1,10 @@
 -- What is known of each notice in flight: the row that formed it, and that it bears the listing there.
-use Rattle.std.proofs.Common.{◌≡◌, ℕ, ◌<◌, Bool, true, false, List, [], ◌∷◌, length, Some, None, refl, sym, ◌∙◌, arith}
+use Rattle.std.proofs.Common.{◌≡◌, ℕ, ◌<◌, Bool, true, false, List, ◌∷◌, length, Some, None, refl, sym, ◌∙◌, arith}
 use Rattle.std.specs.List.{list_any, AllByRecursion}
 use Rattle.std.proofs.lemmas.Bool.{false≢true, ne_eqb}
 use Rattle.rd_base.specs.declared.peers.Peer.{Peer}
 use Rattle.history_model.specs.Listing.{listing, tag}
-use Rattle.rd_base.proofs.lemmas.Each.{each_weaker}
+use Rattle.rd_base.proofs.lemmas.Each.{each_weaker, none_pass, each_failing}
 use Rattle.event_model.specs.declared.notes.Note.{Note}
 use Rattle.event_model.specs.declared.notes.Note.TheVariants as note
 use Rattle.event_model.specs.declared.notes.Observer.{Observer}
@@ -18,9 +18,8 @@ use Rattle.journal_model.specs.Journal.{events, entries, row_at}
 use Rattle.journal_model.specs.Headline.{Placed, last_row, forms_notice, former_of_notice}
 use Rattle.headline_law.proofs.sends.BodyAnswers.{IsBodyOf}
 use Rattle.journal_model.proofs.EventRows.{found_in}
-use Rattle.headline_law.proofs.notes.Asking.{OfWatched, observers_all}
+use Rattle.headline_law.proofs.notes.LookupNotes.{OfWatched, observers_all}
 use Rattle.journal_model.proofs.FlightKeys.{flight_key, key_before_all, is_notice, key_none}
-use Rattle.std.proofs.lemmas.Bool.{or_parts}
 use Rattle.rd_base.proofs.lemmas.Among.{all_among}
 
 -- the row that formed the notice to an observer under a Message ID, at a place
@@ -40,7 +39,7 @@ FlightKnown rows o = (mid place : ℕ) → flight_key o (events rows) ≡ Some (
 abbrev pub FlightsKnown : List Row → Type 0
 FlightsKnown rows = AllByRecursion (FlightKnown rows) (observers (events rows))
 
--- behind a row that forms no notice to the peer with this Message ID
+-- after a row that forms no notice to the peer with this Message ID
 pub notice_of_row : (rows : List Row) (r : Row) (o : Observer) (mid place : ℕ) → list_any (forms_notice o.peer mid) r.notes ≡ false → NoticeOf rows o mid place → NoticeOf (r ∷ rows) o mid place
 unfolding last_row row_at
 notice_of_row rows r o mid place none it = record {
@@ -53,22 +52,12 @@ notice_of_row rows r o mid place none it = record {
 
 -- notes that form no notice form none to a peer
 no_notice_to : (peer : Peer) (mid : ℕ) (notes : List Note) → list_any is_notice notes ≡ false → list_any (forms_notice peer mid) notes ≡ false
-no_notice_to peer mid [] none = refl
-no_notice_to peer mid (n ∷ notes) none =
-    let both = or_parts (is_notice n) (list_any is_notice notes) none in
-    rw (by n both.0, no_notice_to peer mid notes both.1) refl
+no_notice_to peer mid notes none = none_pass is_notice (forms_notice peer mid) by notes none
   where
     by : (x : Note) → is_notice x ≡ false → forms_notice peer mid x ≡ false
     by (note.Formed p token body None) h = refl
     by (note.Formed p token body (Some m)) h = absurd (false≢true (sym h))
     by _ h = refl
-
--- each of them forms none
-each_no : (notes : List Note) → list_any is_notice notes ≡ false → AllByRecursion (λ n. is_notice n ≡ false) notes
-each_no [] none = tt
-each_no (n ∷ notes) none =
-    let both = or_parts (is_notice n) (list_any is_notice notes) none in
-    (both.0, each_no notes both.1)
 
 -- where a row forms something for an observer, and no notice, none is in flight to it
 none_in_flight : (rows : List Row) (r : Row) (o : Observer) → list_any is_notice r.notes ≡ false → list_any (is_forming_for (name_of o)) r.notes ≡ true → flight_key o (events (r ∷ rows)) ≡ None
@@ -78,13 +67,13 @@ none_in_flight rows r o none forms =
     last_event-here (is_forming_for (name_of o)) (length rows) r.moment.0 r.step.word r.notes (events rows) forms in
     let it = found_in (is_forming_for (name_of o)) (length rows) r.moment.0 r.step.word r.notes (events rows) found.event forms found.last in
     key_none o (noted (length rows) r.moment.0 r.step.word r.notes (events rows)) found.event found.last
-    (all_among (λ n. is_notice n ≡ false) found.event.note r.notes (each_no r.notes none) it.0)
+    (all_among (λ n. is_notice n ≡ false) found.event.note r.notes (each_failing is_notice (λ n. is_notice n ≡ false) (λ n h. h) r.notes none) it.0)
 
--- behind a row that forms no notice, and whatever observer it adds is formed for
+-- after a row that forms no notice, and whatever observer it adds is formed for
 pub flights_row : (rows : List Row) (r : Row) → list_any is_notice r.notes ≡ false → AllByRecursion (OfWatched (λ o. list_any (is_forming_for (name_of o)) r.notes ≡ true)) r.notes → FlightsKnown rows → FlightsKnown (r ∷ rows)
 unfolding events
 flights_row rows r none added all =
-    observers_all (FlightKnown (r ∷ rows)) (length rows) r.moment.0 r.step.word r.notes (events rows) (each_added r.notes added) (each_weaker (FlightKnown rows) (FlightKnown (r ∷ rows)) stays (observers (events rows)) all)
+    observers_all (FlightKnown (r ∷ rows)) (length rows) r.moment.0 r.step.word r.notes (events rows) (each_weaker (OfWatched (λ o. list_any (is_forming_for (name_of o)) r.notes ≡ true)) (OfWatched (FlightKnown (r ∷ rows))) new r.notes added) (each_weaker (FlightKnown rows) (FlightKnown (r ∷ rows)) stays (observers (events rows)) all)
   where
     vacuous : (o : Observer) → list_any (is_forming_for (name_of o)) r.notes ≡ true → FlightKnown (r ∷ rows) o
     vacuous o forms mid place found = absurd (let both : None ≡ Some (mid, place) = sym (none_in_flight rows r o none forms) ∙ found in cc)
@@ -92,10 +81,6 @@ flights_row rows r none added all =
     new : (n : Note) → OfWatched (λ o. list_any (is_forming_for (name_of o)) r.notes ≡ true) n → OfWatched (FlightKnown (r ∷ rows)) n
     new (note.Watched o) h = vacuous o h
     new _ h = tt
-
-    each_added : (notes : List Note) → AllByRecursion (OfWatched (λ o. list_any (is_forming_for (name_of o)) r.notes ≡ true)) notes → AllByRecursion (OfWatched (FlightKnown (r ∷ rows))) notes
-    each_added [] h = tt
-    each_added (n ∷ notes) h = (new n h.0, each_added notes h.1)
 
     stays : (o : Observer) → FlightKnown rows o → FlightKnown (r ∷ rows) o
     stays o known = by (list_any (is_forming_for (name_of o)) r.notes) refl

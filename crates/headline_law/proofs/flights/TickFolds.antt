@@ -1,10 +1,10 @@
 -- All notices of a tick, one after the other.
-use Rattle.std.proofs.Common.{◌≡◌, inl, ℕ, ◌+◌, ◌&&◌, ◌≤◌, Bool, true, false, not, cond, List, [], ◌∷◌, ◌++◌, length, fold, Some, refl, sym, ap, subst, ◌∙◌, nat_le}
+use Rattle.std.proofs.Common.{◌≡◌, ◌⊎◌, inl, ℕ, ◌+◌, ◌&&◌, ◌≤◌, Bool, true, false, not, cond, List, [], ◌∷◌, ◌++◌, length, fold, Some, Ok, refl, sym, ap, subst, ◌∙◌, nat_le}
 use Rattle.std.specs.List.{list_any, AllByRecursion}
 use Rattle.std.proofs.lemmas.Bool.{false≢true, and_parts}
 use Rattle.rd_base.specs.declared.peers.Peer.{Peer}
 use Rattle.message_model.specs.declared.messages.Kind4.TheVariants.{Con}
-use Rattle.message_model.specs.Message.{longest_token}
+use Rattle.message_model.specs.Message.{longest_token, Message}
 use Rattle.history_model.specs.Listing.{listing, tag}
 use Rattle.event_model.specs.declared.notes.Note.{Note}
 use Rattle.event_model.specs.declared.notes.Note.TheVariants as note
@@ -13,42 +13,33 @@ use Rattle.event_model.specs.Same.{is_same_request}
 use Rattle.event_model.specs.Observers.{name_of, observers, observe_value, last_body_formed}
 use Rattle.event_model.specs.Flights.{is_forming_for, is_waited_for}
 use Rattle.event_model.specs.Due.{is_due}
-use Rattle.event_model.proofs.SameLaws.{is_same_peer-Decides}
 use Rattle.event_model.proofs.ObserverLaws.{observers-apart, Only, apart_only}
 use Rattle.journal_model.specs.declared.steps.Step.{Step}
 use Rattle.journal_model.specs.declared.rows.Row.{Row}
-use Rattle.journal_model.specs.Journal.{entries, row_at}
+use Rattle.journal_model.specs.Journal.{entries}
 use Rattle.journal_model.specs.Sending.{Effects, mid_of}
 use Rattle.journal_model.specs.Bodies.{is_long}
 use Rattle.journal_model.specs.Ticks.{max_notices, first_block, block_told, listing_for, is_given, is_looked_at, events_with, ticking, noticed_unless, noticed_if, notice_next, notices_again, notices}
 use Rattle.headline_law.proofs.sends.BodyAnswers.{tag-length, body_bears}
-use Rattle.headline_law.proofs.sends.TickSends.{sent_by_found}
-use Rattle.rd_base.proofs.lemmas.Among.{Among, all_among, among_all, each_weak}
+use Rattle.rd_base.proofs.lemmas.Among.{Among, all_among, among_all}
 use Rattle.journal_model.proofs.FlightKeys.{is_landing}
-use Rattle.headline_law.proofs.flights.Standing.{is_turning, Waits, waited}
-use Rattle.headline_law.proofs.flights.AgainFacts.{AgainSent, AgainNoted, again_notes, again_sends, again_none, behind_again, again_key, again_waits}
-use Rattle.headline_law.proofs.flights.TickNotices.{is_notice_to, as_before, TickSoFar, so_far_quiet}
+use Rattle.headline_law.proofs.flights.WaitedPeers.{changes_observers, Waits, waited}
+use Rattle.headline_law.proofs.flights.NoticesAgain.{again_peer, AgainSent, AgainNoted, again_notes, again_sends, again_none, events_after_again, again_key, again_waits}
+use Rattle.headline_law.proofs.flights.TickNotices.{is_notice_to, as_before, TickSoFar, so_far_quiet, FreshSent}
+use Rattle.message_model.specs.Reading.{reading}
+use Rattle.journal_model.specs.Headline.{has_listing}
 use Rattle.headline_law.proofs.flights.FreshNotices.{NewNotice, so_far_noticed}
+use Rattle.rd_base.proofs.lemmas.Each.{each_weaker}
 
--- the peer of what is sent again
-pub again_peer : (rows : List Row) (moment : ℕ) (d : Peer × List ℕ) → (a : AgainSent rows moment d) → d.0 ≡ a.observer.peer
-again_peer rows moment d a =
-    let it = sent_by_found (λ (x : Peer × List ℕ). Unit {0}) (row_at a.flight_is.formed.place rows) a.observer.peer a.flight_is.mid d (λ r at. nothing r.sent) a.found in
-    (is_same_peer-Decides d.0 a.observer.peer).0 it.to_peer
-  where
-    nothing : (ds : List (Peer × List ℕ)) → AllByRecursion (λ (x : Peer × List ℕ). Unit {0}) ds
-    nothing [] = tt
-    nothing (x ∷ ds) = (tt, nothing ds)
-
--- behind its first part
+-- after its first part
 pub tick_begins : (rows : List Row) (moment word : ℕ) → TickSoFar rows moment word (notices_again rows moment)
 tick_begins rows moment word = record {
   stand = refl;
-  sends = each_weak (λ d a m e listed. subst (λ p. Waits p (behind_again rows moment word)) (sym (again_peer rows moment d a)) (again_waits rows moment word a.observer a.flight_is a.again))
+  sends = each_weaker (AgainSent rows moment) (λ (d : Peer × List ℕ). (m : Message) → reading d.1 ≡ Ok m → has_listing m ≡ true → Waits d.0 (events_after_again rows moment word)) (λ d a m e listed. subst (λ p. Waits p (events_after_again rows moment word)) (sym (again_peer rows moment d a)) (again_waits rows moment word a.observer a.flight_is a.again))
       (notices_again rows moment).sent (again_sends rows moment);
   waits_on = λ peer w. w;
-  origins = each_weak (λ d a. inl a) (notices_again rows moment).sent (again_sends rows moment);
-  stats = λ o stands. as_before (again_key rows moment word o) (λ some. again_none (is_notice_to o.peer) (λ p t. refl) (λ p m. refl) rows moment);
+  origins = each_weaker (AgainSent rows moment) (λ (d : Peer × List ℕ). AgainSent rows moment d ⊎ FreshSent rows moment word d) (λ d a. inl a) (notices_again rows moment).sent (again_sends rows moment);
+  flights_so_far = λ o stands. as_before (again_key rows moment word o) (λ some. again_none (is_notice_to o.peer) (λ p t. refl) (λ p m. refl) rows moment);
   agains = again_notes rows moment;
   keeps = λ test h. h;
 }
@@ -59,13 +50,13 @@ kept_does : (test : Note → Bool) → ((peer : Peer) (key body current : List �
 kept_does test never true peer key body current = rw (never peer key body current) refl
 kept_does test never false peer key body current = refl
 
--- and tells of nothing that is sent again
+-- and is no note of what is sent again
 kept_again : (rows : List Row) (moment : ℕ) (b : Bool) (peer : Peer) (key body current : List ℕ) → AllByRecursion (AgainNoted rows moment) (cond b (note.Kept peer key body current ∷ []) [])
 kept_again rows moment true peer key body current = (tt, tt)
 kept_again rows moment false peer key body current = tt
 
 -- one observer
-tick_step : (rows : List Row) (moment : ℕ) (s : Step) (x : Observer) (done : Effects) → Among x (observers (behind_again rows moment s.word)) → length x.token ≤ longest_token
+tick_step : (rows : List Row) (moment : ℕ) (s : Step) (x : Observer) (done : Effects) → Among x (observers (events_after_again rows moment s.word)) → length x.token ≤ longest_token
     → TickSoFar rows moment s.word done → TickSoFar rows moment s.word (notice_next (ticking rows moment s) done x)
 tick_step rows moment s x done stands small it = looked (is_looked_at (ticking rows moment s) done x) refl
   where
@@ -74,11 +65,11 @@ tick_step rows moment s x done stands small it = looked (is_looked_at (ticking r
         let both = and_parts (not (nat_le max_notices done.drew) && is_due x (events_with (ticking rows moment s) done) (ticking rows moment s).transitions) (not (is_waited_for x.peer (events_with (ticking rows moment s) done))) e in
         false≢true (sym (ap not (waited x.peer (events_with (ticking rows moment s) done) w)) ∙ both.1)
 
-    only : (o : Observer) → Among o (observers (behind_again rows moment s.word)) → is_same_request (name_of x) (name_of o) ≡ true → x ≡ o
+    only : (o : Observer) → Among o (observers (events_after_again rows moment s.word)) → is_same_request (name_of x) (name_of o) ≡ true → x ≡ o
     only o there same =
-        all_among (λ y. is_same_request (name_of y) (name_of o) ≡ true → y ≡ o) x (observers (behind_again rows moment s.word))
-        (all_among (λ y. Only y (observers (behind_again rows moment s.word))) o (observers (behind_again rows moment s.word))
-        (apart_only (observers (behind_again rows moment s.word)) (observers-apart (behind_again rows moment s.word))) there) stands same
+        all_among (λ y. is_same_request (name_of y) (name_of o) ≡ true → y ≡ o) x (observers (events_after_again rows moment s.word))
+        (all_among (λ y. Only y (observers (events_after_again rows moment s.word))) o (observers (events_after_again rows moment s.word))
+        (apart_only (observers (events_after_again rows moment s.word)) (observers-apart (events_after_again rows moment s.word))) there) stands same
 
     new : is_looked_at (ticking rows moment s) done x ≡ true → NewNotice rows moment s.word done
     new e = record {
@@ -94,7 +85,7 @@ tick_step rows moment s x done stands small it = looked (is_looked_at (ticking r
           (block_told x (listing x.query (entries rows) moment)) (listing x.query (entries rows) moment) small (tag-length (entries rows) moment);
       forms_none = λ o. kept_does (is_forming_for (name_of o)) (λ p k b c. refl) (is_long (first_block x) (listing x.query (entries rows) moment)) x.peer x.key _ _;
       lands_none = kept_does is_landing (λ p k b c. refl) (is_long (first_block x) (listing x.query (entries rows) moment)) x.peer x.key _ _;
-      turns_none = kept_does is_turning (λ p k b c. refl) (is_long (first_block x) (listing x.query (entries rows) moment)) x.peer x.key _ _;
+      changes_none = kept_does changes_observers (λ p k b c. refl) (is_long (first_block x) (listing x.query (entries rows) moment)) x.peer x.key _ _;
       agains = kept_again rows moment (is_long (first_block x) (listing x.query (entries rows) moment)) x.peer x.key _ _;
       notifies_none = λ peer. kept_does (is_notice_to peer) (λ p k b c. refl) (is_long (first_block x) (listing x.query (entries rows) moment)) x.peer x.key _ _;
     }
@@ -116,17 +107,17 @@ tick_step rows moment s x done stands small it = looked (is_looked_at (ticking r
     looked false e = so_far_quiet rows moment s.word done [] (done.drew + 0) (λ o. refl) refl refl (λ peer. refl) tt it
 
 -- all of them
-tick_folds : (rows : List Row) (moment : ℕ) (s : Step) (left : List Observer) (done : Effects) → AllByRecursion (λ x. Among x (observers (behind_again rows moment s.word)) × (length x.token ≤ longest_token)) left
+tick_folds : (rows : List Row) (moment : ℕ) (s : Step) (left : List Observer) (done : Effects) → AllByRecursion (λ x. Among x (observers (events_after_again rows moment s.word)) × (length x.token ≤ longest_token)) left
     → TickSoFar rows moment s.word done → TickSoFar rows moment s.word (fold (notice_next (ticking rows moment s)) done left)
 tick_folds rows moment s [] done known it = it
 tick_folds rows moment s (x ∷ left) done known it =
     tick_folds rows moment s left (notice_next (ticking rows moment s) done x) known.1 (tick_step rows moment s x done known.0.0 known.0.1 it)
 
--- behind its notices
-pub tick_notifies : (rows : List Row) (moment : ℕ) (s : Step) → ((x : Observer) → Among x (observers (behind_again rows moment s.word)) → length x.token ≤ longest_token)
+-- after its notices
+pub tick_notifies : (rows : List Row) (moment : ℕ) (s : Step) → ((x : Observer) → Among x (observers (events_after_again rows moment s.word)) → length x.token ≤ longest_token)
     → TickSoFar rows moment s.word (notices (ticking rows moment s) (notices_again rows moment))
 unfolding notices
 tick_notifies rows moment s small =
-    tick_folds rows moment s (observers (behind_again rows moment s.word)) (notices_again rows moment)
-    (among_all (λ x. Among x (observers (behind_again rows moment s.word)) × (length x.token ≤ longest_token)) (observers (behind_again rows moment s.word)) (λ x stands. (stands, small x stands)))
+    tick_folds rows moment s (observers (events_after_again rows moment s.word)) (notices_again rows moment)
+    (among_all (λ x. Among x (observers (events_after_again rows moment s.word)) × (length x.token ≤ longest_token)) (observers (events_after_again rows moment s.word)) (λ x stands. (stands, small x stands)))
     (tick_begins rows moment s.word)

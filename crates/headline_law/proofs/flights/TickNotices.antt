@@ -1,5 +1,5 @@
 -- What a tick forms: at most one notice for a peer, and none while one is in flight to it.
-use Rattle.std.proofs.Common.{◌≡◌, ◌⊎◌, ℕ, ◌&&◌, Bool, true, false, List, [], ◌∷◌, ◌++◌, length, Some, Ok, refl, sym, ap, subst, ◌∙◌, append-nil}
+use Rattle.std.proofs.Common.{◌≡◌, ◌⊎◌, ℕ, ◌&&◌, Bool, true, false, List, [], ◌++◌, length, Some, Ok, refl, sym, ap, subst, ◌∙◌, append-nil}
 use Rattle.std.specs.Prelude.{is_some}
 use Rattle.std.specs.List.{list_any, AllByRecursion}
 use Rattle.std.proofs.lemmas.List.Folds.{list_any-append}
@@ -24,10 +24,10 @@ use Rattle.journal_model.specs.Headline.{has_listing, forms_notice}
 use Rattle.headline_law.proofs.sends.BodyAnswers.{IsBodyOf}
 use Rattle.rd_base.proofs.lemmas.Among.{Among}
 use Rattle.journal_model.proofs.FlightKeys.{flight_key, is_landing, key_same_all}
-use Rattle.headline_law.proofs.flights.Standing.{is_turning, observers_same, Waits, flies_key}
-use Rattle.headline_law.proofs.flights.AgainFacts.{AgainSent, AgainNoted, behind_again}
+use Rattle.headline_law.proofs.flights.WaitedPeers.{changes_observers, observers_same, Waits, flies_key}
+use Rattle.headline_law.proofs.flights.NoticesAgain.{AgainSent, AgainNoted, events_after_again}
 use Rattle.std.proofs.lemmas.Bool.{or_left}
-use Rattle.rd_base.proofs.lemmas.Each.{each_append}
+use Rattle.rd_base.proofs.lemmas.Each.{each_append, each_weaker}
 
 -- the note forms a notice to a peer
 abbrev pub is_notice_to : Peer → Note → Bool
@@ -38,28 +38,28 @@ is_notice_to peer _ = false
 abbrev pub IsNoticeOf : List Row → ℕ → Observer → List ℕ → Type 0
 IsNoticeOf rows moment o octets = IsBodyOf o.token (listing o.query (entries rows) moment) (tag (entries rows) moment) octets
 
--- what a tick did so far to an observer that stands: its flight is as before, and where it has one its peer got no notice; or it was given a notice
-pub data Stat (rows : List Row) (moment word : ℕ) (o : Observer) (done : Effects) : Type 0 where
+-- what a tick did so far to an observer that stands: its flight is as before, and where it has one its peer got no notice; or a notice was formed for it
+pub data FlightSoFar (rows : List Row) (moment word : ℕ) (o : Observer) (done : Effects) : Type 0 where
   as_before : flight_key o (noted (length rows) moment word done.notes (events rows)) ≡ flight_key o (events rows)
-      → (is_some (flight_key o (events rows)) ≡ true → list_any (is_notice_to o.peer) done.notes ≡ false) → Stat rows moment word o done
-  given : (mid : ℕ) → flight_key o (noted (length rows) moment word done.notes (events rows)) ≡ Some (mid, length rows) → list_any (forms_notice o.peer mid) done.notes ≡ true
-      → AllByRecursion (λ (d : Peer × List ℕ). is_same_peer d.0 o.peer ≡ true → IsNoticeOf rows moment o d.1) done.sent → Stat rows moment word o done
+      → (is_some (flight_key o (events rows)) ≡ true → list_any (is_notice_to o.peer) done.notes ≡ false) → FlightSoFar rows moment word o done
+  noticed : (mid : ℕ) → flight_key o (noted (length rows) moment word done.notes (events rows)) ≡ Some (mid, length rows) → list_any (forms_notice o.peer mid) done.notes ≡ true
+      → AllByRecursion (λ (d : Peer × List ℕ). is_same_peer d.0 o.peer ≡ true → IsNoticeOf rows moment o d.1) done.sent → FlightSoFar rows moment word o done
 
 -- a new notice: of an observer that stands, whose peer was not waited for
 pub record FreshSent (rows : List Row) (moment word : ℕ) (d : Peer × List ℕ) : Type 0 where
   pub observer : Observer
-  pub stands : Among observer (observers (behind_again rows moment word))
+  pub stands : Among observer (observers (events_after_again rows moment word))
   pub of_peer : d.0 ≡ observer.peer
   pub body : IsNoticeOf rows moment observer d.1
-  pub free : Waits observer.peer (behind_again rows moment word) → ⊥
+  pub free : Waits observer.peer (events_after_again rows moment word) → ⊥
 
 -- what holds of a tick so far
 pub record TickSoFar (rows : List Row) (moment word : ℕ) (done : Effects) : Type 0 where
-  pub stand : observers (noted (length rows) moment word done.notes (events rows)) ≡ observers (behind_again rows moment word)
+  pub stand : observers (noted (length rows) moment word done.notes (events rows)) ≡ observers (events_after_again rows moment word)
   pub sends : AllByRecursion (λ (d : Peer × List ℕ). (m : Message) → reading d.1 ≡ Ok m → has_listing m ≡ true → Waits d.0 (noted (length rows) moment word done.notes (events rows))) done.sent
-  pub waits_on : (peer : Peer) → Waits peer (behind_again rows moment word) → Waits peer (noted (length rows) moment word done.notes (events rows))
+  pub waits_on : (peer : Peer) → Waits peer (events_after_again rows moment word) → Waits peer (noted (length rows) moment word done.notes (events rows))
   pub origins : AllByRecursion (λ (d : Peer × List ℕ). AgainSent rows moment d ⊎ FreshSent rows moment word d) done.sent
-  pub stats : (o : Observer) → Among o (observers (behind_again rows moment word)) → Stat rows moment word o done
+  pub flights_so_far : (o : Observer) → Among o (observers (events_after_again rows moment word)) → FlightSoFar rows moment word o done
   pub agains : AllByRecursion (AgainNoted rows moment) done.notes
   pub keeps : (test : Note → Bool) → list_any test (notices_again rows moment).notes ≡ true → list_any test done.notes ≡ true
 
@@ -67,15 +67,15 @@ pub record TickSoFar (rows : List Row) (moment word : ℕ) (done : Effects) : Ty
 
 -- where nothing is sent, and what is noted does nothing for flights and observers
 pub so_far_quiet : (rows : List Row) (moment word : ℕ) (done : Effects) (more : List Note) (drew : ℕ) → ((o : Observer) → list_any (is_forming_for (name_of o)) more ≡ false) → list_any is_landing more ≡ false
-    → list_any is_turning more ≡ false → ((peer : Peer) → list_any (is_notice_to peer) more ≡ false) → AllByRecursion (AgainNoted rows moment) more → TickSoFar rows moment word done
+    → list_any changes_observers more ≡ false → ((peer : Peer) → list_any (is_notice_to peer) more ≡ false) → AllByRecursion (AgainNoted rows moment) more → TickSoFar rows moment word done
     → TickSoFar rows moment word (record { sent = done.sent ++ []; notes = done.notes ++ more; drew = drew })
-so_far_quiet rows moment word done more drew forming landing turning notices agains it = record {
-  stand = ap observers split ∙ (observers_same (length rows) moment word more Before turning ∙ it.stand);
+so_far_quiet rows moment word done more drew forming landing changing notices agains it = record {
+  stand = ap observers split ∙ (observers_same (length rows) moment word more Before changing ∙ it.stand);
   sends = subst (AllByRecursion (λ (d : Peer × List ℕ). (m : Message) → reading d.1 ≡ Ok m → has_listing m ≡ true → Waits d.0 After)) (sym (append-nil done.sent))
-      (each_weak (λ d h m e listed. on d.0 (h m e listed)) done.sent it.sends);
+      (each_weaker (λ (d : Peer × List ℕ). (m : Message) → reading d.1 ≡ Ok m → has_listing m ≡ true → Waits d.0 Before) (λ (d : Peer × List ℕ). (m : Message) → reading d.1 ≡ Ok m → has_listing m ≡ true → Waits d.0 After) (λ d h m e listed. on d.0 (h m e listed)) done.sent it.sends);
   waits_on = λ peer w. on peer (it.waits_on peer w);
   origins = subst (AllByRecursion (λ (d : Peer × List ℕ). AgainSent rows moment d ⊎ FreshSent rows moment word d)) (sym (append-nil done.sent)) it.origins;
-  stats = λ o stands. stat o (it.stats o stands);
+  flights_so_far = λ o stands. flight_so_far o (it.flights_so_far o stands);
   agains = each_append (AgainNoted rows moment) done.notes more it.agains agains;
   keeps = λ test h. list_any-append test done.notes more ∙ or_left (list_any test done.notes) (list_any test more) (it.keeps test h);
 }
@@ -95,17 +95,13 @@ so_far_quiet rows moment word done more drew forming landing turning notices aga
     on : (peer : Peer) → Waits peer (noted (length rows) moment word done.notes (events rows)) → Waits peer (noted (length rows) moment word (done.notes ++ more) (events rows))
     on peer w = record {
       observer = w.observer;
-      stands = subst (Among w.observer) (sym (ap observers split ∙ observers_same (length rows) moment word more (noted (length rows) moment word done.notes (events rows)) turning)) w.stands;
+      stands = subst (Among w.observer) (sym (ap observers split ∙ observers_same (length rows) moment word more (noted (length rows) moment word done.notes (events rows)) changing)) w.stands;
       of_peer = w.of_peer;
       flies = flies_key w.observer (noted (length rows) moment word (done.notes ++ more) (events rows)) ∙ (ap is_some (key w.observer) ∙ (sym (flies_key w.observer (noted (length rows) moment word done.notes (events rows))) ∙ w.flies));
     }
 
-    each_weak : {P Q : Peer × List ℕ → Type 0} → ((d : Peer × List ℕ) → P d → Q d) → (ds : List (Peer × List ℕ)) → AllByRecursion P ds → AllByRecursion Q ds
-    each_weak h [] all = tt
-    each_weak h (d ∷ ds) all = (h d all.0, each_weak h ds all.1)
-
-    stat : (o : Observer) → Stat rows moment word o done → Stat rows moment word o (record { sent = done.sent ++ []; notes = done.notes ++ more; drew = drew })
-    stat o (as_before same none) = as_before (key o ∙ same) (λ some. list_any-append (is_notice_to o.peer) done.notes more ∙ rw (none some, notices o.peer) refl)
-    stat o (given mid flies noted_so sent) =
-        given mid (key o ∙ flies) (list_any-append (forms_notice o.peer mid) done.notes more ∙ or_left (list_any (forms_notice o.peer mid) done.notes) (list_any (forms_notice o.peer mid) more) noted_so)
+    flight_so_far : (o : Observer) → FlightSoFar rows moment word o done → FlightSoFar rows moment word o (record { sent = done.sent ++ []; notes = done.notes ++ more; drew = drew })
+    flight_so_far o (as_before same none) = as_before (key o ∙ same) (λ some. list_any-append (is_notice_to o.peer) done.notes more ∙ rw (none some, notices o.peer) refl)
+    flight_so_far o (noticed mid flies noted_so sent) =
+        noticed mid (key o ∙ flies) (list_any-append (forms_notice o.peer mid) done.notes more ∙ or_left (list_any (forms_notice o.peer mid) done.notes) (list_any (forms_notice o.peer mid) more) noted_so)
         (subst (AllByRecursion (λ (d : Peer × List ℕ). is_same_peer d.0 o.peer ≡ true → IsNoticeOf rows moment o d.1)) (sym (append-nil done.sent)) sent)

@@ -1,22 +1,12 @@
--- An observer with no notice due was last given the listing now.
-use Rattle.std.proofs.Common.{◌≡◌, ℕ, ◌==◌, Bool, true, false, cond, not, List, [], ◌∷◌, Option, Some, None, Result, Ok, Err, refl, sym, ap, subst, ◌∙◌}
-use Rattle.std.specs.List.{list_any, AllByRecursion, IsAmong}
+-- Of each observer with no notice due: the last body formed for it is the listing now (the sentence ObserversKnow).
+use Rattle.std.proofs.Common.{◌≡◌, ℕ, ◌==◌, Bool, true, false, cond, not, List, [], ◌∷◌, Option, Some, None, refl, sym, ap, subst, ◌∙◌}
+use Rattle.std.specs.List.{list_any}
 use Rattle.std.proofs.lemmas.Bool.{false≢true}
 use Rattle.std.proofs.lemmas.List.Folds.{list_any-append}
-use Rattle.std.proofs.lemmas.List.Elements.{All-from_recursion}
 use Rattle.rd_base.specs.declared.peers.Peer.{Peer}
-use Rattle.message_model.specs.declared.messages.Kind4.{Kind4}
-use Rattle.message_model.specs.declared.messages.Kind4.TheVariants.{Con, Non, Ack, Rst}
-use Rattle.message_model.specs.declared.messages.Role.{Role}
-use Rattle.message_model.specs.declared.messages.Role.TheVariants as role
-use Rattle.message_model.specs.declared.messages.Unread.{Unread}
-use Rattle.message_model.specs.declared.messages.Unread.TheVariants as unread
-use Rattle.message_model.specs.declared.requests.Path.{Path}
-use Rattle.message_model.specs.declared.requests.Path.TheVariants as path
-use Rattle.message_model.specs.Message.{Message, role_of}
-use Rattle.message_model.specs.OptionTable.{first_bad_option}
+use Rattle.message_model.specs.Message.{Message}
 use Rattle.message_model.specs.Reading.{reading}
-use Rattle.message_model.specs.Request.{path_in, observe_in}
+use Rattle.message_model.specs.Request.{observe_in}
 use Rattle.message_model.specs.RequestKey.{key_in}
 use Rattle.message_model.specs.Blocks.{block_of}
 use Rattle.history_model.specs.Listing.{listing}
@@ -31,32 +21,32 @@ use Rattle.journal_model.specs.declared.steps.StepKind.{StepKind}
 use Rattle.journal_model.specs.declared.steps.StepKind.TheVariants as step
 use Rattle.journal_model.specs.declared.rows.Row.{Row}
 use Rattle.journal_model.specs.Journal.{is_look, is_desk_row, events, entries}
-use Rattle.journal_model.specs.Sending.{Reply, answering}
+use Rattle.journal_model.specs.Sending.{answering}
 use Rattle.journal_model.specs.Bodies.{is_long}
-use Rattle.journal_model.specs.Requests.{refusal_by_request, query_of, asked_block, number_of, szx_of, is_later_block, register, deregister}
+use Rattle.journal_model.specs.Requests.{query_of, asked_block, number_of, szx_of, is_later_block, register, deregister}
 use Rattle.journal_model.specs.Looks.{look_effects}
 use Rattle.journal_model.specs.Lookups.{listing_now, block_now, block_of_kept, later_block, removal, without, observer_of, keeping, observed_if, observed, unobserved, observed_by, by_observe, by_block, lookup_effects}
-use Rattle.journal_model.specs.Writes.{write_effects}
-use Rattle.journal_model.specs.Commits.{commit_effects}
-use Rattle.journal_model.specs.Empties.{acknowledged, reset}
-use Rattle.journal_model.specs.Responses.{response_effects}
-use Rattle.journal_model.specs.Rows.{served, refusal_answered, request_by, by_role, unread_answered, heard, looked, done, kept_body, effects, row_moment, row}
+use Rattle.journal_model.specs.Rows.{effects, row_moment, row}
 use Rattle.journal_model.specs.Machine.{IsJournal, begun, made}
 use Rattle.journal_model.specs.Headline.{ObserversKnow}
 use Rattle.journal_model.proofs.EntriesNoted.{entries_in}
 use Rattle.journal_model.proofs.NoteKinds.{of_write, of_empty, of_commit, of_response, are, none_of}
-use Rattle.journal_model.proofs.StepNotes.{look_effects-notes, keep_effects-notes, write_effects-notes, acknowledged-notes, reset-notes}
+use Rattle.journal_model.proofs.StepNotes.{look_effects-notes, keep_effects-notes, write_effects-notes}
 use Rattle.headline_law.proofs.entries.QuietSteps.{lookup_effects-entries_in}
-use Rattle.headline_law.proofs.notes.ChangingNotes.{commit_effects-notes, response_effects-notes}
-use Rattle.headline_law.proofs.observers.Knowing.{KnownIn, AllKnown, is_observing, quiet_row, look_row}
-use Rattle.headline_law.proofs.observers.Observing.{around, observed_row}
-use Rattle.headline_law.proofs.observers.TickKnowing.{tick_row}
+use Rattle.headline_law.proofs.notes.SilentSteps.{looked_notes}
+use Rattle.headline_law.proofs.notes.StepTable.{StepNoted, effects-StepNoted}
+use Rattle.headline_law.proofs.notes.StepTable as noted
+use Rattle.headline_law.proofs.notes.ChangeNotes.{commit_effects-notes, response_effects-notes}
+use Rattle.headline_law.proofs.observers.ObserverKnowledge.{KnownIn, AllKnown, is_observing, quiet_row, look_row}
+use Rattle.headline_law.proofs.observers.AddedObservers.{around, observed_row}
+use Rattle.headline_law.proofs.observers.TickKnowledge.{tick_row}
+use Rattle.rd_base.proofs.lemmas.Among.{all_at_index}
 
--- what notes do for observers behind a journal at a moment: nothing; or they tell no entry, and add one, with its first listing
-pub data Shows (rows : List Row) (moment : ℕ) (notes : List Note) : Type 0 where
-  quiet : list_any is_observing notes ≡ false → Shows rows moment notes
+-- what notes do for observers after a journal at a moment: nothing; or they add one, with its first listing, and have no entry
+pub data ObserverNotes (rows : List Row) (moment : ℕ) (notes : List Note) : Type 0 where
+  quiet : list_any is_observing notes ≡ false → ObserverNotes rows moment notes
   adds : (o : Observer) (front back : List Note) (body : List ℕ) → notes ≡ around front o body back → list_any is_observing front ≡ false → list_any is_observing back ≡ false
-      → body ≡ listing o.query (entries rows) moment → entries_in notes ≡ [] → Shows rows moment notes
+      → body ≡ listing o.query (entries rows) moment → entries_in notes ≡ [] → ObserverNotes rows moment notes
 
 -- notes of a kind that does nothing for observers
 quiet_of : (kind : Note → Bool) → ((o : Observer) → kind (note.Watched o) ≡ false) → ((peer : Peer) (token body : List ℕ) (mid : Option ℕ) → kind (note.Formed peer token body mid) ≡ false)
@@ -70,8 +60,8 @@ quiet_of kind watched formed unchanged notes h = none_of kind is_observing never
     never _ e = refl
 
 -- no notes
-nothing_shown : (rows : List Row) (moment : ℕ) (notes : List Note) → notes ≡ [] → Shows rows moment notes
-nothing_shown rows moment notes none = quiet (ap (list_any is_observing) none)
+no_observer_notes : (rows : List Row) (moment : ℕ) (notes : List Note) → notes ≡ [] → ObserverNotes rows moment notes
+no_observer_notes rows moment notes none = quiet (ap (list_any is_observing) none)
 
 -- an observer that is removed, and an answer that is kept
 removal-quiet : (name : RequestName) (standing : List Observer) → list_any is_observing (removal name standing) ≡ false
@@ -89,9 +79,9 @@ keeping-quiet s m answer = by (is_long (asked_block m) answer.body)
     by false = refl
 
 -- a lookup
-lookup_shows : (rows : List Row) (moment : ℕ) (s : Step) (m : Message) → Shows rows moment (lookup_effects rows moment s m).notes
+lookup_observer_notes : (rows : List Row) (moment : ℕ) (s : Step) (m : Message) → ObserverNotes rows moment (lookup_effects rows moment s m).notes
 unfolding lookup_effects later_block observed unobserved answering
-lookup_shows rows moment s m = by (is_later_block m) refl
+lookup_observer_notes rows moment s m = by (is_later_block m) refl
   where
     silent : entries_in (lookup_effects rows moment s m).notes ≡ []
     silent = lookup_effects-entries_in rows moment s m
@@ -109,100 +99,55 @@ lookup_shows rows moment s m = by (is_later_block m) refl
         list_any-append is_observing (removal (s.peer, m.token) (observers (events rows))) (keeping s m (listing_now rows moment m))
         ∙ rw (removal-quiet (s.peer, m.token) (observers (events rows)), keeping-quiet s m (listing_now rows moment m)) refl
 
-    added : (b : Bool) → entries_in (observed_if b rows s m (listing_now rows moment m)).notes ≡ [] → Shows rows moment (observed_if b rows s m (listing_now rows moment m)).notes
+    added : (b : Bool) → entries_in (observed_if b rows s m (listing_now rows moment m)).notes ≡ [] → ObserverNotes rows moment (observed_if b rows s m (listing_now rows moment m)).notes
     added true none = adds (observer_of s m) (removal (s.peer, m.token) (observers (events rows))) (keeping s m (listing_now rows moment m)) (listing_now rows moment m).body refl
         (removal-quiet (s.peer, m.token) (observers (events rows))) (keeping-quiet s m (listing_now rows moment m)) refl none
     added false none = quiet ended
 
-    valued : (b c : Bool) → entries_in (observed_by b c rows moment s m).notes ≡ [] → Shows rows moment (observed_by b c rows moment s m).notes
+    valued : (b c : Bool) → entries_in (observed_by b c rows moment s m).notes ≡ [] → ObserverNotes rows moment (observed_by b c rows moment s m).notes
     valued true c none = added (has_room_for (query_of m) (without (s.peer, m.token) (observers (events rows)))) none
     valued false true none = quiet ended
-    valued false false none = nothing_shown rows moment (look_effects (entries rows) moment s m).notes (look_effects-notes (entries rows) moment s m)
+    valued false false none = no_observer_notes rows moment (look_effects (entries rows) moment s m).notes (look_effects-notes (entries rows) moment s m)
 
-    observing : (o : Option ℕ) → entries_in (by_observe o rows moment s m).notes ≡ [] → Shows rows moment (by_observe o rows moment s m).notes
-    observing None none = nothing_shown rows moment (look_effects (entries rows) moment s m).notes (look_effects-notes (entries rows) moment s m)
+    observing : (o : Option ℕ) → entries_in (by_observe o rows moment s m).notes ≡ [] → ObserverNotes rows moment (by_observe o rows moment s m).notes
+    observing None none = no_observer_notes rows moment (look_effects (entries rows) moment s m).notes (look_effects-notes (entries rows) moment s m)
     observing (Some value) none = valued (value == register) (value == deregister) none
 
-    by : (b : Bool) → is_later_block m ≡ b → Shows rows moment (by_block b rows moment s m).notes
+    by : (b : Bool) → is_later_block m ≡ b → ObserverNotes rows moment (by_block b rows moment s m).notes
     by true e = quiet (later (kept_answer moment (s.peer, key_in m) (events rows)))
     by false e = observing (observe_in m) (subst (λ b. entries_in (by_block b rows moment s m).notes ≡ []) e silent)
 
--- a request that is served as it is heard
-served_shows : (p : Path) (rows : List Row) (moment : ℕ) (s : Step) (m : Message) → Shows rows moment (served p rows moment s m).notes
-unfolding served
-served_shows path.Core rows moment s m = nothing_shown rows moment (look_effects (entries rows) moment s m).notes (look_effects-notes (entries rows) moment s m)
-served_shows path.Res rows moment s m = lookup_shows rows moment s m
-served_shows path.Ep rows moment s m = lookup_shows rows moment s m
-served_shows path.SimpleRd rows moment s m = quiet (quiet_of of_write (λ o. refl) (λ p t b n. refl) (λ p t. refl) (write_effects (events rows) moment s m).notes (write_effects-notes (events rows) moment s m))
-served_shows path.Rd rows moment s m = quiet (quiet_of of_write (λ o. refl) (λ p t b n. refl) (λ p t. refl) (write_effects (events rows) moment s m).notes (write_effects-notes (events rows) moment s m))
-served_shows (path.Location number) rows moment s m = quiet (quiet_of of_write (λ o. refl) (λ p t b n. refl) (λ p t. refl) (write_effects (events rows) moment s m).notes (write_effects-notes (events rows) moment s m))
-served_shows path.Other rows moment s m = quiet refl
+-- the step is no tick
+abbrev pub IsNoTick : StepKind → Type 0
+IsNoTick step.Tick = ⊥
+IsNoTick _ = Unit {0}
 
--- a request as it is heard
-request_shows : (refusal : Option Reply) (rows : List Row) (moment : ℕ) (s : Step) (m : Message) → Shows rows moment (request_by refusal rows moment s m).notes
-unfolding answering
-request_shows (Some refusal) rows moment s m = nothing_shown rows moment (refusal_answered m.kind (first_bad_option m.options) s m refusal).notes (by m.kind (first_bad_option m.options))
+-- any step but a tick
+pub step_observer_notes : (kind : StepKind) (starved : Bool) (rows : List Row) (moment : ℕ) (s : Step) → IsNoTick kind → ObserverNotes rows moment (effects kind starved rows moment s).notes
+step_observer_notes kind starved rows moment s no_tick = by (effects kind starved rows moment s).notes (effects-StepNoted kind starved rows moment s)
   where
-    by : (k : Kind4) (bad : Option ℕ) → (refusal_answered k bad s m refusal).notes ≡ []
-    by Non (Some number) = refl
-    by Non None = refl
-    by Con bad = refl
-    by Ack bad = refl
-    by Rst bad = refl
-request_shows None rows moment s m = served_shows (path_in m) rows moment s m
+    quiet_kind : (of_kind : Note → Bool) → ((o : Observer) → of_kind (note.Watched o) ≡ false) → ((peer : Peer) (token body : List ℕ) (mid : Option ℕ) → of_kind (note.Formed peer token body mid) ≡ false)
+        → ((peer : Peer) (token : List ℕ) → of_kind (note.Unchanged peer token) ≡ false) → (ns : List Note) → are of_kind ns ≡ true → ObserverNotes rows moment ns
+    quiet_kind of_kind watched formed unchanged ns all = quiet (quiet_of of_kind watched formed unchanged ns all)
 
--- a message that is heard
-role_shows : (r : Role) (starved : Bool) (rows : List Row) (moment : ℕ) (s : Step) (m : Message) → Shows rows moment (by_role r starved rows moment s m).notes
-unfolding answering
-role_shows role.Ping starved rows moment s m = quiet refl
-role_shows role.Acknowledgement starved rows moment s m = quiet (quiet_of of_empty (λ o. refl) (λ p t b n. refl) (λ p t. refl) (acknowledged s.peer m.mid (events rows)).notes (acknowledged-notes s.peer m.mid (events rows)))
-role_shows role.Reset starved rows moment s m = quiet (quiet_of of_empty (λ o. refl) (λ p t b n. refl) (λ p t. refl) (reset s.peer m.mid (events rows)).notes (reset-notes s.peer m.mid (events rows)))
-role_shows role.Request true rows moment s m = quiet refl
-role_shows role.Request false rows moment s m = request_shows (refusal_by_request m) rows moment s m
-role_shows role.Response true rows moment s m = quiet refl
-role_shows role.Response false rows moment s m = quiet (quiet_of of_response (λ o. refl) (λ p t b n. refl) (λ p t. refl) (response_effects rows moment s m).notes (response_effects-notes rows moment s m))
-role_shows role.Ignored starved rows moment s m = quiet refl
+    by : (ns : List Note) → StepNoted kind starved rows moment s ns → ObserverNotes rows moment ns
+    by ns (noted.nothing blank) = no_observer_notes rows moment ns blank
+    by ns (noted.write m here is) = quiet_kind of_write (λ o. refl) (λ p t b n. refl) (λ p t. refl) ns (ap (are of_write) is ∙ write_effects-notes (events rows) moment s m)
+    by ns (noted.lookup m here is) = subst (ObserverNotes rows moment) (sym is) (lookup_observer_notes rows moment s m)
+    by ns (noted.empty here all) = quiet_kind of_empty (λ o. refl) (λ p t b n. refl) (λ p t. refl) ns all
+    by ns (noted.response m here is) = quiet_kind of_response (λ o. refl) (λ p t b n. refl) (λ p t. refl) ns (ap (are of_response) is ∙ response_effects-notes rows moment s m)
+    by ns (noted.commit m place commits is) = quiet_kind of_commit (λ o. refl) (λ p t b n. refl) (λ p t. refl) ns (ap (are of_commit) is ∙ commit_effects-notes rows moment place s m)
+    by ns (noted.failed place commits is) = quiet (ap (list_any is_observing) is)
+    by ns (noted.keep m body tag keeps is) = quiet (ap (list_any is_observing) (is ∙ keep_effects-notes s m body tag))
+    by ns (noted.tick ticks is) = absurd (subst IsNoTick ticks no_tick)
 
--- what is no message
-unread_notes : (s : Step) (fault : Unread) → (unread_answered s fault).notes ≡ []
-unread_notes s unread.Short = refl
-unread_notes s unread.Version = refl
-unread_notes s (unread.Format Con mid) = refl
-unread_notes s (unread.Format Non mid) = refl
-unread_notes s (unread.Format Ack mid) = refl
-unread_notes s (unread.Format Rst mid) = refl
-
--- a datagram that is heard, a commit, and a keep
-pub heard_shows : (starved : Bool) (rows : List Row) (moment : ℕ) (s : Step) (read : Result Message Unread) → Shows rows moment (heard starved rows moment s read).notes
-heard_shows starved rows moment s (Err fault) = nothing_shown rows moment (unread_answered s fault).notes (unread_notes s fault)
-heard_shows starved rows moment s (Ok m) = role_shows (role_of m.kind m.code) starved rows moment s m
-
-pub done_shows : (starved : Bool) (rows : List Row) (moment place : ℕ) (s : Step) (read : Result Message Unread) → Shows rows moment (done starved rows moment place s read).notes
-unfolding answering
-done_shows starved rows moment place s (Err fault) = quiet refl
-done_shows true rows moment place s (Ok m) = quiet refl
-done_shows false rows moment place s (Ok m) = quiet (quiet_of of_commit (λ o. refl) (λ p t b n. refl) (λ p t. refl) (commit_effects rows moment place s m).notes (commit_effects-notes rows moment place s m))
-
-pub kept_shows : (starved : Bool) (rows : List Row) (moment : ℕ) (s : Step) (read : Result Message Unread) (body tag : List ℕ) → Shows rows moment (kept_body starved s read body tag).notes
-unfolding answering
-kept_shows starved rows moment s (Err fault) body tag = quiet refl
-kept_shows true rows moment s (Ok m) body tag = quiet refl
-kept_shows false rows moment s (Ok m) body tag = quiet (ap (list_any is_observing) (keep_effects-notes s m body tag))
-
--- a look notes nothing
-pub looked_notes : (starved : Bool) (rows : List Row) (moment : ℕ) (s : Step) (read : Result Message Unread) → (looked starved rows moment s read).notes ≡ []
-unfolding answering
-looked_notes starved rows moment s (Err fault) = refl
-looked_notes true rows moment s (Ok m) = refl
-looked_notes false rows moment s (Ok m) = look_effects-notes (entries rows) moment s m
-
--- behind a row that shows so much, each observer that stands knows
-shown_row : (rows : List Row) (r : Row) → is_desk_row r ≡ true → Shows rows r.moment.0 r.notes → AllKnown rows → AllKnown (r ∷ rows)
-shown_row rows r desk (quiet h) all = quiet_row rows r desk h all
-shown_row rows r desk (adds o front back body notes before after listed none) all =
+-- after a row with such notes, each observer that stands knows
+observer_notes_row : (rows : List Row) (r : Row) → is_desk_row r ≡ true → ObserverNotes rows r.moment.0 r.notes → AllKnown rows → AllKnown (r ∷ rows)
+observer_notes_row rows r desk (quiet h) all = quiet_row rows r desk h all
+observer_notes_row rows r desk (adds o front back body notes before after listed none) all =
     observed_row rows r desk none (record { observer = o; front = front; back = back; body = body; notes = notes; quiet_front = before; quiet_back = after; listed = listed }) all
 
--- behind each row
+-- after each row
 row-AllKnown : (rows : List Row) (s : Step) (starved : Bool) → AllKnown rows → AllKnown (row rows s starved ∷ rows)
 unfolding row effects row_moment
 row-AllKnown rows s starved all = by s.kind refl
@@ -216,16 +161,16 @@ row-AllKnown rows s starved all = by s.kind refl
     notes_of : (k : StepKind) → s.kind ≡ k → (row rows s starved).notes ≡ (effects k starved rows (row_moment rows s) s).notes
     notes_of k e = ap (λ x. (effects x starved rows (row_moment rows s) s).notes) e
 
-    shows : (k : StepKind) → s.kind ≡ k → is_look k ≡ false → Shows rows (row_moment rows s) (effects k starved rows (row_moment rows s) s).notes → AllKnown (row rows s starved ∷ rows)
-    shows k e none h =
-        shown_row rows (row rows s starved) (desk k e none) (subst (Shows rows (row_moment rows s)) (sym (notes_of k e)) h) all
+    no_tick : (k : StepKind) → s.kind ≡ k → is_look k ≡ false → IsNoTick k → AllKnown (row rows s starved ∷ rows)
+    no_tick k e none other =
+        observer_notes_row rows (row rows s starved) (desk k e none) (subst (ObserverNotes rows (row_moment rows s)) (sym (notes_of k e)) (step_observer_notes k starved rows (row_moment rows s) s other)) all
 
     by : (k : StepKind) → s.kind ≡ k → AllKnown (row rows s starved ∷ rows)
-    by step.Admit e = shows step.Admit e refl (heard_shows starved rows (row_moment rows s) s (reading s.datagram))
+    by step.Admit e = no_tick step.Admit e refl tt
     by step.Look e =
         look_row rows (row rows s starved) (ap (λ x. not (is_look x)) e) (notes_of step.Look e ∙ looked_notes starved rows (row_moment rows s) s (reading s.datagram)) all
-    by (step.Commit place) e = shows (step.Commit place) e refl (done_shows starved rows (row_moment rows s) place s (reading s.datagram))
-    by (step.Keep body tag) e = shows (step.Keep body tag) e refl (kept_shows starved rows (row_moment rows s) s (reading s.datagram) body tag)
+    by (step.Commit place) e = no_tick (step.Commit place) e refl tt
+    by (step.Keep body tag) e = no_tick (step.Keep body tag) e refl tt
     by step.Tick e = tick_row rows (row rows s starved) starved (desk step.Tick e refl) (notes_of step.Tick e) all
 
 -- in each journal
@@ -234,12 +179,8 @@ unfolding events observers
 journal-AllKnown [] begun = tt
 journal-AllKnown (r ∷ before) (made {rows} {s} starved journal may) = row-AllKnown before s starved (journal-AllKnown before journal)
 
--- one of those of which all holds
-pub of_all : {X : Type 0} (P : X → Type 0) (xs : List X) (x : X) → IsAmong xs x → AllByRecursion P xs → P x
-of_all P xs x among all = subst P (sym (among.1.1)) (All-from_recursion P xs all among.0 x among.1.0)
-
--- an observer that is not due was last given the listing now
+-- the last body formed for an observer that is not due is the listing now
 pub journal-ObserversKnow : (rows : List Row) → IsJournal rows → ObserversKnow rows
 journal-ObserversKnow rows journal = record {
-  given = λ o among not_due. (of_all (KnownIn rows) (observers (events rows)) o among (journal-AllKnown rows journal)).knows not_due;
+  given = λ o among not_due. (all_at_index (KnownIn rows) (observers (events rows)) o among (journal-AllKnown rows journal)).knows not_due;
 }

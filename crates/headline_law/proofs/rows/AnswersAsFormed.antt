@@ -23,29 +23,29 @@ use Rattle.journal_model.specs.Headline.{former_by, AnswersAsFormed}
 use Rattle.journal_model.proofs.NoteKinds.{of_tick, none_of}
 use Rattle.journal_model.proofs.StepNotes.{requests_again-notes, tick_effects-notes}
 use Rattle.journal_model.proofs.EntriesNoted.{entries_in}
-use Rattle.headline_law.proofs.observers.Knowing.{is_observing}
 use Rattle.headline_law.proofs.sends.PlainSteps.{ArePlain}
 use Rattle.headline_law.proofs.entries.QuietSteps.{tick_effects-entries_in}
-use Rattle.headline_law.proofs.observers.Observing.{entries-none_noted}
-use Rattle.headline_law.proofs.observers.ObserversKnow.{Shows, quiet, heard_shows, done_shows, kept_shows, looked_notes, of_all}
+use Rattle.headline_law.proofs.observers.ObserversKnow.{IsNoTick, step_observer_notes}
 use Rattle.headline_law.proofs.sends.TickSends.{requests_plain}
 use Rattle.headline_law.proofs.sends.ValidLaw.{before_all, journal_sends, looks_are_validated}
 use Rattle.headline_law.proofs.sends.RowSends.{Before}
 use Rattle.journal_model.proofs.EventRows.{AllRows, row_within}
-use Rattle.rd_base.proofs.lemmas.Among.{Among, all_among}
-use Rattle.headline_law.proofs.notes.Asking.{IsAsking, AreTold, OfWatched, observers_all}
-use Rattle.headline_law.proofs.flights.AgainFacts.{behind_again}
+use Rattle.rd_base.proofs.lemmas.Among.{Among, all_among, all_at_index}
+use Rattle.headline_law.proofs.notes.LookupNotes.{IsAsking, NotesAsAsked, OfWatched, observers_all}
+use Rattle.headline_law.proofs.flights.NoticesAgain.{events_after_again}
 use Rattle.headline_law.proofs.flights.TickNotices.{TickSoFar}
 use Rattle.headline_law.proofs.flights.TickFolds.{tick_begins, tick_notifies}
-use Rattle.headline_law.proofs.flights.TickCarries.{Carried, is_used, stood}
+use Rattle.headline_law.proofs.flights.CarriedListings.{Carried, is_used, stood}
 use Rattle.headline_law.proofs.rows.TickRows.{TickRow, tick_carried}
 use Rattle.headline_law.proofs.flights.TickFlights.{tick_flights}
-use Rattle.headline_law.proofs.flights.TickTold.{FormsFirst, shows_first, tick_told_so}
+use Rattle.headline_law.proofs.notes.TickNotes.{tick_notes_as_asked}
+use Rattle.headline_law.proofs.flights.FirstBodies.{FormsFirst, first_forms}
 use Rattle.headline_law.proofs.flights.KnownFlights.{FlightsKnown, flights_row}
-use Rattle.headline_law.proofs.sends.StepGives.{is_keeping, Gives, plain, look, lookup, keep, heard_gives, looked_gives, done_gives, kept_gives}
-use Rattle.headline_law.proofs.rows.RowCarries.{NoteAs, RowCarries, plain_row, look_row, told_noted}
-use Rattle.headline_law.proofs.rows.KeptRows.{lookup_row}
+use Rattle.headline_law.proofs.sends.StepOutcomes.{is_keeping, StepOutcome, plain, look, lookup, keep, heard_outcome, looked_outcome, done_outcome, kept_outcome}
+use Rattle.headline_law.proofs.rows.RowCarries.{NoteAsFormed, RowCarries, plain_row, look_row, own_notes_as_formed}
+use Rattle.headline_law.proofs.rows.LookupRows.{lookup_row}
 use Rattle.headline_law.proofs.rows.KeepRows.{keep_row}
+use Rattle.headline_law.proofs.entries.JournalLaws.{entries-none_noted}
 
 -- what is known of a journal: each of its rows, its observers, and the notices in flight
 record CarriesAll (rows : List Row) : Type 0 where
@@ -56,18 +56,18 @@ record CarriesAll (rows : List Row) : Type 0 where
 -- the observers that a row adds ask for their queries
 asking_row : (rows : List Row) (r : Row) → RowCarries rows r → AllByRecursion IsAsking (observers (events rows)) → AllByRecursion IsAsking (observers (events (r ∷ rows)))
 unfolding events
-asking_row rows r carries all = observers_all IsAsking (length rows) r.moment.0 r.step.word r.notes (events rows) (each_weaker (NoteAs (record { row = r; before = rows })) (OfWatched IsAsking) by r.notes carries.noted) all
+asking_row rows r carries all = observers_all IsAsking (length rows) r.moment.0 r.step.word r.notes (events rows) (each_weaker (NoteAsFormed (record { row = r; before = rows })) (OfWatched IsAsking) by r.notes carries.noted) all
   where
-    by : (n : Note) → NoteAs (record { row = r; before = rows }) n → OfWatched IsAsking n
+    by : (n : Note) → NoteAsFormed (record { row = r; before = rows }) n → OfWatched IsAsking n
     by (note.Watched o) h = h
     by _ h = tt
 
--- a row that is no tick, by what its step gives
-row_gives : (rows : List Row) (r : Row) (e : Effects) → AllRows RowCarries rows → IsJournal rows → MayBegin rows r.step → r.sent ≡ e.sent → r.notes ≡ e.notes → Gives rows r.moment.0 r.step e → RowCarries rows r
-row_gives rows r e all journal may sent notes (plain sends none) = plain_row rows r (subst ArePlain (sym sent) sends) (ap (list_any is_keeping) notes ∙ none)
-row_gives rows r e all journal may sent notes (look m heard_so read is) = look_row rows r m heard_so read (sent ∙ ap (λ x. x.sent) is) (notes ∙ ap (λ x. x.notes) is)
-row_gives rows r e all journal may sent notes (lookup m heard_so read lookups is) = lookup_row rows r m all heard_so read lookups (sent ∙ ap (λ x. x.sent) is) (notes ∙ ap (λ x. x.notes) is)
-row_gives rows r e all journal may sent notes (keep m body current read kind is) =
+-- a row that is no tick, from the outcome of its step
+row_of_outcome : (rows : List Row) (r : Row) (e : Effects) → AllRows RowCarries rows → IsJournal rows → MayBegin rows r.step → r.sent ≡ e.sent → r.notes ≡ e.notes → StepOutcome rows r.moment.0 r.step e → RowCarries rows r
+row_of_outcome rows r e all journal may sent notes (plain sends none) = plain_row rows r (subst ArePlain (sym sent) sends) (ap (list_any is_keeping) notes ∙ none)
+row_of_outcome rows r e all journal may sent notes (look m heard_so read is) = look_row rows r m heard_so read (sent ∙ ap (λ x. x.sent) is) (notes ∙ ap (λ x. x.notes) is)
+row_of_outcome rows r e all journal may sent notes (lookup m heard_so read lookups is) = lookup_row rows r m all heard_so read lookups (sent ∙ ap (λ x. x.sent) is) (notes ∙ ap (λ x. x.notes) is)
+row_of_outcome rows r e all journal may sent notes (keep m body current read kind is) =
     keep_row rows r m body current journal may kind read (sent ∙ ap (λ x. x.sent) is) (notes ∙ ap (λ x. x.notes) is)
 
 -- so what is known is known with it
@@ -84,8 +84,8 @@ tick_of : (rows : List Row) (r : Row) (starved : Bool) → Before rows → Carri
 unfolding tick_effects
 tick_of rows r starved past all tick sent notes = by starved sent notes
   where
-    untold : entries (r ∷ rows) ≡ entries rows
-    untold = entries-none_noted rows r (ap entries_in notes ∙ tick_effects-entries_in starved rows r.moment.0 r.step)
+    same_entries : entries (r ∷ rows) ≡ entries rows
+    same_entries = entries-none_noted rows r (ap entries_in notes ∙ tick_effects-entries_in starved rows r.moment.0 r.step)
 
     unused : list_any is_used r.notes ≡ false
     unused = ap (list_any is_used) notes ∙ none_of of_tick is_used never (tick_effects starved rows r.moment.0 r.step).notes (tick_effects-notes starved rows r.moment.0 r.step)
@@ -94,8 +94,8 @@ tick_of rows r starved past all tick sent notes = by starved sent notes
         never (note.Used peer key) h = absurd (false≢true h)
         never _ h = refl
 
-    small : (o : Observer) → Among o (observers (behind_again rows r.moment.0 r.step.word)) → length o.token ≤ longest_token
-    small o stands = (all_among IsAsking o (observers (behind_again rows r.moment.0 r.step.word)) (stood rows r.moment.0 r.step.word IsAsking all.asking) stands).token
+    small : (o : Observer) → Among o (observers (events_after_again rows r.moment.0 r.step.word)) → length o.token ≤ longest_token
+    small o stands = (all_among IsAsking o (observers (events_after_again rows r.moment.0 r.step.word)) (stood rows r.moment.0 r.step.word IsAsking all.asking) stands).token
 
     with_parts : (notified : Effects) → TickSoFar rows r.moment.0 r.step.word notified → r.sent ≡ notified.sent ++ (requests_again rows r.moment.0).sent → r.notes ≡ notified.notes ++ (requests_again rows r.moment.0).notes → TickRow rows r
     with_parts notified so_far sends noted = record {
@@ -107,7 +107,7 @@ tick_of rows r starved past all tick sent notes = by starved sent notes
       so_far = so_far;
       plain = requests_plain rows r.moment.0 past.asked;
       resent = requests_again-notes rows r.moment.0;
-      untold = untold;
+      same_entries = same_entries;
       unused = unused;
       known = all.flights;
     }
@@ -121,8 +121,8 @@ tick_step : (rows : List Row) (r : Row) (starved : Bool) → Before rows → Car
     → r.notes ≡ (tick_effects starved rows r.moment.0 r.step).notes → CarriesAll (r ∷ rows)
 tick_step rows r starved past all tick sent notes =
     let t : TickRow rows r = tick_of rows r starved past all tick sent notes in
-    let told_now = subst (AreTold rows r.moment.0) (sym notes) (tick_told_so starved rows r.moment.0 r.step (stood rows r.moment.0 r.step.word IsAsking all.asking)) in
-    let carries : RowCarries rows r = record { carried = tick_carried rows r t; noted = told_noted rows r (ap (λ k. former_by k (record { row = r; before = rows })) tick) t.untold r.notes told_now } in
+    let asked_now = subst (NotesAsAsked rows r.moment.0) (sym notes) (tick_notes_as_asked starved rows r.moment.0 r.step (stood rows r.moment.0 r.step.word IsAsking all.asking)) in
+    let carries : RowCarries rows r = record { carried = tick_carried rows r t; noted = own_notes_as_formed rows r (ap (λ k. former_by k (record { row = r; before = rows })) tick) t.same_entries r.notes asked_now } in
     record { each = (carries, all.each); asking = asking_row rows r carries all.asking; flights = tick_flights rows r t }
 
 -- any row
@@ -139,21 +139,17 @@ row_step rows s starved journal may all = by s.kind refl
     notes_of : (k : StepKind) → s.kind ≡ k → (row rows s starved).notes ≡ (effects k starved rows (row_moment rows s) s).notes
     notes_of k is = ap (λ x. (effects x starved rows (row_moment rows s) s).notes) is
 
-    given : (k : StepKind) → s.kind ≡ k → Gives rows (row_moment rows s) s (effects k starved rows (row_moment rows s) s) → Shows rows (row_moment rows s) (effects k starved rows (row_moment rows s) s).notes
+    with_outcome : (k : StepKind) → s.kind ≡ k → StepOutcome rows (row_moment rows s) s (effects k starved rows (row_moment rows s) s) → IsNoTick k
         → CarriesAll (row rows s starved ∷ rows)
-    given k is gives shows =
-        quiet_step rows (row rows s starved) (row_gives rows (row rows s starved) (effects k starved rows (row_moment rows s) s) all.each journal may.begin (sent_of k is) (notes_of k is) gives)
-        (subst FormsFirst (sym (notes_of k is)) (shows_first rows (row_moment rows s) (effects k starved rows (row_moment rows s) s).notes shows)) all
+    with_outcome k is outcome no_tick =
+        quiet_step rows (row rows s starved) (row_of_outcome rows (row rows s starved) (effects k starved rows (row_moment rows s) s) all.each journal may.begin (sent_of k is) (notes_of k is) outcome)
+        (subst FormsFirst (sym (notes_of k is)) (first_forms rows (row_moment rows s) (effects k starved rows (row_moment rows s) s).notes (step_observer_notes k starved rows (row_moment rows s) s no_tick))) all
 
     by : (k : StepKind) → s.kind ≡ k → CarriesAll (row rows s starved ∷ rows)
-    by step.Admit is =
-        given step.Admit is (heard_gives starved rows (row_moment rows s) s (reading s.datagram) past.settled (ap is_heard is) refl) (heard_shows starved rows (row_moment rows s) s (reading s.datagram))
-    by step.Look is =
-        given step.Look is (looked_gives starved rows (row_moment rows s) s (reading s.datagram) (ap is_heard is) refl)
-        (quiet (ap (list_any is_observing) (looked_notes starved rows (row_moment rows s) s (reading s.datagram))))
-    by (step.Commit place) is = given (step.Commit place) is (done_gives starved rows (row_moment rows s) place s (reading s.datagram)) (done_shows starved rows (row_moment rows s) place s (reading s.datagram))
-    by (step.Keep body current) is =
-        given (step.Keep body current) is (kept_gives starved rows (row_moment rows s) s (reading s.datagram) body current refl is) (kept_shows starved rows (row_moment rows s) s (reading s.datagram) body current)
+    by step.Admit is = with_outcome step.Admit is (heard_outcome starved rows (row_moment rows s) s (reading s.datagram) past.settled (ap is_heard is) refl) tt
+    by step.Look is = with_outcome step.Look is (looked_outcome starved rows (row_moment rows s) s (reading s.datagram) (ap is_heard is) refl) tt
+    by (step.Commit place) is = with_outcome (step.Commit place) is (done_outcome starved rows (row_moment rows s) place s (reading s.datagram)) tt
+    by (step.Keep body current) is = with_outcome (step.Keep body current) is (kept_outcome starved rows (row_moment rows s) s (reading s.datagram) body current refl is) tt
     by step.Tick is = tick_step rows (row rows s starved) starved past all is (sent_of step.Tick is) (notes_of step.Tick is)
 
 -- each journal
@@ -162,10 +158,10 @@ unfolding events observers
 journal_carries [] begun = record { each = tt; asking = tt; flights = tt }
 journal_carries (r ∷ before) (made {rows} {s} starved journal may) = row_step before s starved journal may (journal_carries before journal)
 
--- each lookup answers the listing of the history at the row that formed it, and 2.03 is given exactly where a look names the tag
+-- each lookup answers the listing of the history at the row that formed it, and 2.03 is sent exactly where a look names the tag
 pub answers_as_formed : (rows : List Row) → IsJournal rows → AnswersAsFormed rows
 answers_as_formed rows journal = record {
   carried = λ before r peer octets m within among read listed.
-      of_all (Carried (record { row = r; before = before })) r.sent (peer, octets) among (row_within RowCarries rows before r (journal_carries rows journal).each within).carried m read listed;
+      all_at_index (Carried (record { row = r; before = before })) r.sent (peer, octets) among (row_within RowCarries rows before r (journal_carries rows journal).each within).carried m read listed;
   valid = λ before r within fed. looks_are_validated rows before r journal within fed;
 }

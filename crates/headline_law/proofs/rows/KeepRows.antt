@@ -21,17 +21,17 @@ use Rattle.journal_model.specs.Machine.{keep_kind, Job, job_of, MayBegin, hears,
 use Rattle.journal_model.specs.Headline.{Placed, look_of, former_by, former_at, query_read, query_answered, Carries}
 use Rattle.journal_model.proofs.EntriesNoted.{entries_in}
 use Rattle.journal_model.proofs.StepNotes.{keep_effects-notes}
-use Rattle.headline_law.proofs.observers.Observing.{entries-none_noted}
-use Rattle.headline_law.proofs.observers.ObserversKnow.{looked_notes}
-use Rattle.headline_law.proofs.entries.JournalLaws.{Made, each_row}
+use Rattle.headline_law.proofs.notes.SilentSteps.{looked_notes}
+use Rattle.headline_law.proofs.entries.JournalLaws.{Made, each_row, entries-none_noted}
 use Rattle.journal_model.proofs.Jobs.{KeepsOf, keeps_of}
 use Rattle.headline_law.proofs.sends.ReadAgain.{header_read}
-use Rattle.headline_law.proofs.sends.BodyAnswers.{Bears, IsBodyOf, tag-length, bears_carries}
-use Rattle.headline_law.proofs.sends.LookupSends.{AreBodiesOf, keep_bears}
-use Rattle.headline_law.proofs.notes.Asking.{look_fits, KeptAt}
+use Rattle.headline_law.proofs.sends.BodyAnswers.{Bears, IsBodyOf, tag-length, same_message, bears_carries}
+use Rattle.headline_law.proofs.sends.LookupSends.{keep_bears}
+use Rattle.headline_law.proofs.notes.LookupNotes.{look_fits, KeptAt}
 use Rattle.headline_law.proofs.sends.ValidLaw.{LooksAt, a_look_reads, looked_a_look}
-use Rattle.headline_law.proofs.flights.TickCarries.{Carried}
-use Rattle.headline_law.proofs.rows.RowCarries.{NoteAs, RowCarries}
+use Rattle.headline_law.proofs.flights.CarriedListings.{Carried}
+use Rattle.headline_law.proofs.rows.RowCarries.{NoteAsFormed, RowCarries}
+use Rattle.rd_base.proofs.lemmas.Each.{each_weaker}
 
 -- ---- a row of a keep
 
@@ -51,10 +51,6 @@ same_keep body current others other e = (ap body_of e, ap tag_of e)
 look_only : (m : Message) → is_look_request m ≡ true → only_looks m ≡ true
 unfolding is_look_request
 look_only m h = (and_parts (is_none (refusal_by_request m)) (only_looks m) h).1
-
--- one message is read of a datagram
-ok_is : (m n : Message) → ◌≡◌ {A = Result Message Unread} (Ok m) (Ok n) → m ≡ n
-ok_is m n e = cc
 
 -- the look whose job a keep ends
 record KeepOf (rows : List Row) (worker : ℕ) (m : Message) (body current : List ℕ) : Type 0 where
@@ -96,8 +92,8 @@ keep_of rows s m body current journal may kind read = record {
   is_kept = record {
     query = query_of m;
     asks = record { request = m; fits = look_fits m only; key_is = refl; query_is = refl };
-    body_is = parts.0 ∙ ap (λ history. listing (query_of m) history held.look.row.moment.0) (sym untold);
-    tag_is = parts.1 ∙ ap (λ history. tag history held.look.row.moment.0) (sym untold);
+    body_is = parts.0 ∙ ap (λ history. listing (query_of m) history held.look.row.moment.0) (sym same_entries);
+    tag_is = parts.1 ∙ ap (λ history. tag history held.look.row.moment.0) (sym same_entries);
   };
   query_is = refl;
 }
@@ -114,8 +110,8 @@ keep_of rows s m body current journal may kind read = record {
     same_read : reading held.look.row.step.datagram ≡ Ok m
     same_read = ap reading (sym held.keeps.datagram) ∙ read
 
-    untold : entries (held.look.row ∷ held.look.before) ≡ entries held.look.before
-    untold = entries-none_noted held.look.before held.look.row (ap entries_in its.silent)
+    same_entries : entries (held.look.row ∷ held.look.before) ≡ entries held.look.before
+    same_entries = entries-none_noted held.look.before held.look.row (ap entries_in its.silent)
 
     parts : (body ≡ listing (query_of m) (entries held.look.before) held.look.row.moment.0) × (current ≡ tag (entries held.look.before) held.look.row.moment.0)
     parts = same_keep body current (listing (query_of m) (entries held.look.before) held.look.row.moment.0) (tag (entries held.look.before) held.look.row.moment.0)
@@ -125,15 +121,15 @@ keep_of rows s m body current journal may kind read = record {
     looks_at = a_look_reads (reading held.look.row.step.datagram) its.looks
 
     only : only_looks m ≡ true
-    only = let same : looks_at.message ≡ m = ok_is looks_at.message m (sym looks_at.read_is ∙ same_read) in
+    only = let same : looks_at.message ≡ m = same_message looks_at.message m held.look.row.step.datagram looks_at.read_is same_read in
         subst (λ x. only_looks x ≡ true) same (look_only looks_at.message looks_at.looks)
 
 -- any row of a keep
 pub keep_row : (rows : List Row) (r : Row) (m : Message) (body current : List ℕ) → IsJournal rows → MayBegin rows r.step → r.step.kind ≡ step.Keep body current → reading r.step.datagram ≡ Ok m
     → r.sent ≡ (keep_effects r.step m body current).sent → r.notes ≡ (keep_effects r.step m body current).notes → RowCarries rows r
 keep_row rows r m body current journal may kind read sent notes = record {
-  carried = subst (AllByRecursion (Carried here)) (sym sent) (each (keep_effects r.step m body current).sent (keep_bears r.step m body current small short));
-  noted = subst (AllByRecursion (NoteAs here)) (sym (notes ∙ keep_effects-notes r.step m body current)) (record { former = it.look; formed = ap (λ k. former_by k here) kind ∙ it.found; is_kept = it.is_kept }, tt);
+  carried = subst (AllByRecursion (Carried here)) (sym sent) (each_weaker (λ (d : Peer × List ℕ). IsBodyOf m.token body current d.1) (Carried here) one (keep_effects r.step m body current).sent (keep_bears r.step m body current small short));
+  noted = subst (AllByRecursion (NoteAsFormed here)) (sym (notes ∙ keep_effects-notes r.step m body current)) (record { former = it.look; formed = ap (λ k. former_by k here) kind ∙ it.found; is_kept = it.is_kept }, tt);
 }
   where
     here : Placed
@@ -159,7 +155,3 @@ keep_row rows r m body current journal may kind read sent notes = record {
           (subst (λ t. Bears m.token (listing it.is_kept.query (entries (it.look.row ∷ it.look.before)) it.look.row.moment.0) t n) it.is_kept.tag_is
           (subst (λ b. Bears m.token b current n) it.is_kept.body_is (bears n e listed))));
     }
-
-    each : (ds : List (Peer × List ℕ)) → AreBodiesOf m.token body current ds → AllByRecursion (Carried here) ds
-    each [] h = tt
-    each (d ∷ ds) h = (one d h.0, each ds h.1)

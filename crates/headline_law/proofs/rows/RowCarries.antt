@@ -19,44 +19,41 @@ use Rattle.journal_model.specs.Meantime.{is_heard}
 use Rattle.journal_model.specs.Headline.{Placed, former_by, former_noted, former_at, query_read, query_answered}
 use Rattle.journal_model.proofs.EntriesNoted.{entries_in}
 use Rattle.journal_model.proofs.StepNotes.{look_effects-notes}
-use Rattle.headline_law.proofs.observers.Observing.{entries-none_noted}
 use Rattle.headline_law.proofs.sends.ReadAgain.{header_read}
 use Rattle.headline_law.proofs.sends.BodyAnswers.{Bears, IsBodyOf, other_code, bears_carries}
-use Rattle.headline_law.proofs.sends.PlainSteps.{ArePlain}
-use Rattle.headline_law.proofs.sends.LookupSends.{AreListings, look_lists, tells_earlier}
-use Rattle.headline_law.proofs.notes.Asking.{IsAsking, KeptAt, NoteTold, AreTold}
-use Rattle.headline_law.proofs.flights.TickCarries.{Carried}
-use Rattle.headline_law.proofs.rows.TickRows.{plain_bodies}
-use Rattle.headline_law.proofs.sends.StepGives.{is_keeping}
+use Rattle.headline_law.proofs.sends.PlainSteps.{ArePlain, IsPlain}
+use Rattle.headline_law.proofs.sends.LookupSends.{AreListings, look_lists, names_earlier_row}
+use Rattle.headline_law.proofs.notes.LookupNotes.{IsAsking, KeptAt, NoteAsAsked, NotesAsAsked}
+use Rattle.headline_law.proofs.flights.CarriedListings.{Carried}
+use Rattle.headline_law.proofs.sends.StepOutcomes.{is_keeping}
 use Rattle.std.proofs.lemmas.Bool.{or_parts}
+use Rattle.headline_law.proofs.entries.JournalLaws.{entries-none_noted}
+use Rattle.rd_base.proofs.lemmas.Each.{each_weaker, each_failing}
 
 -- an answer that is kept at a row: the listing of the query of its key, at the row that formed it
-pub record KeptBy (here : Placed) (key body current : List ℕ) : Type 0 where
+pub record KeptAsFormed (here : Placed) (key body current : List ℕ) : Type 0 where
   pub former : Placed
   pub formed : former_by here.row.step.kind here ≡ Some former
   pub is_kept : KeptAt (entries (former.row ∷ former.before)) former.row.moment.0 key body current
 
--- what a note says at its row
-abbrev pub NoteAs : Placed → Note → Type 0
-NoteAs here (note.Kept peer key body current) = KeptBy here key body current
-NoteAs here (note.Watched o) = IsAsking o
-NoteAs here _ = Unit {0}
+-- a note of a row is as it was formed: what is kept is the listing at the row that formed it, and an observer asks for its query
+abbrev pub NoteAsFormed : Placed → Note → Type 0
+NoteAsFormed here (note.Kept peer key body current) = KeptAsFormed here key body current
+NoteAsFormed here (note.Watched o) = IsAsking o
+NoteAsFormed here _ = Unit {0}
 
 -- what holds of each row
 pub record RowCarries (before : List Row) (r : Row) : Type 0 where
   pub carried : AllByRecursion (Carried (record { row = r; before = before })) r.sent
-  pub noted : AllByRecursion (NoteAs (record { row = r; before = before })) r.notes
+  pub noted : AllByRecursion (NoteAsFormed (record { row = r; before = before })) r.notes
 
 -- ---- plain rows
 
 -- what keeps nothing
-keeps_nothing : (here : Placed) (notes : List Note) → list_any is_keeping notes ≡ false → AllByRecursion (NoteAs here) notes
-keeps_nothing here [] none = tt
-keeps_nothing here (n ∷ notes) none =
-    let both = or_parts (is_keeping n) (list_any is_keeping notes) none in
-    (by n both.0, keeps_nothing here notes both.1)
+keeps_nothing : (here : Placed) (notes : List Note) → list_any is_keeping notes ≡ false → AllByRecursion (NoteAsFormed here) notes
+keeps_nothing here notes none = each_failing is_keeping (NoteAsFormed here) by notes none
   where
-    by : (x : Note) → is_keeping x ≡ false → NoteAs here x
+    by : (x : Note) → is_keeping x ≡ false → NoteAsFormed here x
     by (note.Kept peer key body current) h = absurd (false≢true (sym h))
     by (note.Watched o) h = absurd (false≢true (sym h))
     by _ h = tt
@@ -64,13 +61,13 @@ keeps_nothing here (n ∷ notes) none =
 -- so it is of a row of plain messages
 pub plain_row : (rows : List Row) (r : Row) → ArePlain r.sent → list_any is_keeping r.notes ≡ false → RowCarries rows r
 plain_row rows r plain none = record {
-  carried = plain_bodies (Carried (record { row = r; before = rows })) (λ d p m e listed. absurd (false≢true (sym (other_code d.1 p.no_content m e) ∙ listed))) r.sent plain;
+  carried = each_weaker (λ (d : Peer × List ℕ). IsPlain d.1) (Carried (record { row = r; before = rows })) (λ d p m e listed. absurd (false≢true (sym (other_code d.1 p.no_content m e) ∙ listed))) r.sent plain;
   noted = keeps_nothing (record { row = r; before = rows }) r.notes none;
 }
 
 -- ---- rows of datagrams that are heard
 
--- the former is entries_in by the notes
+-- the row that formed what a heard datagram is answered with is the one that its notes name
 pub heard_former : (k : StepKind) (peer : Peer) (mid : ℕ) (here : Placed) → is_heard k ≡ true → former_at k peer mid here ≡ former_noted peer mid here.row.notes here
 heard_former step.Admit peer mid here h = refl
 heard_former step.Look peer mid here h = refl
@@ -86,29 +83,30 @@ heard_query (step.Commit place) name here h = absurd (false≢true h)
 heard_query (step.Keep body current) name here h = absurd (false≢true h)
 heard_query step.Tick name here h = absurd (false≢true h)
 
--- and what is kept is formed by the row itself
-pub heard_by : (k : StepKind) (here : Placed) → is_heard k ≡ true → former_by k here ≡ Some here
-heard_by step.Admit here h = refl
-heard_by step.Look here h = refl
-heard_by (step.Commit place) here h = absurd (false≢true h)
-heard_by (step.Keep body current) here h = absurd (false≢true h)
-heard_by step.Tick here h = absurd (false≢true h)
+-- and what such a row keeps, it formed itself
+pub heard_forms_itself : (k : StepKind) (here : Placed) → is_heard k ≡ true → former_by k here ≡ Some here
+heard_forms_itself step.Admit here h = refl
+heard_forms_itself step.Look here h = refl
+heard_forms_itself (step.Commit place) here h = absurd (false≢true h)
+heard_forms_itself (step.Keep body current) here h = absurd (false≢true h)
+heard_forms_itself step.Tick here h = absurd (false≢true h)
 
--- notes that tell of nothing earlier
-noted_now : (peer : Peer) (mid : ℕ) (notes : List Note) (here : Placed) → list_any tells_earlier notes ≡ false → former_noted peer mid notes here ≡ Some here
+-- notes that name no earlier row
+noted_now : (peer : Peer) (mid : ℕ) (notes : List Note) (here : Placed) → list_any names_earlier_row notes ≡ false → former_noted peer mid notes here ≡ Some here
 noted_now peer mid [] here none = refl
 noted_now peer mid (n ∷ notes) here none =
-    by n (or_parts (tells_earlier n) (list_any tells_earlier notes) none).0 (noted_now peer mid notes here (or_parts (tells_earlier n) (list_any tells_earlier notes) none).1)
+    by n (or_parts (names_earlier_row n) (list_any names_earlier_row notes) none).0 (noted_now peer mid notes here (or_parts (names_earlier_row n) (list_any names_earlier_row notes) none).1)
   where
-    by : (x : Note) → tells_earlier x ≡ false → former_noted peer mid notes here ≡ Some here → former_noted peer mid (x ∷ notes) here ≡ Some here
+    by : (x : Note) → names_earlier_row x ≡ false → former_noted peer mid notes here ≡ Some here → former_noted peer mid (x ∷ notes) here ≡ Some here
     by (note.Used p key) h more = absurd (false≢true (sym h))
     by (note.Again p m) h more = absurd (false≢true (sym h))
     by _ h more = more
 
 -- the listing now
-pub now_carried : (rows : List Row) (r : Row) (m : Message) → is_heard r.step.kind ≡ true → reading r.step.datagram ≡ Ok m → entries (r ∷ rows) ≡ entries rows → list_any tells_earlier r.notes ≡ false
+pub now_carried : (rows : List Row) (r : Row) (m : Message) → is_heard r.step.kind ≡ true → reading r.step.datagram ≡ Ok m → entries (r ∷ rows) ≡ entries rows → list_any names_earlier_row r.notes ≡ false
     → AreListings m (entries rows) r.moment.0 r.sent → AllByRecursion (Carried (record { row = r; before = rows })) r.sent
-now_carried rows r m hears read untold none all = each r.sent all
+now_carried rows r m hears read same_entries none all =
+    each_weaker (λ (d : Peer × List ℕ). IsBodyOf m.token (listing (query_of m) (entries rows) r.moment.0) (tag (entries rows) r.moment.0) d.1) (Carried (record { row = r; before = rows })) one r.sent all
   where
     one : (d : Peer × List ℕ) → IsBodyOf m.token (listing (query_of m) (entries rows) r.moment.0) (tag (entries rows) r.moment.0) d.1 → Carried (record { row = r; before = rows }) d
     one d body n e listed = record {
@@ -117,23 +115,19 @@ now_carried rows r m hears read untold none all = each r.sent all
       query = query_of m;
       asked = heard_query r.step.kind (d.0, n.token) (record { row = r; before = rows }) hears ∙ ap query_read read;
       carries = bears_carries m.token (query_of m) (entries (r ∷ rows)) r.moment.0 n
-          (subst (λ history. Bears m.token (listing (query_of m) history r.moment.0) (tag history r.moment.0) n) (sym untold) (body n e listed));
+          (subst (λ history. Bears m.token (listing (query_of m) history r.moment.0) (tag history r.moment.0) n) (sym same_entries) (body n e listed));
     }
 
-    each : (ds : List (Peer × List ℕ)) → AreListings m (entries rows) r.moment.0 ds → AllByRecursion (Carried (record { row = r; before = rows })) ds
-    each [] h = tt
-    each (d ∷ ds) h = (one d h.0, each ds h.1)
-
 -- what a row keeps that forms its own answers
-pub told_noted : (rows : List Row) (r : Row) → former_by r.step.kind (record { row = r; before = rows }) ≡ Some (record { row = r; before = rows }) → entries (r ∷ rows) ≡ entries rows → (notes : List Note) → AreTold rows r.moment.0 notes → AllByRecursion (NoteAs (record { row = r; before = rows })) notes
-told_noted rows r formed untold [] h = tt
-told_noted rows r formed untold (n ∷ notes) h = (by n h.0, told_noted rows r formed untold notes h.1)
+pub own_notes_as_formed : (rows : List Row) (r : Row) → former_by r.step.kind (record { row = r; before = rows }) ≡ Some (record { row = r; before = rows }) → entries (r ∷ rows) ≡ entries rows → (notes : List Note) → NotesAsAsked rows r.moment.0 notes → AllByRecursion (NoteAsFormed (record { row = r; before = rows })) notes
+own_notes_as_formed rows r formed same_entries [] h = tt
+own_notes_as_formed rows r formed same_entries (n ∷ notes) h = (by n h.0, own_notes_as_formed rows r formed same_entries notes h.1)
   where
-    by : (x : Note) → NoteTold (entries rows) r.moment.0 x → NoteAs (record { row = r; before = rows }) x
+    by : (x : Note) → NoteAsAsked (entries rows) r.moment.0 x → NoteAsFormed (record { row = r; before = rows }) x
     by (note.Kept peer key body current) k = record {
       former = record { row = r; before = rows };
       formed = formed;
-      is_kept = subst (λ history. KeptAt history r.moment.0 key body current) (sym untold) k;
+      is_kept = subst (λ history. KeptAt history r.moment.0 key body current) (sym same_entries) k;
     }
     by (note.Watched o) k = k
     by _ k = tt
@@ -142,9 +136,9 @@ told_noted rows r formed untold (n ∷ notes) h = (by n h.0, told_noted rows r f
 pub look_row : (rows : List Row) (r : Row) (m : Message) → is_heard r.step.kind ≡ true → reading r.step.datagram ≡ Ok m → r.sent ≡ (look_effects (entries rows) r.moment.0 r.step m).sent
     → r.notes ≡ (look_effects (entries rows) r.moment.0 r.step m).notes → RowCarries rows r
 look_row rows r m hears read sent notes = record {
-  carried = now_carried rows r m hears read (entries-none_noted rows r (ap entries_in none)) (ap (list_any tells_earlier) none)
+  carried = now_carried rows r m hears read (entries-none_noted rows r (ap entries_in none)) (ap (list_any names_earlier_row) none)
       (subst (AreListings m (entries rows) r.moment.0) (sym sent) (look_lists (entries rows) r.moment.0 r.step m (header_read r.step.datagram m read).token));
-  noted = subst (AllByRecursion (NoteAs (record { row = r; before = rows }))) (sym none) tt;
+  noted = subst (AllByRecursion (NoteAsFormed (record { row = r; before = rows }))) (sym none) tt;
 }
   where
     none : r.notes ≡ []

@@ -1,4 +1,4 @@
--- A row of a tick: what it sends was formed as the headline says, and the notices in flight behind it are known.
+-- A row of a tick: what it sends was formed as the headline says, and the notices in flight after it are known.
 use Rattle.std.proofs.Common.{◌≡◌, ◌⊎◌, inl, inr, ℕ, ◌&&◌, ◌==◌, Bool, true, false, List, [], ◌∷◌, ◌++◌, Some, option_map, refl, sym, ap, subst, ◌∙◌}
 use Rattle.std.specs.List.{list_any, AllByRecursion}
 use Rattle.std.proofs.lemmas.Bool.{false≢true}
@@ -21,17 +21,16 @@ use Rattle.journal_model.specs.Headline.{former_noted}
 use Rattle.journal_model.proofs.NoteKinds.{of_resent, are, none_of}
 use Rattle.headline_law.proofs.sends.BodyAnswers.{IsBodyOf, other_code}
 use Rattle.headline_law.proofs.sends.PlainSteps.{IsPlain, ArePlain}
-use Rattle.headline_law.proofs.sends.TickSends.{FoundSent, sent_by_found, mid_of_confirmable}
+use Rattle.headline_law.proofs.sends.TickSends.{FoundSent, sent_by-FoundSent, mid_of_confirmable}
 use Rattle.rd_base.proofs.lemmas.Among.{all_among}
 use Rattle.journal_model.proofs.FlightKeys.{key_of}
-use Rattle.headline_law.proofs.flights.Standing.{Waits}
-use Rattle.headline_law.proofs.flights.AgainFacts.{AgainSent, AgainNoted, behind_again, again_waits}
+use Rattle.headline_law.proofs.flights.WaitedPeers.{Waits}
+use Rattle.headline_law.proofs.flights.NoticesAgain.{again_peer, AgainSent, AgainNoted, events_after_again, again_waits}
 use Rattle.headline_law.proofs.flights.TickNotices.{IsNoticeOf, FreshSent, TickSoFar}
-use Rattle.headline_law.proofs.flights.TickFolds.{again_peer}
 use Rattle.headline_law.proofs.flights.KnownFlights.{NoticeOf, FlightKnown, FlightsKnown}
-use Rattle.headline_law.proofs.flights.TickCarries.{Carried, is_used, noted_again, noted_here, stood_before, observer_formed}
+use Rattle.headline_law.proofs.flights.CarriedListings.{Carried, is_used, noted_again, noted_here, stood_before, observer_formed}
 use Rattle.std.proofs.lemmas.Bool.{or_left}
-use Rattle.rd_base.proofs.lemmas.Each.{each_append}
+use Rattle.rd_base.proofs.lemmas.Each.{each_append, each_weaker}
 
 -- a row of a tick: notices, and then requests of fetches that are sent again
 pub record TickRow (rows : List Row) (r : Row) : Type 0 where
@@ -43,7 +42,7 @@ pub record TickRow (rows : List Row) (r : Row) : Type 0 where
   pub so_far : TickSoFar rows r.moment.0 r.step.word notified
   pub plain : ArePlain requests.sent
   pub resent : are of_resent requests.notes ≡ true
-  pub untold : entries (r ∷ rows) ≡ entries rows
+  pub same_entries : entries (r ∷ rows) ≡ entries rows
   pub unused : list_any is_used r.notes ≡ false
   pub known : FlightsKnown rows
 
@@ -55,11 +54,6 @@ requests_none test resent ceased notes h = none_of of_resent test never notes h
     never (note.Resent peer) e = resent peer
     never (note.Ceased peer) e = ceased peer
     never _ e = absurd (false≢true e)
-
--- plain messages have no listing
-pub plain_bodies : (P : Peer × List ℕ → Type 0) → ((d : Peer × List ℕ) → IsPlain d.1 → P d) → (sent : List (Peer × List ℕ)) → ArePlain sent → AllByRecursion P sent
-plain_bodies P h [] plain = tt
-plain_bodies P h (d ∷ sent) plain = (h d plain.0, plain_bodies P h sent plain.1)
 
 -- a notice that is sent again
 again_carried : (rows : List Row) (r : Row) → (t : TickRow rows r) → (d : Peer × List ℕ) → AgainSent rows r.moment.0 d → Carried (record { row = r; before = rows }) d
@@ -77,7 +71,7 @@ again_carried rows r t d a m e listed =
         → IsBodyOf a.observer.token (listing a.observer.query (entries (notice.placed.row ∷ notice.placed.before)) notice.placed.row.moment.0) (tag (entries (notice.placed.row ∷ notice.placed.before)) notice.placed.row.moment.0) x.1
 
     found : FoundSent To a.observer.peer a.flight_is.mid d
-    found = sent_by_found To (row_at a.flight_is.formed.place rows) a.observer.peer a.flight_is.mid d
+    found = sent_by-FoundSent To (row_at a.flight_is.formed.place rows) a.observer.peer a.flight_is.mid d
         (λ x at. subst (λ (y : Row). AllByRecursion To y.sent) (same_Some notice.placed.row x (sym notice.at_place ∙ at)) notice.sent) a.found
 
     again : list_any (is_again_of a.observer.peer a.flight_is.mid) r.notes ≡ true
@@ -86,23 +80,23 @@ again_carried rows r t d a m e listed =
         ∙ or_left (list_any (is_again_of a.observer.peer a.flight_is.mid) t.notified.notes) (list_any (is_again_of a.observer.peer a.flight_is.mid) t.requests.notes)
         (t.so_far.keeps (is_again_of a.observer.peer a.flight_is.mid) a.noted))
 
--- the listing of a row that tells no entry
+-- the listing of a row that notes no entry
 pub as_row : (rows : List Row) (r : Row) (o : Observer) (octets : List ℕ) → entries (r ∷ rows) ≡ entries rows → IsNoticeOf rows r.moment.0 o octets
     → IsBodyOf o.token (listing o.query (entries (r ∷ rows)) r.moment.0) (tag (entries (r ∷ rows)) r.moment.0) octets
-as_row rows r o octets untold h = subst (λ history. IsBodyOf o.token (listing o.query history r.moment.0) (tag history r.moment.0) octets) (sym untold) h
+as_row rows r o octets same_entries h = subst (λ history. IsBodyOf o.token (listing o.query history r.moment.0) (tag history r.moment.0) octets) (sym same_entries) h
 
 -- a new notice
 fresh_carried : (rows : List Row) (r : Row) → (t : TickRow rows r) → (d : Peer × List ℕ) → FreshSent rows r.moment.0 r.step.word d → Carried (record { row = r; before = rows }) d
 fresh_carried rows r t d f m e listed =
     observer_formed (record { row = r; before = rows }) (record { row = r; before = rows }) f.observer d m t.tick (stood_before rows r.moment.0 r.step.word f.observer f.stands) f.of_peer
-    (as_row rows r f.observer d.1 t.untold f.body m e listed)
+    (as_row rows r f.observer d.1 t.same_entries f.body m e listed)
     (noted_here d.0 m.mid r.notes (record { row = r; before = rows }) t.unused none)
   where
     one : (n : Note) → AgainNoted rows r.moment.0 n → is_again_of d.0 m.mid n ≡ false
     one (note.Again p mid) a = by (is_same_peer p d.0) refl
       where
         by : (b : Bool) → is_same_peer p d.0 ≡ b → (is_same_peer p d.0 && mid == m.mid) ≡ false
-        by true same = absurd (f.free (subst (λ q. Waits q (behind_again rows r.moment.0 r.step.word)) (a.of_peer ∙ ((is_same_peer-Decides p d.0).0 same ∙ f.of_peer)) (again_waits rows r.moment.0 r.step.word a.observer a.flight_is a.again)))
+        by true same = absurd (f.free (subst (λ q. Waits q (events_after_again rows r.moment.0 r.step.word)) (a.of_peer ∙ ((is_same_peer-Decides p d.0).0 same ∙ f.of_peer)) (again_waits rows r.moment.0 r.step.word a.observer a.flight_is a.again)))
         by false other = rw other refl
     one _ a = refl
 
@@ -119,13 +113,9 @@ fresh_carried rows r t d f m e listed =
 pub tick_carried : (rows : List Row) (r : Row) → TickRow rows r → AllByRecursion (Carried (record { row = r; before = rows })) r.sent
 tick_carried rows r t =
     subst (AllByRecursion (Carried (record { row = r; before = rows }))) (sym t.sent)
-    (each_append (Carried (record { row = r; before = rows })) t.notified.sent t.requests.sent (each t.notified.sent t.so_far.origins)
-    (plain_bodies (Carried (record { row = r; before = rows })) (λ d plain m e listed. absurd (false≢true (sym (other_code d.1 plain.no_content m e) ∙ listed))) t.requests.sent t.plain))
+    (each_append (Carried (record { row = r; before = rows })) t.notified.sent t.requests.sent (each_weaker (λ (d : Peer × List ℕ). AgainSent rows r.moment.0 d ⊎ FreshSent rows r.moment.0 r.step.word d) (Carried (record { row = r; before = rows })) one t.notified.sent t.so_far.origins)
+    (each_weaker (λ (d : Peer × List ℕ). IsPlain d.1) (Carried (record { row = r; before = rows })) (λ d plain m e listed. absurd (false≢true (sym (other_code d.1 plain.no_content m e) ∙ listed))) t.requests.sent t.plain))
   where
     one : (d : Peer × List ℕ) → AgainSent rows r.moment.0 d ⊎ FreshSent rows r.moment.0 r.step.word d → Carried (record { row = r; before = rows }) d
     one d (inl a) = again_carried rows r t d a
     one d (inr f) = fresh_carried rows r t d f
-
-    each : (ds : List (Peer × List ℕ)) → AllByRecursion (λ (d : Peer × List ℕ). AgainSent rows r.moment.0 d ⊎ FreshSent rows r.moment.0 r.step.word d) ds → AllByRecursion (Carried (record { row = r; before = rows })) ds
-    each [] all = tt
-    each (d ∷ ds) all = (one d all.0, each ds all.1)

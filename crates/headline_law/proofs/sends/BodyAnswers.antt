@@ -1,4 +1,4 @@
--- An answer with a body, as it is read: its payload is a block of the body, and its entity tag the one that it was given.
+-- An answer with a body, as it is read: its payload is a block of the body, and its entity tag the one that it was formed with.
 use Rattle.std.proofs.Common.{◌≡◌, ℕ, ◌/◌, ◌%◌, ◌≤◌, ◌==◌, Bool, true, false, cond, ltb, eqb, List, [], ◌∷◌, ◌++◌, length, Option, Some, None, Result, Ok, refl, sym, ap, subst, ◌∙◌, arith}
 use Rattle.std.proofs.lemmas.Bool.{false≢true}
 use Rattle.std.specs.List.{AllByRecursion}
@@ -26,7 +26,7 @@ use Rattle.journal_model.specs.Bodies.{tag_option, observe_option, block2_option
 use Rattle.journal_model.specs.Headline.{has_listing, Carries, code_at}
 use Rattle.headline_law.proofs.sends.ReadAgain.{AreInOrder, reading_in_order, code_read}
 
--- a message with what a response says
+-- a message with the code, options and payload of a reply
 abbrev pub with_reply : Kind4 → ℕ → List ℕ → Reply → Message
 with_reply kind mid token reply = record { kind = kind; code = reply.code; mid = mid; token = token; options = reply.options; payload = reply.payload }
 
@@ -84,13 +84,13 @@ placed_none number [] none = tt
 placed_none number (o ∷ options) none = (none.0, each_map (λ (p : Placed). (p.1.0 == number) ≡ false) (λ (p : Placed). (o ∷ p.0, p.1)) (placed_options options) (placed_none number options none.1))
 
 -- so they have no value of it, whichever stand before them
-none_picked : (number : ℕ) (places : List Placed) → AllByRecursion (λ (p : Placed). (p.1.0 == number) ≡ false) places
-    → map (λ (o : Opt). o.1) (filter (λ (o : Opt). o.0 == number) (map (λ (p : Placed). p.1) (filter is_recognized_there places))) ≡ []
+none_picked : (number : ℕ) (placed : List Placed) → AllByRecursion (λ (p : Placed). (p.1.0 == number) ≡ false) placed
+    → map (λ (o : Opt). o.1) (filter (λ (o : Opt). o.0 == number) (map (λ (p : Placed). p.1) (filter is_recognized_there placed))) ≡ []
 none_picked number [] none = refl
-none_picked number (p ∷ places) none = by (is_recognized_there p) (none_picked number places none.1)
+none_picked number (p ∷ placed) none = by (is_recognized_there p) (none_picked number placed none.1)
   where
-    by : (b : Bool) → map (λ (o : Opt). o.1) (filter (λ (o : Opt). o.0 == number) (map (λ (q : Placed). q.1) (filter is_recognized_there places))) ≡ []
-        → map (λ (o : Opt). o.1) (filter (λ (o : Opt). o.0 == number) (map (λ (q : Placed). q.1) (cond b (p ∷ filter is_recognized_there places) (filter is_recognized_there places)))) ≡ []
+    by : (b : Bool) → map (λ (o : Opt). o.1) (filter (λ (o : Opt). o.0 == number) (map (λ (q : Placed). q.1) (filter is_recognized_there placed))) ≡ []
+        → map (λ (o : Opt). o.1) (filter (λ (o : Opt). o.0 == number) (map (λ (q : Placed). q.1) (cond b (p ∷ filter is_recognized_there placed) (filter is_recognized_there placed)))) ≡ []
     by true rest = rw none.0 rest
     by false rest = rest
 
@@ -132,7 +132,7 @@ tagged : (kind : Kind4) (mid : ℕ) (token tag : List ℕ) (observe : Option ℕ
     → etags_in (with_reply kind mid token (part_of (Some tag) observe asked part)) ≡ tag ∷ []
 tagged kind mid token tag observe asked part short = values_tag tag _ short (others_none observe (answered_block asked part.1))
 
--- it has none where it was given none
+-- it has none where it was formed with none
 untagged : (kind : Kind4) (mid : ℕ) (token : List ℕ) (observe : Option ℕ) (asked : Option Block) (part : List ℕ × Bool)
     → etags_in (with_reply kind mid token (part_of None observe asked part)) ≡ []
 untagged kind mid token observe asked part = values_none table.etag _ (others_none observe (answered_block asked part.1))
@@ -170,7 +170,7 @@ unfolding tag_from
 tag-length history moment = refl
 
 -- what is spelled and read again is the message
-same_message : (m n : Message) (octets : List ℕ) → reading octets ≡ Ok m → reading octets ≡ Ok n → m ≡ n
+pub same_message : (m n : Message) (octets : List ℕ) → reading octets ≡ Ok m → reading octets ≡ Ok n → m ≡ n
 same_message m n octets e f = let both : ◌≡◌ {A = Result Message Unread} (Ok m) (Ok n) = sym e ∙ f in cc
 
 -- an answer with a block of a body bears it

@@ -56,68 +56,68 @@ pub keep_bears : (s : Step) (m : Message) (body tag : List ℕ) → length m.tok
 unfolding keep_effects answering
 keep_bears s m body tag small short = (body_bears (answer_kind m.kind) (answer_mid s m m.kind) m.token tag None (asked_block m) body small short, tt)
 
--- the note tells of a body that was formed earlier
-abbrev pub tells_earlier : Note → Bool
-tells_earlier (note.Used peer key) = true
-tells_earlier (note.Again peer mid) = true
-tells_earlier _ = false
+-- the note names an earlier row: what was formed there is sent now
+abbrev pub names_earlier_row : Note → Bool
+names_earlier_row (note.Used peer key) = true
+names_earlier_row (note.Again peer mid) = true
+names_earlier_row _ = false
 
 -- what a lookup sends: of the listing now, or of the kept answer, which it then uses
-pub data LookupGives (rows : List Row) (moment : ℕ) (s : Step) (m : Message) (e : Effects) : Type 0 where
-  now : list_any tells_earlier e.notes ≡ false → AreListings m (entries rows) moment e.sent → LookupGives rows moment s m e
+pub data LookupOutcome (rows : List Row) (moment : ℕ) (s : Step) (m : Message) (e : Effects) : Type 0 where
+  now : list_any names_earlier_row e.notes ≡ false → AreListings m (entries rows) moment e.sent → LookupOutcome rows moment s m e
   kept : (answer : Answer) → kept_answer moment (s.peer, key_in m) (events rows) ≡ Some answer → e.notes ≡ note.Used s.peer (key_in m) ∷ []
-      → (length answer.tag ≡ 8 → AreBodiesOf m.token answer.body answer.tag e.sent) → LookupGives rows moment s m e
+      → (length answer.tag ≡ 8 → AreBodiesOf m.token answer.body answer.tag e.sent) → LookupOutcome rows moment s m e
 
 -- so it is of each lookup that the journal takes part in
-pub lookup_gives : (rows : List Row) (moment : ℕ) (s : Step) (m : Message) → length m.token ≤ longest_token → LookupGives rows moment s m (lookup_effects rows moment s m)
+pub lookup_outcome : (rows : List Row) (moment : ℕ) (s : Step) (m : Message) → length m.token ≤ longest_token → LookupOutcome rows moment s m (lookup_effects rows moment s m)
 unfolding lookup_effects later_block observed unobserved answering
-lookup_gives rows moment s m small = by (is_later_block m)
+lookup_outcome rows moment s m small = by (is_later_block m)
   where
     now_block : (part : Option (List ℕ × Bool)) → block_of (listing (query_of m) (entries rows) moment) (number_of (asked_block m)) (szx_of (asked_block m)) ≡ part
-        → LookupGives rows moment s m (block_now s m (listing_now rows moment m) part)
+        → LookupOutcome rows moment s m (block_now s m (listing_now rows moment m) part)
     now_block None cut = now refl
         (part_bears (answer_kind m.kind) (answer_mid s m m.kind) m.token (tag (entries rows) moment) None (asked_block m) (listing (query_of m) (entries rows) moment) _ _ None small (tag-length (entries rows) moment) cut, tt)
     now_block (Some part) cut = now refl
         (part_bears (answer_kind m.kind) (answer_mid s m m.kind) m.token (tag (entries rows) moment) None (asked_block m) (listing (query_of m) (entries rows) moment) _ _ (Some part) small (tag-length (entries rows) moment) cut, tt)
 
-    later : (found : Option Answer) → kept_answer moment (s.peer, key_in m) (events rows) ≡ found → LookupGives rows moment s m (block_of_kept s m (listing_now rows moment m) found)
+    later : (found : Option Answer) → kept_answer moment (s.peer, key_in m) (events rows) ≡ found → LookupOutcome rows moment s m (block_of_kept s m (listing_now rows moment m) found)
     later (Some answer) e = kept answer e refl (λ short. (body_bears (answer_kind m.kind) (answer_mid s m m.kind) m.token answer.tag None (asked_block m) answer.body small short, tt))
     later None e = now_block (block_of (listing (query_of m) (entries rows) moment) (number_of (asked_block m)) (szx_of (asked_block m))) refl
 
-    removed : (b : Bool) (peer : Peer) (token : List ℕ) → list_any tells_earlier (cond b (note.Unwatched peer token ∷ []) []) ≡ false
+    removed : (b : Bool) (peer : Peer) (token : List ℕ) → list_any names_earlier_row (cond b (note.Unwatched peer token ∷ []) []) ≡ false
     removed true peer token = refl
     removed false peer token = refl
 
-    keeps : (b : Bool) (a : Answer) → list_any tells_earlier (cond b (note.Kept s.peer (key_in m) a.body a.tag ∷ []) []) ≡ false
+    keeps : (b : Bool) (a : Answer) → list_any names_earlier_row (cond b (note.Kept s.peer (key_in m) a.body a.tag ∷ []) []) ≡ false
     keeps true a = refl
     keeps false a = refl
 
-    ends : list_any tells_earlier (removal (s.peer, m.token) (observers (events rows))) ≡ false
+    ends : list_any names_earlier_row (removal (s.peer, m.token) (observers (events rows))) ≡ false
     ends = removed (is_observer (s.peer, m.token) (observers (events rows))) s.peer m.token
 
-    keeping_now : list_any tells_earlier (keeping s m (listing_now rows moment m)) ≡ false
+    keeping_now : list_any names_earlier_row (keeping s m (listing_now rows moment m)) ≡ false
     keeping_now = keeps (is_long (asked_block m) (listing_now rows moment m).body) (listing_now rows moment m)
 
-    added : (b : Bool) → LookupGives rows moment s m (observed_if b rows s m (listing_now rows moment m))
+    added : (b : Bool) → LookupOutcome rows moment s m (observed_if b rows s m (listing_now rows moment m))
     added true = now
-        (list_any-append tells_earlier (removal (s.peer, m.token) (observers (events rows))) _ ∙ rw (ends, keeping_now) refl)
+        (list_any-append names_earlier_row (removal (s.peer, m.token) (observers (events rows))) _ ∙ rw (ends, keeping_now) refl)
         (body_bears (answer_kind m.kind) (answer_mid s m m.kind) m.token (tag (entries rows) moment) (Some (observe_value (events rows))) (asked_block m) (listing (query_of m) (entries rows) moment) small (tag-length (entries rows) moment), tt)
     added false = now
-        (list_any-append tells_earlier (removal (s.peer, m.token) (observers (events rows))) _ ∙ rw (ends, keeping_now) refl)
+        (list_any-append names_earlier_row (removal (s.peer, m.token) (observers (events rows))) _ ∙ rw (ends, keeping_now) refl)
         (body_bears (answer_kind m.kind) (answer_mid s m m.kind) m.token (tag (entries rows) moment) None (asked_block m) (listing (query_of m) (entries rows) moment) small (tag-length (entries rows) moment), tt)
 
-    only_looked : LookupGives rows moment s m (look_effects (entries rows) moment s m)
-    only_looked = now (ap (list_any tells_earlier) (look_effects-notes (entries rows) moment s m)) (look_lists (entries rows) moment s m small)
+    only_looked : LookupOutcome rows moment s m (look_effects (entries rows) moment s m)
+    only_looked = now (ap (list_any names_earlier_row) (look_effects-notes (entries rows) moment s m)) (look_lists (entries rows) moment s m small)
 
-    valued : (b c : Bool) → LookupGives rows moment s m (observed_by b c rows moment s m)
+    valued : (b c : Bool) → LookupOutcome rows moment s m (observed_by b c rows moment s m)
     valued true c = added (has_room_for (query_of m) (without (s.peer, m.token) (observers (events rows))))
     valued false true = added false
     valued false false = only_looked
 
-    observe : (o : Option ℕ) → LookupGives rows moment s m (by_observe o rows moment s m)
+    observe : (o : Option ℕ) → LookupOutcome rows moment s m (by_observe o rows moment s m)
     observe None = only_looked
     observe (Some value) = valued (value == register) (value == deregister)
 
-    by : (b : Bool) → LookupGives rows moment s m (by_block b rows moment s m)
+    by : (b : Bool) → LookupOutcome rows moment s m (by_block b rows moment s m)
     by true = later (kept_answer moment (s.peer, key_in m) (events rows)) refl
     by false = observe (observe_in m)

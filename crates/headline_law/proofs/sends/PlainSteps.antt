@@ -39,7 +39,6 @@ use Rattle.journal_model.specs.Writes.{again_answered, admitted_unless, write_un
 use Rattle.journal_model.specs.Rows.{refusal_answered, without_memory, unread_answered}
 use Rattle.journal_model.specs.Headline.{code_at}
 use Rattle.journal_model.proofs.NoteKinds.{are}
-use Rattle.rd_base.proofs.lemmas.Each.{each_append}
 
 -- a code is neither 2.05 nor 2.03
 pub record IsPlainCode (code : ℕ) : Type 0 where
@@ -106,7 +105,7 @@ refused_plain Con bad s m reply plain = plain_answering s m reply [] plain
 refused_plain Ack bad s m reply plain = plain_answering s m reply [] plain
 refused_plain Rst bad s m reply plain = plain_answering s m reply [] plain
 
--- 5.00 for want of memory
+-- 5.00 when out of memory
 pub starved_plain : (s : Step) (m : Message) → ArePlain (without_memory s m).sent
 starved_plain s m = plain_answering s m (bare codes_of.internal_server_error) [] (record { no_content = refl; no_valid = refl })
 
@@ -122,7 +121,7 @@ unread_plain s (unread.Format Rst mid) = tt
 
 -- ---- writes
 
--- the octets that an admission was answered by
+-- the octets that an admission was answered with
 abbrev pub SettledPlain : List Event → Type 0
 SettledPlain events = (place : ℕ) (octets : List ℕ) → settled place events ≡ Some octets → IsPlain octets
 
@@ -185,16 +184,16 @@ registering_plain rows moment s m = by (sent_block m)
     unless false true b body = record { no_content = refl; no_valid = refl }
     unless false false b body = taken b.more b body
 
-    behind : (front upload : Option (List ℕ)) (b : Block) → IsPlainCode (block_behind front upload rows moment s m b).reply.code
-    behind None upload b = record { no_content = refl; no_valid = refl }
-    behind (Some front) upload b =
+    after : (front upload : Option (List ℕ)) (b : Block) → IsPlainCode (block_behind front upload rows moment s m b).reply.code
+    after None upload b = record { no_content = refl; no_valid = refl }
+    after (Some front) upload b =
         unless (nat_lt max_body (length front + length m.payload)) (is_one_too_many b upload (live_uploads moment (events rows))) b (front ++ m.payload)
 
     by : (b : Option Block) → IsPlainCode (registered_by b rows moment s m).reply.code
     by None = registration_plain (entries rows) moment s (registration_values (queries_in m)) m.payload [] []
     by (Some b) =
         let upload : Option (List ℕ) = live_upload moment (s.peer, key_in m) (events rows) in
-        behind (collected_before b upload) upload b
+        after (collected_before b upload) upload b
 
 -- what notes settle is so
 abbrev pub SettlesPlainly : Note → Type 0

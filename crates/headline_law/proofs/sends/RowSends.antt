@@ -4,8 +4,6 @@ use Rattle.std.specs.List.{AllByRecursion}
 use Rattle.std.proofs.lemmas.Bool.{false≢true, and_parts}
 use Rattle.rd_base.specs.declared.peers.Peer.{Peer}
 use Rattle.rd_base.specs.declared.parameters.RegParams.{RegParams}
-use Rattle.message_model.specs.declared.messages.Kind4.{Kind4}
-use Rattle.message_model.specs.declared.messages.Kind4.TheVariants.{Con, Non, Ack, Rst}
 use Rattle.message_model.specs.declared.messages.Role.{Role}
 use Rattle.message_model.specs.declared.messages.Role.TheVariants as role
 use Rattle.message_model.specs.declared.messages.Unread.{Unread}
@@ -34,18 +32,18 @@ use Rattle.journal_model.specs.Lookups.{lookup_effects}
 use Rattle.journal_model.specs.Writes.{write_effects}
 use Rattle.journal_model.specs.Empties.{acknowledged, reset}
 use Rattle.journal_model.specs.Responses.{response_effects}
-use Rattle.journal_model.specs.Rows.{served, refusal_answered, request_by, without_memory, by_role, heard, looked, done, kept_body, effects}
+use Rattle.journal_model.specs.Rows.{served, request_by, without_memory, by_role, heard, looked, done, kept_body, effects}
 use Rattle.journal_model.specs.Machine.{is_look_message, is_look_reading}
 use Rattle.journal_model.proofs.NoteKinds.{of_lookup, of_write, of_empty, of_tick, of_response, are}
 use Rattle.journal_model.proofs.StepNotes.{look_effects-notes, keep_effects-notes, lookup_effects-notes, write_effects-notes, acknowledged-notes, reset-notes, tick_effects-notes}
-use Rattle.headline_law.proofs.notes.ChangingNotes.{response_effects-notes}
-use Rattle.headline_law.proofs.entries.Admitting.{unread_notes}
+use Rattle.headline_law.proofs.notes.ChangeNotes.{response_effects-notes}
+use Rattle.headline_law.proofs.notes.SilentSteps.{refusal_notes, unread_notes}
 use Rattle.headline_law.proofs.sends.PlainSteps.{IsPlain, ArePlain, SettledPlain, SettlesPlainly, refusal_plain, refused_plain, starved_plain, unread_plain, write_plain, never_settles}
 use Rattle.headline_law.proofs.sends.PlainCommits.{commit_plain, response_plain}
-use Rattle.headline_law.proofs.sends.ValidSends.{NoneValid, AreCalm, none_calm, look_calm, keep_not_valid, lookup_not_valid}
-use Rattle.headline_law.proofs.sends.TickSends.{AskedPlain, CalmAt, plain_not_valid, tick_not_valid}
+use Rattle.headline_law.proofs.sends.ValidSends.{NoneValid, NoConfirmableValid, no_confirmable_valid, look_no_confirmable_valid, keep_not_valid, lookup_not_valid}
+use Rattle.headline_law.proofs.sends.TickSends.{AskedPlain, NoConfirmableValidAt, plain_not_valid, tick_not_valid}
 
--- what a note says of octets: those that it settles, and those that its row sent where it asks for a block
+-- what holds of the octets that a note settles, and of those that its row sent where it asks for a block
 abbrev pub NoteFact : List (Peer × List ℕ) → Note → Type 0
 NoteFact sent (note.Settled place octets) = IsPlain octets
 NoteFact sent (note.Asked peer token mid params number) = ArePlain sent
@@ -87,7 +85,7 @@ bare_sends sent notes plain none = plain_sends sent notes plain (subst (AllByRec
 pub record Before (rows : List Row) : Type 0 where
   pub settled : SettledPlain (events rows)
   pub asked : AskedPlain rows
-  pub calm : CalmAt rows
+  pub confirmables : NoConfirmableValidAt rows
 
 -- a request that is heard, and is no look
 request_sends : (rows : List Row) (moment : ℕ) (s : Step) (m : Message) → Before rows → is_look_request m ≡ false
@@ -95,13 +93,6 @@ request_sends : (rows : List Row) (moment : ℕ) (s : Step) (m : Message) → Be
 unfolding served answering is_look_request
 request_sends rows moment s m past other = by (refusal_by_request m) refl
   where
-    noted : (k : Kind4) (bad : Option ℕ) (reply : Reply) → (refusal_answered k bad s m reply).notes ≡ []
-    noted Non (Some number) reply = refl
-    noted Non None reply = refl
-    noted Con bad reply = refl
-    noted Ack bad reply = refl
-    noted Rst bad reply = refl
-
     not_only : refusal_by_request m ≡ None → only_looks m ≡ false
     not_only none = sym (rw none refl) ∙ other
 
@@ -125,7 +116,7 @@ request_sends rows moment s m past other = by (refusal_by_request m) refl
     on path.Other is looks = record { none_valid = tt; facts = tt }
 
     by : (refusal : Option Reply) → refusal_by_request m ≡ refusal → Sends (request_by refusal rows moment s m).sent (request_by refusal rows moment s m).notes
-    by (Some refusal) e = bare_sends _ _ (refused_plain m.kind (first_bad_option m.options) s m refusal (refusal_plain m refusal e)) (noted m.kind (first_bad_option m.options) refusal)
+    by (Some refusal) e = bare_sends _ _ (refused_plain m.kind (first_bad_option m.options) s m refusal (refusal_plain m refusal e)) (refusal_notes m.kind (first_bad_option m.options) s m refusal)
     by None e = on (path_in m) refl (not_only e)
 
 -- a message that is heard, and is no look
@@ -171,13 +162,13 @@ kept_sends false s (Ok m) body tag =
 
 -- what any step sends and notes: a look notes nothing
 pub record StepSends (kind : StepKind) (sent : List (Peer × List ℕ)) (notes : List Note) : Type 0 where
-  pub calm : AreCalm sent
+  pub confirmables : NoConfirmableValid sent
   pub others : is_look kind ≡ false → NoneValid sent
   pub facts : AllByRecursion (NoteFact sent) notes
 
 -- where it is no look that sends 2.03
 of_sends : (kind : StepKind) (sent : List (Peer × List ℕ)) (notes : List Note) → Sends sent notes → StepSends kind sent notes
-of_sends kind sent notes h = record { calm = none_calm sent h.none_valid; others = λ _. h.none_valid; facts = h.facts }
+of_sends kind sent notes h = record { confirmables = no_confirmable_valid sent h.none_valid; others = λ _. h.none_valid; facts = h.facts }
 
 -- so it is of any step
 pub effects_send : (kind : StepKind) (starved : Bool) (rows : List Row) (moment : ℕ) (s : Step) → Before rows → (kind ≡ step.Admit → is_look_reading (reading s.datagram) ≡ false)
@@ -188,10 +179,10 @@ effects_send step.Admit starved rows moment s past admits =
 effects_send step.Look starved rows moment s past admits = by starved (reading s.datagram)
   where
     by : (b : Bool) (read : Result Message Unread) → StepSends step.Look (looked b rows moment s read).sent (looked b rows moment s read).notes
-    by b (Err fault) = record { calm = tt; others = λ e. absurd (false≢true (sym e)); facts = tt }
-    by true (Ok m) = record { calm = none_calm (without_memory s m).sent (plain_not_valid (without_memory s m).sent (starved_plain s m)); others = λ e. absurd (false≢true (sym e)); facts = tt }
+    by b (Err fault) = record { confirmables = tt; others = λ e. absurd (false≢true (sym e)); facts = tt }
+    by true (Ok m) = record { confirmables = no_confirmable_valid (without_memory s m).sent (plain_not_valid (without_memory s m).sent (starved_plain s m)); others = λ e. absurd (false≢true (sym e)); facts = tt }
     by false (Ok m) = record {
-      calm = look_calm (entries rows) moment s m;
+      confirmables = look_no_confirmable_valid (entries rows) moment s m;
       others = λ e. absurd (false≢true (sym e));
       facts = subst (AllByRecursion (NoteFact (look_effects (entries rows) moment s m).sent)) (sym (look_effects-notes (entries rows) moment s m)) tt;
     }
@@ -202,4 +193,4 @@ effects_send (step.Keep body tag) starved rows moment s past admits =
 effects_send step.Tick starved rows moment s past admits =
     of_sends step.Tick (tick_effects starved rows moment s).sent (tick_effects starved rows moment s).notes
     (quiet_sends of_tick (λ place octets. refl) (λ peer token mid params number. refl) (tick_effects starved rows moment s).sent (tick_effects starved rows moment s).notes
-    (tick_not_valid starved rows moment s past.calm past.asked) (tick_effects-notes starved rows moment s))
+    (tick_not_valid starved rows moment s past.confirmables past.asked) (tick_effects-notes starved rows moment s))

@@ -1,7 +1,7 @@
 -- What a tick sends again: requests of fetches, and confirmable messages of earlier rows; so no tick sends 2.03.
-use Rattle.std.proofs.Common.{◌≡◌, ℕ, ◌+◌, ◌*◌, ◌/◌, ◌==◌, ◌||◌, ◌&&◌, Bool, true, false, cond, List, [], ◌∷◌, length, fold, Option, Some, None, refl, subst, ◌∙◌, nat_le, eqb-true}
+use Rattle.std.proofs.Common.{◌≡◌, ℕ, ◌+◌, ◌*◌, ◌/◌, ◌==◌, ◌||◌, ◌&&◌, Bool, true, false, List, [], ◌∷◌, length, fold, Option, Some, None, refl, subst, ◌∙◌, nat_le, eqb-true}
 use Rattle.std.specs.List.{AllByRecursion}
-use Rattle.std.specs.Prelude.{find, Ok}
+use Rattle.std.specs.Prelude.{Ok}
 use Rattle.std.proofs.lemmas.Bool.{false≢true, and_parts}
 use Rattle.rd_base.specs.declared.peers.Peer.{Peer}
 use Rattle.message_model.specs.Message.{Message}
@@ -23,17 +23,9 @@ use Rattle.journal_model.specs.Sending.{Effects}
 use Rattle.journal_model.specs.Ticks.{is_confirmable_with, sent_by, sent_again, each_of, notice_again, flight_again, notices_again, Ticking, ticking, events_with, block_told, noticed_unless, listing_for, is_given, noticed_if, is_looked_at, notice_next, notices, request_again, fetch_again, requests_again, tick_effects}
 use Rattle.headline_law.proofs.sends.ReadAgain.{header_read}
 use Rattle.headline_law.proofs.sends.PlainSteps.{IsPlain, ArePlain}
-use Rattle.headline_law.proofs.sends.ValidSends.{NotValid, NoneValid, is_confirmable, AreCalm, body_code}
+use Rattle.headline_law.proofs.sends.ValidSends.{NotValid, NoneValid, is_confirmable, NoConfirmableValid, body_code}
 use Rattle.rd_base.proofs.lemmas.Each.{each_append}
-
--- the first that passes a test
-pub found_passes : {X : Type 0} (P : X → Type 0) (test : X → Bool) (xs : List X) (x : X) → AllByRecursion P xs → find test xs ≡ Some x → P x × (test x ≡ true)
-found_passes P test [] x all found = absurd (let no : None ≡ Some x = found in cc)
-found_passes P test (y ∷ xs) x all found = by (test y) refl found (λ h. found_passes P test xs x all.1 h)
-  where
-    by : (b : Bool) → test y ≡ b → cond b (Some y) (find test xs) ≡ Some x → (find test xs ≡ Some x → P x × (test x ≡ true)) → P x × (test x ≡ true)
-    by true good h more = let same : y ≡ x = cc in subst (λ z. P z × (test z ≡ true)) same (all.0, good)
-    by false bad h more = more h
+use Rattle.rd_base.proofs.lemmas.Among.{find_passes}
 
 -- what is found to be sent again
 pub record FoundSent (P : Peer × List ℕ → Type 0) (peer : Peer) (mid : ℕ) (d : Peer × List ℕ) : Type 0 where
@@ -42,11 +34,11 @@ pub record FoundSent (P : Peer × List ℕ → Type 0) (peer : Peer) (mid : ℕ)
   pub confirmable : is_confirmable_with mid d.1 ≡ true
 
 -- so it is of whatever is found
-pub sent_by_found : (P : Peer × List ℕ → Type 0) (at : Option Row) (peer : Peer) (mid : ℕ) (d : Peer × List ℕ) → ((r : Row) → at ≡ Some r → AllByRecursion P r.sent)
+pub sent_by-FoundSent : (P : Peer × List ℕ → Type 0) (at : Option Row) (peer : Peer) (mid : ℕ) (d : Peer × List ℕ) → ((r : Row) → at ≡ Some r → AllByRecursion P r.sent)
     → sent_by at peer mid ≡ Some d → FoundSent P peer mid d
-sent_by_found P None peer mid d all found = absurd (let no : None ≡ Some d = found in cc)
-sent_by_found P (Some r) peer mid d all found =
-    let it = found_passes P (λ x. is_same_peer x.0 peer && is_confirmable_with mid x.1) r.sent d (all r refl) found in
+sent_by-FoundSent P None peer mid d all found = absurd (let no : None ≡ Some d = found in cc)
+sent_by-FoundSent P (Some r) peer mid d all found =
+    let it = find_passes P (λ x. is_same_peer x.0 peer && is_confirmable_with mid x.1) r.sent d (all r refl) found in
     let both = and_parts (is_same_peer d.0 peer) (is_confirmable_with mid d.1) it.1 in
     record { holds = it.0; to_peer = both.0; confirmable = both.1 }
 
@@ -93,7 +85,7 @@ requests_plain rows moment asked =
     again true true peer e (Some request) last noted = tt
     again true false peer e (Some request) last noted =
         again_sent (λ (d : Peer × List ℕ). IsPlain d.1) (sent_by (row_at e.place rows) peer request.mid) (note.Resent peer)
-        (λ d found. (sent_by_found (λ (x : Peer × List ℕ). IsPlain x.1) (row_at e.place rows) peer request.mid d (λ r at. asked peer e request r last noted at) found).holds)
+        (λ d found. (sent_by-FoundSent (λ (x : Peer × List ℕ). IsPlain x.1) (row_at e.place rows) peer request.mid d (λ r at. asked peer e request r last noted at) found).holds)
 
     running : (peer : Peer) (e : Option Event) → last_request peer (events rows) ≡ e → ArePlain (fetch_again rows moment peer e).sent
     running peer None last = tt
@@ -107,13 +99,13 @@ requests_plain rows moment asked =
 -- ---- 2.03
 
 -- no row sends a confirmable 2.03
-abbrev pub CalmAt : List Row → Type 0
-CalmAt rows = (place : ℕ) (r : Row) → row_at place rows ≡ Some r → AreCalm r.sent
+abbrev pub NoConfirmableValidAt : List Row → Type 0
+NoConfirmableValidAt rows = (place : ℕ) (r : Row) → row_at place rows ≡ Some r → NoConfirmableValid r.sent
 
 -- so no notice that is sent again has this code
-again_not_valid : (rows : List Row) (moment : ℕ) → CalmAt rows → NoneValid (notices_again rows moment).sent
+again_not_valid : (rows : List Row) (moment : ℕ) → NoConfirmableValidAt rows → NoneValid (notices_again rows moment).sent
 unfolding notices_again
-again_not_valid rows moment calm =
+again_not_valid rows moment confirmables =
     each_of_sent (λ (d : Peer × List ℕ). NotValid d.1) (λ o. flight_again rows moment o (flight o (events rows))) (observers (events rows)) (each (observers (events rows)))
   where
     again : (b c : Bool) (o : Observer) (f : Flight) → NoneValid (notice_again b c rows o f).sent
@@ -121,7 +113,7 @@ again_not_valid rows moment calm =
     again true true o f = tt
     again true false o f =
         again_sent (λ (d : Peer × List ℕ). NotValid d.1) (sent_by (row_at f.formed.place rows) o.peer f.mid) (note.Again o.peer f.mid)
-        (λ d found. let it = sent_by_found (λ (x : Peer × List ℕ). is_confirmable x.1 ≡ true → NotValid x.1) (row_at f.formed.place rows) o.peer f.mid d (λ r at. calm f.formed.place r at) found in
+        (λ d found. let it = sent_by-FoundSent (λ (x : Peer × List ℕ). is_confirmable x.1 ≡ true → NotValid x.1) (row_at f.formed.place rows) o.peer f.mid d (λ r at. confirmables f.formed.place r at) found in
         it.holds (confirmable_of f.mid d.1 it.confirmable))
 
     flying : (o : Observer) (f : Option Flight) → NoneValid (flight_again rows moment o f).sent
@@ -157,12 +149,12 @@ plain_not_valid [] h = tt
 plain_not_valid (d ∷ sent) h = (h.0.no_valid, plain_not_valid sent h.1)
 
 -- no tick sends 2.03
-pub tick_not_valid : (starved : Bool) (rows : List Row) (moment : ℕ) (s : Step) → CalmAt rows → AskedPlain rows → NoneValid (tick_effects starved rows moment s).sent
+pub tick_not_valid : (starved : Bool) (rows : List Row) (moment : ℕ) (s : Step) → NoConfirmableValidAt rows → AskedPlain rows → NoneValid (tick_effects starved rows moment s).sent
 unfolding tick_effects
-tick_not_valid true rows moment s calm asked =
-    each_append (λ (d : Peer × List ℕ). NotValid d.1) (notices_again rows moment).sent (requests_again rows moment).sent (again_not_valid rows moment calm)
+tick_not_valid true rows moment s confirmables asked =
+    each_append (λ (d : Peer × List ℕ). NotValid d.1) (notices_again rows moment).sent (requests_again rows moment).sent (again_not_valid rows moment confirmables)
     (plain_not_valid (requests_again rows moment).sent (requests_plain rows moment asked))
-tick_not_valid false rows moment s calm asked =
+tick_not_valid false rows moment s confirmables asked =
     each_append (λ (d : Peer × List ℕ). NotValid d.1) (notices (ticking rows moment s) (notices_again rows moment)).sent (requests_again rows moment).sent
-    (notices_not_valid (ticking rows moment s) (notices_again rows moment) (again_not_valid rows moment calm))
+    (notices_not_valid (ticking rows moment s) (notices_again rows moment) (again_not_valid rows moment confirmables))
     (plain_not_valid (requests_again rows moment).sent (requests_plain rows moment asked))

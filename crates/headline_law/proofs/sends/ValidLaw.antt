@@ -1,4 +1,4 @@
--- 2.03 is given exactly where a look names the tag at its own row.
+-- 2.03 is sent exactly where a look names the tag at its own row.
 use Rattle.std.proofs.Common.{◌≡◌, ℕ, ◌==◌, ◌&&◌, Bool, true, false, cond, List, [], ◌∷◌, length, Some, None, Result, Ok, Err, refl, sym, ap, subst, ◌∙◌}
 use Rattle.std.specs.Prelude.{is_none, is_some}
 use Rattle.std.proofs.lemmas.Bool.{false≢true, and_parts}
@@ -28,7 +28,7 @@ use Rattle.journal_model.specs.Headline.{Within, code_sent, looks_with_tag}
 use Rattle.headline_law.proofs.entries.JournalLaws.{Made, each_row}
 use Rattle.journal_model.proofs.Jobs.{heard_by_hearing, heard_no_look, heard_a_look}
 use Rattle.headline_law.proofs.sends.PlainSteps.{IsPlain, ArePlain, SettledPlain}
-use Rattle.headline_law.proofs.sends.ValidSends.{NoneValid, AreCalm, look_valid, looks_either}
+use Rattle.headline_law.proofs.sends.ValidSends.{NoneValid, NoConfirmableValid, look_valid, looks_either}
 use Rattle.journal_model.proofs.EventRows.{AllRows, RowOf, row_of, row_within, said_by}
 use Rattle.headline_law.proofs.sends.TickSends.{AskedPlain}
 use Rattle.headline_law.proofs.sends.RowSends.{NoteFact, Before, StepSends, effects_send}
@@ -41,19 +41,19 @@ abbrev pub RowSends : List Row → Row → Type 0
 RowSends before r = StepSends r.step.kind r.sent r.notes
 
 -- no row at a place sends a confirmable 2.03
-calm_in : (rows : List Row) (place : ℕ) (r : Row) → AllRows RowSends rows → row_at place rows ≡ Some r → AreCalm r.sent
+no_confirmable_valid_in : (rows : List Row) (place : ℕ) (r : Row) → AllRows RowSends rows → row_at place rows ≡ Some r → NoConfirmableValid r.sent
 unfolding row_at
-calm_in [] place r all at = absurd (let no : None ≡ Some r = at in cc)
-calm_in (x ∷ before) place r all at = by (place == length before) at (λ h. calm_in before place r all.1 h)
+no_confirmable_valid_in [] place r all at = absurd (let no : None ≡ Some r = at in cc)
+no_confirmable_valid_in (x ∷ before) place r all at = by (place == length before) at (λ h. no_confirmable_valid_in before place r all.1 h)
   where
-    by : (b : Bool) → cond b (Some x) (row_at place before) ≡ Some r → (row_at place before ≡ Some r → AreCalm r.sent) → AreCalm r.sent
-    by true h more = subst (λ (y : Row). AreCalm y.sent) (same_Some x r h) all.0.calm
+    by : (b : Bool) → cond b (Some x) (row_at place before) ≡ Some r → (row_at place before ≡ Some r → NoConfirmableValid r.sent) → NoConfirmableValid r.sent
+    by true h more = subst (λ (y : Row). NoConfirmableValid y.sent) (same_Some x r h) all.0.confirmables
     by false h more = more h
 
 -- what is known of all rows is known of those that are looked back at
 pub before_all : (rows : List Row) → AllRows RowSends rows → Before rows
 unfolding settled
-before_all rows all = record { settled = settled_plain; asked = asked_plain; calm = λ place r at. calm_in rows place r all at }
+before_all rows all = record { settled = settled_plain; asked = asked_plain; confirmables = λ place r at. no_confirmable_valid_in rows place r all at }
   where
     fact : (test : Note → Bool) (e : Event) → (it : RowOf test rows e) → NoteFact it.placed.row.sent e.note
     fact test e it = all_among (NoteFact it.placed.row.sent) e.note it.placed.row.notes (row_within RowSends rows it.placed.before it.placed.row all it.within).facts it.note
@@ -149,7 +149,7 @@ row_is_valid rows s may sends = by s.kind refl sends.others
     by (step.Keep body current) is others = first_not_valid _ (others refl)
     by step.Tick is others = first_not_valid _ (others refl)
 
--- 2.03 is given exactly where a look names the tag at its own row
+-- 2.03 is sent exactly where a look names the tag at its own row
 pub looks_are_validated : (rows before : List Row) (r : Row) → IsJournal rows → Within rows before r → r.starved ≡ false
     → (code_sent r.sent == codes_of.valid) ≡ (is_look r.step.kind && looks_with_tag (tag (entries before) r.moment.0) (reading r.step.datagram))
 unfolding row

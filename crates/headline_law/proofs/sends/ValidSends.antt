@@ -43,13 +43,13 @@ is_confirmable [] = false
 is_confirmable (first ∷ others) = first / 16 == 4
 
 -- whatever is confirmable has another code
-abbrev pub AreCalm : List (Peer × List ℕ) → Type 0
-AreCalm sent = AllByRecursion (λ (d : Peer × List ℕ). is_confirmable d.1 ≡ true → NotValid d.1) sent
+abbrev pub NoConfirmableValid : List (Peer × List ℕ) → Type 0
+NoConfirmableValid sent = AllByRecursion (λ (d : Peer × List ℕ). is_confirmable d.1 ≡ true → NotValid d.1) sent
 
 -- it is so where nothing has this code
-pub none_calm : (sent : List (Peer × List ℕ)) → NoneValid sent → AreCalm sent
-none_calm [] h = tt
-none_calm (d ∷ sent) h = ((λ _. h.0), none_calm sent h.1)
+pub no_confirmable_valid : (sent : List (Peer × List ℕ)) → NoneValid sent → NoConfirmableValid sent
+no_confirmable_valid [] h = tt
+no_confirmable_valid (d ∷ sent) h = ((λ _. h.0), no_confirmable_valid sent h.1)
 
 -- no answer is confirmable
 answer_apart : (kind : Kind4) (n : ℕ) → ((1 * 64 + kind_number (answer_kind kind) * 16 + n) / 16 == 4) ≡ false
@@ -66,22 +66,22 @@ answers_apart s m reply = answer_apart m.kind (length m.token)
 -- ---- looks
 
 -- so no look sends a confirmable 2.03
-pub look_calm : (history : List Entry) (moment : ℕ) (s : Step) (m : Message) → AreCalm (look_effects history moment s m).sent
+pub look_no_confirmable_valid : (history : List Entry) (moment : ℕ) (s : Step) (m : Message) → NoConfirmableValid (look_effects history moment s m).sent
 unfolding look_effects answering
-look_calm history moment s m = by (is_discovery (path_in m))
+look_no_confirmable_valid history moment s m = by (is_discovery (path_in m))
   where
-    one : (reply : Reply) → AreCalm ((s.peer, spelling (answer s m reply)) ∷ [])
+    one : (reply : Reply) → NoConfirmableValid ((s.peer, spelling (answer s m reply)) ∷ [])
     one reply = ((λ e. absurd (false≢true (sym (answers_apart s m reply) ∙ e))), tt)
 
-    held : (b : Bool) → AreCalm (unless_held b s m (tag history moment) (listing (query_of m) history moment)).sent
+    held : (b : Bool) → NoConfirmableValid (unless_held b s m (tag history moment) (listing (query_of m) history moment)).sent
     held true = tt
     held false = one _
 
-    valid : (b : Bool) → AreCalm (unless_valid b s m (tag history moment) (listing (query_of m) history moment)).sent
+    valid : (b : Bool) → NoConfirmableValid (unless_valid b s m (tag history moment) (listing (query_of m) history moment)).sent
     valid true = one _
     valid false = held (is_long (asked_block m) (listing (query_of m) history moment))
 
-    by : (b : Bool) → AreCalm (looked_at b history moment s m).sent
+    by : (b : Bool) → NoConfirmableValid (looked_at b history moment s m).sent
     by true = one _
     by false = valid (names_tag (tag history moment) m)
 

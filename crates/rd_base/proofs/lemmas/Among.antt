@@ -1,11 +1,7 @@
 -- The elements of a list.
-use Rattle.std.proofs.Common.{◌≡◌, ◌⊎◌, inl, inr, ◌||◌, Bool, true, false, cond, List, [], ◌∷◌, ◌++◌, filter, find, Some, refl, sym, ap, subst}
-use Rattle.std.specs.List.{list_any, AllByRecursion}
-
--- what follows for each
-pub each_weak : {X : Type 0} → {P Q : X → Type 0} → ((x : X) → P x → Q x) → (xs : List X) → AllByRecursion P xs → AllByRecursion Q xs
-each_weak h [] all = tt
-each_weak h (x ∷ xs) all = (h x all.0, each_weak h xs all.1)
+use Rattle.std.proofs.Common.{◌≡◌, ◌⊎◌, inl, inr, ◌||◌, Bool, true, false, cond, List, [], ◌∷◌, ◌++◌, filter, find, Some, None, refl, sym, ap, subst}
+use Rattle.std.specs.List.{list_any, AllByRecursion, IsAmong}
+use Rattle.std.proofs.lemmas.List.Elements.{All-from_recursion}
 
 -- it is one of these
 abbrev pub Among : {X : Type 0} → X → List X → Type 0
@@ -58,3 +54,16 @@ find_only test x (y ∷ ys) (inr further) good only = by (test y) refl (find_onl
     by : (b : Bool) → test y ≡ b → find test ys ≡ Some x → cond b (Some y) (find test ys) ≡ Some x
     by true it h = ap (λ z. Some z) (only.0 it)
     by false it h = h
+
+-- the first that passes a test: it passes, and what holds of each holds of it
+pub find_passes : {X : Type 0} (P : X → Type 0) (test : X → Bool) (xs : List X) (x : X) → AllByRecursion P xs → find test xs ≡ Some x → P x × (test x ≡ true)
+find_passes P test [] x all found = absurd (let no : None ≡ Some x = found in cc)
+find_passes P test (y ∷ xs) x all found = by (test y) refl found (λ h. find_passes P test xs x all.1 h)
+  where
+    by : (b : Bool) → test y ≡ b → cond b (Some y) (find test xs) ≡ Some x → (find test xs ≡ Some x → P x × (test x ≡ true)) → P x × (test x ≡ true)
+    by true good h more = let same : y ≡ x = cc in subst (λ z. P z × (test z ≡ true)) same (all.0, good)
+    by false bad h more = more h
+
+-- what holds of each holds of one at an index
+pub all_at_index : {X : Type 0} (P : X → Type 0) (xs : List X) (x : X) → IsAmong xs x → AllByRecursion P xs → P x
+all_at_index P xs x among all = subst P (sym (among.1.1)) (All-from_recursion P xs all among.0 x among.1.0)

@@ -1,6 +1,7 @@
 -- Facts on each element of a list.
 use Rattle.std.proofs.Common.{◌≡◌, Bool, true, false, cond, List, [], ◌∷◌, ◌++◌, map, filter, refl}
-use Rattle.std.specs.List.{AllByRecursion}
+use Rattle.std.specs.List.{list_any, AllByRecursion}
+use Rattle.std.proofs.lemmas.Bool.{or_parts}
 
 pub each_weaker : {X : Type 0} (P Q : X → Type 0) → ((x : X) → P x → Q x) → (xs : List X) → AllByRecursion P xs → AllByRecursion Q xs
 each_weaker P Q weak [] h = tt
@@ -47,3 +48,13 @@ each_append P (x ∷ xs) ys h k = (h.0, each_append P xs ys h.1 k)
 pub each_popped : {X : Type 0} (P : X → Type 0) (xs : List X) (x : X) → AllByRecursion P (xs ++ x ∷ []) → AllByRecursion P xs × P x
 each_popped P [] x h = (tt, h.0)
 each_popped P (y ∷ ys) x h = let rest = each_popped P ys x h.1 in ((h.0, rest.0), rest.1)
+
+-- where no element passes a test: what follows for each that fails it
+pub each_failing : {X : Type 0} (test : X → Bool) (P : X → Type 0) → ((x : X) → test x ≡ false → P x) → (xs : List X) → list_any test xs ≡ false → AllByRecursion P xs
+each_failing test P fails [] h = tt
+each_failing test P fails (x ∷ xs) h = let both = or_parts (test x) (list_any test xs) h in (fails x both.0, each_failing test P fails xs both.1)
+
+-- and none passes a test that passes fewer
+pub none_pass : {X : Type 0} (test other : X → Bool) → ((x : X) → test x ≡ false → other x ≡ false) → (xs : List X) → list_any test xs ≡ false → list_any other xs ≡ false
+none_pass test other fails [] h = refl
+none_pass test other fails (x ∷ xs) h = let both = or_parts (test x) (list_any test xs) h in rw (fails x both.0, none_pass test other fails xs both.1) refl

@@ -1,4 +1,4 @@
--- What a tick sends carries the listing of the row that formed it, and what is in flight behind it is known.
+-- What a tick sends carries the listing of the row that formed it, and what is in flight after it is known.
 use Rattle.std.proofs.Common.{◌≡◌, ℕ, ◌||◌, ◌&&◌, ◌==◌, Bool, true, false, cond, List, [], ◌∷◌, length, Some, option_map, Ok, refl, sym, ap, ap₂, subst, ◌∙◌}
 use Rattle.std.specs.List.{list_any, AllByRecursion}
 use Rattle.std.proofs.lemmas.Bool.{false≢true}
@@ -21,17 +21,18 @@ use Rattle.journal_model.specs.Ticks.{notices_again}
 use Rattle.journal_model.specs.Headline.{Placed, has_listing, former_noted, former_of_notice, former_at, observer_named, query_answered, FormedAs}
 use Rattle.headline_law.proofs.sends.BodyAnswers.{Bears, bears_carries}
 use Rattle.rd_base.proofs.lemmas.Among.{Among, all_among, among_all, find_only}
-use Rattle.headline_law.proofs.notes.Asking.{OfWatched, observers_all}
-use Rattle.headline_law.proofs.flights.AgainFacts.{behind_again, again_none}
+use Rattle.headline_law.proofs.notes.LookupNotes.{OfWatched, observers_all}
+use Rattle.headline_law.proofs.flights.NoticesAgain.{events_after_again, again_none}
 use Rattle.std.proofs.lemmas.Bool.{or_parts}
+use Rattle.rd_base.proofs.lemmas.Each.{each_failing}
 
 -- whatever listing a datagram of a row is read to have was formed as the headline says
 abbrev pub Carried : Placed → Peer × List ℕ → Type 0
 Carried here d = (m : Message) → reading d.1 ≡ Ok m → has_listing m ≡ true → FormedAs here d.0 m
 
--- ---- which note tells of the former
+-- ---- which note names the row that formed a body
 
--- the note tells that a kept answer was read
+-- the note is of a kept answer that was read
 abbrev pub is_used : Note → Bool
 is_used (note.Used peer key) = true
 is_used _ = false
@@ -70,9 +71,9 @@ noted_here peer mid (n ∷ notes) here unused none =
 
 -- ---- who stands
 
--- who stands behind the first part stood before it
-pub stood : (rows : List Row) (moment word : ℕ) (P : Observer → Type 0) → AllByRecursion P (observers (events rows)) → AllByRecursion P (observers (behind_again rows moment word))
-stood rows moment word P all = observers_all P (length rows) moment word (notices_again rows moment).notes (events rows) (each (notices_again rows moment).notes (again_none is_added (λ p t. refl) (λ p m. refl) rows moment)) all
+-- who stands after the first part stood before it
+pub stood : (rows : List Row) (moment word : ℕ) (P : Observer → Type 0) → AllByRecursion P (observers (events rows)) → AllByRecursion P (observers (events_after_again rows moment word))
+stood rows moment word P all = observers_all P (length rows) moment word (notices_again rows moment).notes (events rows) (each_failing is_added (OfWatched P) one (notices_again rows moment).notes (again_none is_added (λ p t. refl) (λ p m. refl) rows moment)) all
   where
     is_added : Note → Bool
     is_added (note.Watched o) = true
@@ -82,19 +83,15 @@ stood rows moment word P all = observers_all P (length rows) moment word (notice
     one (note.Watched o) h = absurd (false≢true (sym h))
     one _ h = tt
 
-    each : (notes : List Note) → list_any is_added notes ≡ false → AllByRecursion (OfWatched P) notes
-    each [] h = tt
-    each (n ∷ notes) h = (one n (or_parts (is_added n) (list_any is_added notes) h).0, each notes (or_parts (is_added n) (list_any is_added notes) h).1)
-
 -- so an observer that stands stood before
-pub stood_before : (rows : List Row) (moment word : ℕ) (o : Observer) → Among o (observers (behind_again rows moment word)) → Among o (observers (events rows))
+pub stood_before : (rows : List Row) (moment word : ℕ) (o : Observer) → Among o (observers (events_after_again rows moment word)) → Among o (observers (events rows))
 stood_before rows moment word o stands =
-    all_among (λ x. Among x (observers (events rows))) o (observers (behind_again rows moment word))
+    all_among (λ x. Among x (observers (events rows))) o (observers (events_after_again rows moment word))
     (stood rows moment word (λ x. Among x (observers (events rows))) (among_all (λ x. Among x (observers (events rows))) (observers (events rows)) (λ x h. h))) stands
 
--- an observer that stands is found by its name
-pub found_by_name : (rows : List Row) (o : Observer) → Among o (observers (events rows)) → observer_named (name_of o) rows ≡ Some o
-found_by_name rows o stands =
+-- an observer that stands is the one of its name
+pub observer_named-Some : (rows : List Row) (o : Observer) → Among o (observers (events rows)) → observer_named (name_of o) rows ≡ Some o
+observer_named-Some rows o stands =
     find_only (λ x. is_same_request (name_of x) (name_of o)) o (observers (events rows)) stands (is_same_request-refl (name_of o))
     (all_among (λ x. Only x (observers (events rows))) o (observers (events rows)) (apart_only (observers (events rows)) (observers-apart (events rows))) stands)
 
@@ -110,6 +107,6 @@ observer_formed here former o d m tick stands same bears formed = record {
   query = o.query;
   asked = subst (λ k. query_answered k (d.0, m.token) here ≡ Some o.query) (sym tick)
       (ap (λ (name : RequestName). option_map (λ (x : Observer). x.query) (observer_named name here.before)) (ap₂ (λ p t. (p, t)) same bears.token_is)
-      ∙ ap (λ found. option_map (λ (x : Observer). x.query) found) (found_by_name here.before o stands));
+      ∙ ap (λ found. option_map (λ (x : Observer). x.query) found) (observer_named-Some here.before o stands));
   carries = bears_carries o.token o.query (entries (former.row ∷ former.before)) former.row.moment.0 m bears;
 }

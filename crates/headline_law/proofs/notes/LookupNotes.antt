@@ -82,22 +82,22 @@ pub record KeptAt (history : List Entry) (moment : ℕ) (key body current : List
   pub body_is : body ≡ listing query history moment
   pub tag_is : current ≡ tag history moment
 
--- what a note says behind a history at a moment
-abbrev pub NoteTold : List Entry → ℕ → Note → Type 0
-NoteTold history moment (note.Kept peer key body current) = KeptAt history moment key body current
-NoteTold history moment (note.Watched o) = IsAsking o
-NoteTold history moment _ = Unit {0}
+-- the note is as its lookup asked, after a history at a moment: what is kept is the listing of its query, and an observer asks for its query
+abbrev pub NoteAsAsked : List Entry → ℕ → Note → Type 0
+NoteAsAsked history moment (note.Kept peer key body current) = KeptAt history moment key body current
+NoteAsAsked history moment (note.Watched o) = IsAsking o
+NoteAsAsked history moment _ = Unit {0}
 
 -- all notes of a row
-abbrev pub AreTold : List Row → ℕ → List Note → Type 0
-AreTold rows moment notes = AllByRecursion (NoteTold (entries rows) moment) notes
+abbrev pub NotesAsAsked : List Row → ℕ → List Note → Type 0
+NotesAsAsked rows moment notes = AllByRecursion (NoteAsAsked (entries rows) moment) notes
 
 -- ---- lookups
 
--- so it is of the notes of a lookup
-pub lookup_told_so : (rows : List Row) (moment : ℕ) (s : Step) (m : Message) → is_lookup (path_in m) ≡ true → length m.token ≤ longest_token → AreTold rows moment (lookup_effects rows moment s m).notes
+-- the notes of a lookup are so
+pub lookup_notes_as_asked : (rows : List Row) (moment : ℕ) (s : Step) (m : Message) → is_lookup (path_in m) ≡ true → length m.token ≤ longest_token → NotesAsAsked rows moment (lookup_effects rows moment s m).notes
 unfolding lookup_effects later_block observed unobserved answering
-lookup_told_so rows moment s m lookup small = by (is_later_block m)
+lookup_notes_as_asked rows moment s m lookup small = by (is_later_block m)
   where
     asks : Asks (key_in m) (query_of m)
     asks = record { request = m; fits = lookup_fits (path_in m) lookup; key_is = refl; query_is = refl }
@@ -105,50 +105,50 @@ lookup_told_so rows moment s m lookup small = by (is_later_block m)
     kept : KeptAt (entries rows) moment (key_in m) (listing (query_of m) (entries rows) moment) (tag (entries rows) moment)
     kept = record { query = query_of m; asks = asks; body_is = refl; tag_is = refl }
 
-    now_block : (part : Option (List ℕ × Bool)) → AreTold rows moment (block_now s m (listing_now rows moment m) part).notes
+    now_block : (part : Option (List ℕ × Bool)) → NotesAsAsked rows moment (block_now s m (listing_now rows moment m) part).notes
     now_block None = tt
     now_block (Some part) = (kept, tt)
 
-    later : (found : Option Answer) → AreTold rows moment (block_of_kept s m (listing_now rows moment m) found).notes
+    later : (found : Option Answer) → NotesAsAsked rows moment (block_of_kept s m (listing_now rows moment m) found).notes
     later (Some answer) = (tt, tt)
     later None = now_block (block_of (listing_now rows moment m).body (number_of (asked_block m)) (szx_of (asked_block m)))
 
-    removed : (b : Bool) (peer : Peer) (token : List ℕ) → AreTold rows moment (cond b (note.Unwatched peer token ∷ []) [])
+    removed : (b : Bool) (peer : Peer) (token : List ℕ) → NotesAsAsked rows moment (cond b (note.Unwatched peer token ∷ []) [])
     removed true peer token = (tt, tt)
     removed false peer token = tt
 
-    keeps : (b : Bool) → AreTold rows moment (cond b (note.Kept s.peer (key_in m) (listing_now rows moment m).body (listing_now rows moment m).tag ∷ []) [])
+    keeps : (b : Bool) → NotesAsAsked rows moment (cond b (note.Kept s.peer (key_in m) (listing_now rows moment m).body (listing_now rows moment m).tag ∷ []) [])
     keeps true = (kept, tt)
     keeps false = tt
 
-    added : (b : Bool) → AreTold rows moment (observed_if b rows s m (listing_now rows moment m)).notes
+    added : (b : Bool) → NotesAsAsked rows moment (observed_if b rows s m (listing_now rows moment m)).notes
     added true =
-        each_append (NoteTold (entries rows) moment) (removal (s.peer, m.token) (observers (events rows))) (addition (observer_of s m) (listing_now rows moment m).body ++ keeping s m (listing_now rows moment m))
+        each_append (NoteAsAsked (entries rows) moment) (removal (s.peer, m.token) (observers (events rows))) (addition (observer_of s m) (listing_now rows moment m).body ++ keeping s m (listing_now rows moment m))
         (removed (is_observer (s.peer, m.token) (observers (events rows))) s.peer m.token)
         (record { asks = asks; token = small }, (tt, keeps (is_long (asked_block m) (listing_now rows moment m).body)))
     added false =
-        each_append (NoteTold (entries rows) moment) (removal (s.peer, m.token) (observers (events rows))) (keeping s m (listing_now rows moment m))
+        each_append (NoteAsAsked (entries rows) moment) (removal (s.peer, m.token) (observers (events rows))) (keeping s m (listing_now rows moment m))
         (removed (is_observer (s.peer, m.token) (observers (events rows))) s.peer m.token) (keeps (is_long (asked_block m) (listing_now rows moment m).body))
 
-    only_looked : AreTold rows moment (look_effects (entries rows) moment s m).notes
-    only_looked = subst (AreTold rows moment) (sym (look_effects-notes (entries rows) moment s m)) tt
+    only_looked : NotesAsAsked rows moment (look_effects (entries rows) moment s m).notes
+    only_looked = subst (NotesAsAsked rows moment) (sym (look_effects-notes (entries rows) moment s m)) tt
 
-    valued : (b c : Bool) → AreTold rows moment (observed_by b c rows moment s m).notes
+    valued : (b c : Bool) → NotesAsAsked rows moment (observed_by b c rows moment s m).notes
     valued true c = added (has_room_for (query_of m) (without (s.peer, m.token) (observers (events rows))))
     valued false true = added false
     valued false false = only_looked
 
-    observe : (o : Option ℕ) → AreTold rows moment (by_observe o rows moment s m).notes
+    observe : (o : Option ℕ) → NotesAsAsked rows moment (by_observe o rows moment s m).notes
     observe None = only_looked
     observe (Some value) = valued (value == register) (value == deregister)
 
-    by : (b : Bool) → AreTold rows moment (by_block b rows moment s m).notes
+    by : (b : Bool) → NotesAsAsked rows moment (by_block b rows moment s m).notes
     by true = later (kept_answer moment (s.peer, key_in m) (events rows))
     by false = observe (observe_in m)
 
 -- ---- observers
 
--- what a note says of the observer that it adds
+-- what holds of the observer that a note adds
 abbrev pub OfWatched : (Observer → Type 0) → Note → Type 0
 OfWatched P (note.Watched o) = P o
 OfWatched P _ = Unit {0}

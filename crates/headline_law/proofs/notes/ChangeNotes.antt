@@ -77,16 +77,16 @@ registering-notes kind entered piece finished rows moment s m = by (sent_block m
     unless false true b body = refl
     unless false false b body = taken b.more b body
 
-    behind : (front upload : Option (List ℕ)) (b : Block) → are kind (block_behind front upload rows moment s m b).notes ≡ true
-    behind None upload b = refl
-    behind (Some front) upload b =
+    after : (front upload : Option (List ℕ)) (b : Block) → are kind (block_behind front upload rows moment s m b).notes ≡ true
+    after None upload b = refl
+    after (Some front) upload b =
         unless (nat_lt max_body (length front + length m.payload)) (is_one_too_many b upload (live_uploads moment (events rows))) b (front ++ m.payload)
 
     by : (b : Option Block) → are kind (registered_by b rows moment s m).notes ≡ true
     by None = registration-notes kind entered (entries rows) moment s (registration_values (queries_in m)) m.payload [] [] refl
     by (Some b) =
         let upload : Option (List ℕ) = live_upload moment (s.peer, key_in m) (events rows) in
-        behind (collected_before b upload) upload b
+        after (collected_before b upload) upload b
 
 -- a commit
 pub commit_effects-notes : (rows : List Row) (moment place : ℕ) (s : Step) (m : Message) → are of_commit (commit_effects rows moment place s m).notes ≡ true

@@ -1,5 +1,5 @@
--- What observers know behind a row that adds one.
-use Rattle.std.proofs.Common.{◌≡◌, ℕ, ◌||◌, Bool, true, false, not, List, [], ◌∷◌, ◌++◌, length, filter, Some, None, refl, sym, ap, subst, ◌∙◌, append-nil}
+-- What observers know after a row that adds one.
+use Rattle.std.proofs.Common.{◌≡◌, ℕ, ◌||◌, Bool, true, false, not, List, [], ◌∷◌, ◌++◌, length, filter, Some, None, refl, sym, ap, subst, ◌∙◌}
 use Rattle.std.specs.List.{list_any, AllByRecursion}
 use Rattle.std.proofs.lemmas.List.Folds.{list_any-append}
 use Rattle.history_model.specs.Listing.{listing}
@@ -17,14 +17,10 @@ use Rattle.event_model.proofs.ObserverLaws.{Apart, not_true}
 use Rattle.journal_model.specs.declared.rows.Row.{Row}
 use Rattle.journal_model.specs.Journal.{is_desk_row, events, entries}
 use Rattle.journal_model.proofs.EntriesNoted.{entries_in}
-use Rattle.headline_law.proofs.entries.JournalLaws.{entries-row}
-use Rattle.headline_law.proofs.observers.Knowing.{KnownIn, AllKnown, is_observing, not_looking, not_watching, known_row, looked_row}
+use Rattle.headline_law.proofs.entries.JournalLaws.{entries-none_noted}
+use Rattle.headline_law.proofs.observers.ObserverKnowledge.{KnownIn, AllKnown, is_observing, not_looking, not_watching, known_row, looked_row}
 
--- a row that tells no entry
-pub entries-none_noted : (rows : List Row) (r : Row) → entries_in r.notes ≡ [] → entries (r ∷ rows) ≡ entries rows
-entries-none_noted rows r none = entries-row rows r ∙ (ap (λ more. entries rows ++ more) none ∙ append-nil (entries rows))
-
--- notes around those that add an observer and give it its first listing
+-- notes around those that add an observer and form its first listing
 abbrev pub around : List Note → Observer → List ℕ → List Note → List Note
 around front o body back = front ++ note.Watched o ∷ note.Formed o.peer o.token body None ∷ back
 
@@ -55,18 +51,18 @@ new_looked front back o body =
     by true = refl
     by false = rw (is_same_request-refl (name_of o)) refl
 
--- and it is given the body
-new_given : (place moment word : ℕ) (front back : List Note) (o : Observer) (body : List ℕ) (past : List Event) → list_any is_observing back ≡ false
+-- and the body is formed for it
+new_formed : (place moment word : ℕ) (front back : List Note) (o : Observer) (body : List ℕ) (past : List Event) → list_any is_observing back ≡ false
     → last_body_formed (name_of o) (noted place moment word (around front o body back) past) ≡ Some body
 unfolding last_body_formed last_said
-new_given place moment word front back o body past quiet_back =
+new_formed place moment word front back o body past quiet_back =
     ap (last_body_formed (name_of o)) (noted-append place moment word front (note.Watched o ∷ note.Formed o.peer o.token body None ∷ back) past)
     ∙ (last_body_formed-before (name_of o) place moment word back
     (event_at place moment word (note.Formed o.peer o.token body None) ∷ event_at place moment word (note.Watched o) ∷ noted place moment word front past)
     (not_looking (name_of o) back quiet_back)
     ∙ rw (is_same_request-refl (name_of o)) refl)
 
--- behind a row that adds an observer, each that stands knows
+-- after a row that adds an observer, each that stands knows
 pub observed_row : (rows : List Row) (r : Row) → is_desk_row r ≡ true → entries_in r.notes ≡ [] → Adds rows r → AllKnown rows → AllKnown (r ∷ rows)
 unfolding events observers
 observed_row rows r desk silent adds all =
@@ -100,7 +96,7 @@ observed_row rows r desk silent adds all =
     new = looked_row rows r adds.observer desk
         (subst (λ notes. list_any (is_looking_for (name_of adds.observer)) notes ≡ true) (sym adds.notes) (new_looked adds.front adds.back adds.observer adds.body))
         (subst (λ notes. last_body_formed (name_of adds.observer) (noted (length rows) r.moment.0 r.step.word notes (events rows)) ≡ Some (listing adds.observer.query (entries (r ∷ rows)) r.moment.0)) (sym adds.notes)
-        (new_given (length rows) r.moment.0 r.step.word adds.front adds.back adds.observer adds.body (events rows) adds.quiet_back
+        (new_formed (length rows) r.moment.0 r.step.word adds.front adds.back adds.observer adds.body (events rows) adds.quiet_back
         ∙ ap (λ body. Some body) (adds.listed ∙ ap (λ history. listing adds.observer.query history r.moment.0) (sym (entries-none_noted rows r silent)))))
 
     with_new : AllByRecursion (KnownIn (r ∷ rows)) (filter apart_from (observers before) ++ adds.observer ∷ [])

@@ -12,7 +12,7 @@ use Rattle.event_model.specs.Same.{is_same_peer}
 use Rattle.event_model.specs.Events.{Event, noted}
 use Rattle.event_model.specs.Observers.{name_of, observers}
 use Rattle.event_model.specs.Flights.{Flight, max_again, deadline, flight, is_again_of, is_forming_for}
-use Rattle.event_model.proofs.SameLaws.{is_same_peer-refl}
+use Rattle.event_model.proofs.SameLaws.{is_same_peer-Decides, is_same_peer-refl}
 use Rattle.event_model.proofs.ObserverLaws.{observers-apart, Only, apart_only}
 use Rattle.journal_model.specs.declared.rows.Row.{Row}
 use Rattle.journal_model.specs.Journal.{events, row_at}
@@ -20,13 +20,13 @@ use Rattle.journal_model.specs.Sending.{Effects}
 use Rattle.journal_model.specs.Ticks.{sent_by, sent_again, each_of, notice_again, flight_again, notices_again}
 use Rattle.journal_model.proofs.NoteKinds.{of_again, none_of}
 use Rattle.journal_model.proofs.StepNotes.{notices_again-notes}
-use Rattle.headline_law.proofs.sends.TickSends.{each_of_sent}
+use Rattle.headline_law.proofs.sends.TickSends.{sent_by-FoundSent, each_of_sent}
 use Rattle.rd_base.proofs.lemmas.Among.{Among, all_among, among_all}
 use Rattle.journal_model.proofs.FlightKeys.{flight_key, is_landing, key_same_all}
-use Rattle.headline_law.proofs.flights.Standing.{stands_on, Waits, flies_key, IsAgain, again_stands}
+use Rattle.headline_law.proofs.flights.WaitedPeers.{stands_on, Waits, flies_key, IsAgain, again_stands}
 use Rattle.std.proofs.lemmas.Bool.{or_left, or_right}
 use Rattle.rd_base.proofs.lemmas.Numbers.{eqb-refl}
-use Rattle.rd_base.proofs.lemmas.Each.{each_append}
+use Rattle.rd_base.proofs.lemmas.Each.{each_one, each_append}
 
 -- what is noted for one is noted for all
 each_of_any : {A : Type 0} (test : Note → Bool) (does : A → Effects) (x : A) (xs : List A) → Among x xs → list_any test (does x).notes ≡ true → list_any test (each_of does xs).notes ≡ true
@@ -50,6 +50,12 @@ pub record AgainSent (rows : List Row) (moment : ℕ) (d : Peer × List ℕ) : T
   pub again : IsAgain rows moment observer flight_is
   pub found : sent_by (row_at flight_is.formed.place rows) observer.peer flight_is.mid ≡ Some d
   pub noted : list_any (is_again_of observer.peer flight_is.mid) (notices_again rows moment).notes ≡ true
+
+-- the peer of what is sent again
+pub again_peer : (rows : List Row) (moment : ℕ) (d : Peer × List ℕ) → (a : AgainSent rows moment d) → d.0 ≡ a.observer.peer
+again_peer rows moment d a =
+    let it = sent_by-FoundSent (λ (x : Peer × List ℕ). Unit {0}) (row_at a.flight_is.formed.place rows) a.observer.peer a.flight_is.mid d (λ r at. each_one (λ (x : Peer × List ℕ). Unit {0}) (λ x. tt) r.sent) a.found in
+    (is_same_peer-Decides d.0 a.observer.peer).0 it.to_peer
 
 -- what is noted of it
 pub record AgainOf (rows : List Row) (moment : ℕ) (peer : Peer) : Type 0 where
@@ -127,7 +133,7 @@ again_notes rows moment =
     flying o stands None flies = tt
     flying o stands (Some f) flies = again (nat_le (deadline f.formed f.again) moment) (nat_le max_again (length f.again)) o f stands flies refl refl
 
--- ---- behind the first part
+-- ---- after the first part
 
 -- it forms nothing and acknowledges nothing
 pub again_none : (test : Note → Bool) → ((peer : Peer) (token : List ℕ) → test (note.Unwatched peer token) ≡ false) → ((peer : Peer) (mid : ℕ) → test (note.Again peer mid) ≡ false) → (rows : List Row) (moment : ℕ)
@@ -139,22 +145,22 @@ again_none test unwatched again rows moment = none_of of_again test never (notic
     never (note.Again peer mid) h = again peer mid
     never _ h = absurd (false≢true h)
 
--- the events behind it
-abbrev pub behind_again : List Row → ℕ → ℕ → List Event
-behind_again rows moment word = noted (length rows) moment word (notices_again rows moment).notes (events rows)
+-- the events after it
+abbrev pub events_after_again : List Row → ℕ → ℕ → List Event
+events_after_again rows moment word = noted (length rows) moment word (notices_again rows moment).notes (events rows)
 
--- flights are the same behind it
-pub again_key : (rows : List Row) (moment word : ℕ) (o : Observer) → flight_key o (behind_again rows moment word) ≡ flight_key o (events rows)
+-- flights are the same after it
+pub again_key : (rows : List Row) (moment word : ℕ) (o : Observer) → flight_key o (events_after_again rows moment word) ≡ flight_key o (events rows)
 again_key rows moment word o =
     key_same_all o (length rows) moment word (notices_again rows moment).notes (events rows)
     (again_none (is_forming_for (name_of o)) (λ p t. refl) (λ p m. refl) rows moment) (again_none is_landing (λ p t. refl) (λ p m. refl) rows moment)
 
 -- and the peers of what is sent again are waited for
-pub again_waits : (rows : List Row) (moment word : ℕ) (o : Observer) (f : Flight) → IsAgain rows moment o f → Waits o.peer (behind_again rows moment word)
+pub again_waits : (rows : List Row) (moment word : ℕ) (o : Observer) (f : Flight) → IsAgain rows moment o f → Waits o.peer (events_after_again rows moment word)
 again_waits rows moment word o f it = record {
   observer = o;
   stands = stands_on o (length rows) moment word (notices_again rows moment).notes (events rows)
       (again_stands rows moment o f it (all_among (λ x. Only x (observers (events rows))) o (observers (events rows)) (apart_only (observers (events rows)) (observers-apart (events rows))) it.stands)) it.stands;
   of_peer = is_same_peer-refl o.peer;
-  flies = flies_key o (behind_again rows moment word) ∙ (ap is_some (again_key rows moment word o) ∙ (sym (flies_key o (events rows)) ∙ ap is_some it.flies));
+  flies = flies_key o (events_after_again rows moment word) ∙ (ap is_some (again_key rows moment word o) ∙ (sym (flies_key o (events rows)) ∙ ap is_some it.flies));
 }

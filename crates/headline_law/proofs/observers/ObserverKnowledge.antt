@@ -1,13 +1,13 @@
--- What an observer knows: when its listing was last looked at, and that the body it was given is the listing now unless it is due.
-use Rattle.std.proofs.Common.{◌≡◌, ℕ, suc, ◌<◌, ◌==◌, ◌&&◌, ◌||◌, Bool, true, false, not, cond, List, [], ◌∷◌, ◌++◌, length, map, filter, filter_map, Some, refl, sym, ap, ap₂, subst, ◌∙◌, append-nil, bytes_eq, nat_lt, lt-ltb, eqb-true, arith}
+-- What an observer knows: when its listing was last looked at, and that the last body formed for it is the listing now unless it is due.
+use Rattle.std.proofs.Common.{◌≡◌, ℕ, suc, ◌<◌, ◌==◌, ◌&&◌, ◌||◌, Bool, true, false, cond, List, [], ◌∷◌, ◌++◌, length, map, filter, Some, refl, sym, ap, ap₂, subst, ◌∙◌, bytes_eq, nat_lt, lt-ltb, eqb-true, arith}
 use Rattle.std.specs.List.{list_any, AllByRecursion}
-use Rattle.std.proofs.lemmas.Bool.{false≢true, and_parts, or_parts}
+use Rattle.std.proofs.lemmas.Bool.{false≢true, and_parts, or_parts, not-false}
 use Rattle.std.proofs.lemmas.Slice.Eq.{bytes_eq-Decides}
 use Rattle.rd_base.specs.declared.queries.Query.{Query}
 use Rattle.record_model.specs.ListingLines.{shown}
 use Rattle.history_model.specs.declared.entries.Entry.{Entry}
 use Rattle.history_model.specs.Listing.{all_lines, listing}
-use Rattle.rd_base.proofs.lemmas.Each.{each_weaker}
+use Rattle.rd_base.proofs.lemmas.Each.{each_weaker, none_pass}
 use Rattle.event_model.specs.declared.notes.Note.{Note}
 use Rattle.event_model.specs.declared.notes.Note.TheVariants as note
 use Rattle.event_model.specs.declared.notes.Observer.{Observer}
@@ -17,9 +17,11 @@ use Rattle.event_model.specs.Observers.{name_of, observers, last_body_formed}
 use Rattle.event_model.specs.Due.{Transition, are_same_lines, is_change_of, is_looking_for, is_changed_since, is_due}
 use Rattle.event_model.proofs.Noting.{Found, last_event-here, last_event-before, last_body_formed-before, is_watching, observers-noted}
 use Rattle.journal_model.specs.declared.rows.Row.{Row}
-use Rattle.journal_model.specs.Journal.{is_desk_row, transition_of, entry_noted, events, entries, entries_of, now, transitions}
+use Rattle.journal_model.specs.Journal.{is_desk_row, transition_of, events, entries, entries_of, now, transitions}
+use Rattle.headline_law.proofs.entries.JournalLaws.{entries-none_noted}
+use Rattle.journal_model.proofs.EntriesNoted.{entries_in}
 
--- what is known of an observer behind events, rows, a history and a moment
+-- what is known of an observer after events, rows, a history and a moment
 pub record Known (past : List Event) (rows_seen : List Transition) (history : List Entry) (moment count : ℕ) (o : Observer) : Type 0 where
   pub event : Event
   pub last : last_event (is_looking_for (name_of o)) past ≡ Some event
@@ -37,25 +39,21 @@ same_lines (x ∷ xs) (y ∷ ys) h =
     let first : x ≡ y = ap₂ (λ n line. (n, line)) (eqb-true x.0 y.0 one.0) ((bytes_eq-Decides x.1 y.1).0 one.1) in
     ap₂ (λ z zs. z ∷ zs) first (same_lines xs ys both.1)
 
-not_changed : (b : Bool) → not b ≡ false → b ≡ true
-not_changed true h = refl
-not_changed false h = absurd (false≢true (sym h))
-
 -- a row that does not change the lines of a query does not change its listing
 unchanged : (query : Query) (t : Transition) → is_change_of query t ≡ false → listing query t.before t.moment_before ≡ listing query t.after t.moment_after
 unfolding is_change_of listing
 unchanged query t h =
     ap (λ lines. shown query (map (λ (numbered : ℕ × List ℕ). numbered.1) lines))
     (same_lines (all_lines query t.before t.moment_before) (all_lines query t.after t.moment_after)
-    (not_changed (are_same_lines (all_lines query t.before t.moment_before) (all_lines query t.after t.moment_after)) h))
+    (not-false (are_same_lines (all_lines query t.before t.moment_before) (all_lines query t.after t.moment_after)) h))
 
--- who is due, by the event at which it was last looked at
-due_by : (o : Observer) (past : List Event) (rows_seen : List Transition) (e : Event) → last_event (is_looking_for (name_of o)) past ≡ Some e
+-- who is due since the event at which its listing was last looked at
+due_since : (o : Observer) (past : List Event) (rows_seen : List Transition) (e : Event) → last_event (is_looking_for (name_of o)) past ≡ Some e
     → is_due o past rows_seen ≡ list_any (is_change_of o.query) (filter (λ t. nat_lt e.place t.place) rows_seen)
 unfolding is_due
-due_by o past rows_seen e last = ap (is_changed_since o.query rows_seen) last
+due_since o past rows_seen e last = ap (is_changed_since o.query rows_seen) last
 
--- behind a row that does not look at its listing, an observer knows as before
+-- after a row that does not look at its listing, an observer knows as before
 pub known_quiet : (past : List Event) (rows_seen : List Transition) (history more : List Entry) (moment later word count : ℕ) (notes : List Note) (o : Observer)
     → Known past rows_seen history moment count o → list_any (is_looking_for (name_of o)) notes ≡ false
     → Known (noted count later word notes past) (record { place = count; before = history; moment_before = moment; after = more; moment_after = later } ∷ rows_seen) more later (suc count) o
@@ -63,7 +61,7 @@ known_quiet past rows_seen history more moment later word count notes o known qu
   event = known.event;
   last = last;
   place = let low = known.place in omega (arith, low);
-  knows = λ not_due. last_body_formed-before (name_of o) count later word notes past quiet ∙ given (or_parts _ _ (counted (sym (due_by o (noted count later word notes past) (t ∷ rows_seen) known.event last) ∙ not_due)));
+  knows = λ not_due. last_body_formed-before (name_of o) count later word notes past quiet ∙ was_formed (or_parts _ _ (counted (sym (due_since o (noted count later word notes past) (t ∷ rows_seen) known.event last) ∙ not_due)));
 }
   where
     t : Transition
@@ -77,22 +75,23 @@ known_quiet past rows_seen history more moment later word count notes o known qu
     counted h = subst (λ b. list_any (is_change_of o.query) (cond b (t ∷ filter (λ x. nat_lt known.event.place x.place) rows_seen) (filter (λ x. nat_lt known.event.place x.place) rows_seen)) ≡ false)
         (lt-ltb known.event.place count known.place) h
 
-    given : (is_change_of o.query t ≡ false) × (list_any (is_change_of o.query) (filter (λ x. nat_lt known.event.place x.place) rows_seen) ≡ false)
+    was_formed : (is_change_of o.query t ≡ false) × (list_any (is_change_of o.query) (filter (λ x. nat_lt known.event.place x.place) rows_seen) ≡ false)
         → last_body_formed (name_of o) past ≡ Some (listing o.query more later)
-    given h = known.knows (due_by o past rows_seen known.event known.last ∙ h.1) ∙ ap (λ body. Some body) (unchanged o.query t h.0)
+    was_formed h = known.knows (due_since o past rows_seen known.event known.last ∙ h.1) ∙ ap (λ body. Some body) (unchanged o.query t h.0)
 
--- behind a row that looks at its listing, and has given it that
+-- after a row that looks at its listing, and formed it or found it unchanged
 pub known_looked : (past : List Event) (rows_seen : List Transition) (history : List Entry) (later word count : ℕ) (notes : List Note) (o : Observer)
     → list_any (is_looking_for (name_of o)) notes ≡ true → last_body_formed (name_of o) (noted count later word notes past) ≡ Some (listing o.query history later)
     → Known (noted count later word notes past) rows_seen history later (suc count) o
-known_looked past rows_seen history later word count notes o looks given =
+known_looked past rows_seen history later word count notes o looks formed =
     let found : Found (is_looking_for (name_of o)) (noted count later word notes past) count later = last_event-here (is_looking_for (name_of o)) count later word notes past looks in
-    record { event = found.event; last = found.last; place = let here = found.at_place in omega (arith, here); knows = λ not_due. given }
+    record { event = found.event; last = found.last; place = let here = found.at_place in omega (arith, here); knows = λ not_due. formed }
 
--- what is known of an observer in a journal, and of all that stand
+-- what is known of an observer in a journal
 abbrev pub KnownIn : List Row → Observer → Type 0
 KnownIn rows o = Known (events rows) (transitions rows) (entries rows) (now rows) (length rows) o
 
+-- and of all that stand
 abbrev pub AllKnown : List Row → Type 0
 AllKnown rows = AllByRecursion (KnownIn rows) (observers (events rows))
 
@@ -105,21 +104,20 @@ is_observing _ = false
 
 -- then it does neither of one observer
 pub not_looking : (name : RequestName) (notes : List Note) → list_any is_observing notes ≡ false → list_any (is_looking_for name) notes ≡ false
-not_looking name [] h = refl
-not_looking name (n ∷ notes) h = by n (or_parts (is_observing n) (list_any is_observing notes) h) (not_looking name notes (or_parts (is_observing n) (list_any is_observing notes) h).1)
+not_looking name notes h = none_pass is_observing (is_looking_for name) by notes h
   where
-    by : (x : Note) → (is_observing x ≡ false) × (list_any is_observing notes ≡ false) → list_any (is_looking_for name) notes ≡ false → (is_looking_for name x || list_any (is_looking_for name) notes) ≡ false
-    by (note.Formed peer token body mid) h more = absurd (false≢true (sym h.0))
-    by (note.Unchanged peer token) h more = absurd (false≢true (sym h.0))
-    by _ h more = more
+    by : (x : Note) → is_observing x ≡ false → is_looking_for name x ≡ false
+    by (note.Formed peer token body mid) e = absurd (false≢true (sym e))
+    by (note.Unchanged peer token) e = absurd (false≢true (sym e))
+    by _ e = refl
 
+-- and adds none
 pub not_watching : (notes : List Note) → list_any is_observing notes ≡ false → list_any is_watching notes ≡ false
-not_watching [] h = refl
-not_watching (n ∷ notes) h = by n (or_parts (is_observing n) (list_any is_observing notes) h) (not_watching notes (or_parts (is_observing n) (list_any is_observing notes) h).1)
+not_watching notes h = none_pass is_observing is_watching by notes h
   where
-    by : (x : Note) → (is_observing x ≡ false) × (list_any is_observing notes ≡ false) → list_any is_watching notes ≡ false → (is_watching x || list_any is_watching notes) ≡ false
-    by (note.Watched o) h more = absurd (false≢true (sym h.0))
-    by _ h more = more
+    by : (x : Note) → is_observing x ≡ false → is_watching x ≡ false
+    by (note.Watched o) e = absurd (false≢true (sym e))
+    by _ e = refl
 
 -- an observer in a journal with one row more, where the row does not look at its listing
 pub known_row : (rows : List Row) (r : Row) (o : Observer) → is_desk_row r ≡ true → list_any (is_looking_for (name_of o)) r.notes ≡ false → KnownIn rows o → KnownIn (r ∷ rows) o
@@ -131,8 +129,8 @@ known_row rows r o desk quiet known =
 pub looked_row : (rows : List Row) (r : Row) (o : Observer) → is_desk_row r ≡ true → list_any (is_looking_for (name_of o)) r.notes ≡ true
     → last_body_formed (name_of o) (events (r ∷ rows)) ≡ Some (listing o.query (entries (r ∷ rows)) r.moment.0) → KnownIn (r ∷ rows) o
 unfolding events entries now transitions
-looked_row rows r o desk looks given =
-    rw desk (known_looked (events rows) _ (entries rows ++ entries_of r) r.moment.0 r.step.word (length rows) r.notes o looks given)
+looked_row rows r o desk looks formed =
+    rw desk (known_looked (events rows) _ (entries rows ++ entries_of r) r.moment.0 r.step.word (length rows) r.notes o looks formed)
 
 -- a row that adds no observer and looks at no listing
 pub quiet_row : (rows : List Row) (r : Row) → is_desk_row r ≡ true → list_any is_observing r.notes ≡ false → AllKnown rows → AllKnown (r ∷ rows)
@@ -147,8 +145,7 @@ unfolding events
 events-nothing rows r none = ap (λ notes. noted (length rows) r.moment.0 r.step.word notes (events rows)) none
 
 entries-nothing : (rows : List Row) (r : Row) → r.notes ≡ [] → entries (r ∷ rows) ≡ entries rows
-unfolding entries
-entries-nothing rows r none = ap (λ notes. entries rows ++ filter_map entry_noted notes) none ∙ append-nil (entries rows)
+entries-nothing rows r none = entries-none_noted rows r (ap entries_in none)
 
 -- the row of a look is none of those that observers see
 transitions-look : (rows : List Row) (r : Row) → is_desk_row r ≡ false → transitions (r ∷ rows) ≡ transitions rows

@@ -23,26 +23,27 @@ use Rattle.journal_model.specs.Meantime.{is_heard}
 use Rattle.journal_model.specs.Headline.{Placed, former_by, former_of_kept, former_noted, query_read, Carries}
 use Rattle.journal_model.proofs.EntriesNoted.{entries_in}
 use Rattle.headline_law.proofs.entries.QuietSteps.{lookup_effects-entries_in}
-use Rattle.headline_law.proofs.observers.Observing.{entries-none_noted}
 use Rattle.headline_law.proofs.sends.ReadAgain.{header_read}
 use Rattle.headline_law.proofs.sends.BodyAnswers.{Bears, IsBodyOf, tag-length, bears_carries}
-use Rattle.headline_law.proofs.sends.LookupSends.{AreListings, AreBodiesOf, tells_earlier, LookupGives, now, kept, lookup_gives}
+use Rattle.headline_law.proofs.sends.LookupSends.{AreListings, AreBodiesOf, names_earlier_row, LookupOutcome, now, kept, lookup_outcome}
 use Rattle.journal_model.proofs.EventRows.{AllRows, row_of, row_within, said_by}
-use Rattle.headline_law.proofs.notes.Asking.{asks_once, lookup_fits, KeptAt, AreTold, lookup_told_so}
-use Rattle.headline_law.proofs.flights.TickCarries.{Carried}
-use Rattle.headline_law.proofs.rows.RowCarries.{KeptBy, NoteAs, RowCarries, heard_former, heard_query, heard_by, now_carried, told_noted}
+use Rattle.headline_law.proofs.notes.LookupNotes.{asks_once, lookup_fits, KeptAt, NotesAsAsked, lookup_notes_as_asked}
+use Rattle.headline_law.proofs.flights.CarriedListings.{Carried}
+use Rattle.headline_law.proofs.rows.RowCarries.{KeptAsFormed, NoteAsFormed, RowCarries, heard_former, heard_query, heard_forms_itself, now_carried, own_notes_as_formed}
 use Rattle.rd_base.proofs.lemmas.Among.{all_among}
+use Rattle.headline_law.proofs.entries.JournalLaws.{entries-none_noted}
+use Rattle.rd_base.proofs.lemmas.Each.{each_weaker}
 
 -- ---- kept answers
 
 -- the note that keeps an answer under a name
-kept_note : (here : Placed) (name : RequestName) (answer : Answer) (n : Note) → NoteAs here n → answer_kept name n ≡ Some answer → KeptBy here name.1 answer.body answer.tag
+kept_note : (here : Placed) (name : RequestName) (answer : Answer) (n : Note) → NoteAsFormed here n → answer_kept name n ≡ Some answer → KeptAsFormed here name.1 answer.body answer.tag
 kept_note here name answer (note.Kept peer key body current) k said = by (is_same_request (peer, key) name) refl said
   where
-    by : (b : Bool) → is_same_request (peer, key) name ≡ b → cond b (Some (record { body = body; tag = current })) None ≡ Some answer → KeptBy here name.1 answer.body answer.tag
+    by : (b : Bool) → is_same_request (peer, key) name ≡ b → cond b (Some (record { body = body; tag = current })) None ≡ Some answer → KeptAsFormed here name.1 answer.body answer.tag
     by true same e =
-        subst (λ (a : Answer). KeptBy here name.1 a.body a.tag) (same_Some (record { body = body; tag = current }) answer e)
-        (subst (λ other. KeptBy here other body current) (ap (λ (x : RequestName). x.1) ((is_same_request-Decides (peer, key) name).0 same)) k)
+        subst (λ (a : Answer). KeptAsFormed here name.1 a.body a.tag) (same_Some (record { body = body; tag = current }) answer e)
+        (subst (λ other. KeptAsFormed here other body current) (ap (λ (x : RequestName). x.1) ((is_same_request-Decides (peer, key) name).0 same)) k)
     by false other e = absurd (let no_one : None ≡ Some answer = e in cc)
 kept_note here name answer _ k said = absurd (let no_one : None ≡ Some answer = said in cc)
 
@@ -70,7 +71,7 @@ pub kept_from : (rows : List Row) (moment : ℕ) (name : RequestName) (answer : 
 kept_from rows moment name answer all e =
     let found = said_by (answer_kept name) (events rows) answer (was_kept moment name (events rows) answer e) in
     let it = row_of (λ n. is_some (answer_kept name n)) rows found.0 found.1 in
-    let noted = all_among (NoteAs it.placed) found.0.note it.placed.row.notes (row_within RowCarries rows it.placed.before it.placed.row all it.within).noted it.note in
+    let noted = all_among (NoteAsFormed it.placed) found.0.note it.placed.row.notes (row_within RowCarries rows it.placed.before it.placed.row all it.within).noted it.note in
     let by = kept_note it.placed name answer found.0.note noted found.2 in
     record {
       former = by.former;
@@ -83,7 +84,8 @@ kept_from rows moment name answer all e =
 -- one that reads a kept answer
 used_carried : (rows : List Row) (r : Row) (m : Message) (answer : Answer) → is_heard r.step.kind ≡ true → reading r.step.datagram ≡ Ok m → is_lookup (path_in m) ≡ true
     → r.notes ≡ note.Used r.step.peer (key_in m) ∷ [] → KeptFrom rows (r.step.peer, key_in m) answer → AreBodiesOf m.token answer.body answer.tag r.sent → AllByRecursion (Carried (record { row = r; before = rows })) r.sent
-used_carried rows r m answer heard read lookup notes from all = each r.sent all
+used_carried rows r m answer heard read lookup notes from all =
+    each_weaker (λ (d : Peer × List ℕ). IsBodyOf m.token answer.body answer.tag d.1) (Carried (record { row = r; before = rows })) one r.sent all
   where
     same_query : from.is_kept.query ≡ query_of m
     same_query = asks_once (key_in m) from.is_kept.query m from.is_kept.asks (lookup_fits (path_in m) lookup) refl
@@ -101,26 +103,22 @@ used_carried rows r m answer heard read lookup notes from all = each r.sent all
           (subst (λ b. Bears m.token b answer.tag n) from.is_kept.body_is (body n e listed))));
     }
 
-    each : (ds : List (Peer × List ℕ)) → AreBodiesOf m.token answer.body answer.tag ds → AllByRecursion (Carried (record { row = r; before = rows })) ds
-    each [] h = tt
-    each (d ∷ ds) h = (one d h.0, each ds h.1)
-
 -- any row of a lookup
 pub lookup_row : (rows : List Row) (r : Row) (m : Message) → AllRows RowCarries rows → is_heard r.step.kind ≡ true → reading r.step.datagram ≡ Ok m → is_lookup (path_in m) ≡ true
     → r.sent ≡ (lookup_effects rows r.moment.0 r.step m).sent → r.notes ≡ (lookup_effects rows r.moment.0 r.step m).notes → RowCarries rows r
 lookup_row rows r m all heard read lookup sent notes = record {
-  carried = by (lookup_gives rows r.moment.0 r.step m small);
-  noted = told_noted rows r (heard_by r.step.kind (record { row = r; before = rows }) heard) untold r.notes (subst (AreTold rows r.moment.0) (sym notes) (lookup_told_so rows r.moment.0 r.step m lookup small));
+  carried = by (lookup_outcome rows r.moment.0 r.step m small);
+  noted = own_notes_as_formed rows r (heard_forms_itself r.step.kind (record { row = r; before = rows }) heard) same_entries r.notes (subst (NotesAsAsked rows r.moment.0) (sym notes) (lookup_notes_as_asked rows r.moment.0 r.step m lookup small));
 }
   where
     small : length m.token ≤ 8
     small = (header_read r.step.datagram m read).token
 
-    untold : entries (r ∷ rows) ≡ entries rows
-    untold = entries-none_noted rows r (ap entries_in notes ∙ lookup_effects-entries_in rows r.moment.0 r.step m)
+    same_entries : entries (r ∷ rows) ≡ entries rows
+    same_entries = entries-none_noted rows r (ap entries_in notes ∙ lookup_effects-entries_in rows r.moment.0 r.step m)
 
-    by : LookupGives rows r.moment.0 r.step m (lookup_effects rows r.moment.0 r.step m) → AllByRecursion (Carried (record { row = r; before = rows })) r.sent
-    by (now none listed) = now_carried rows r m heard read untold (ap (list_any tells_earlier) notes ∙ none) (subst (AreListings m (entries rows) r.moment.0) (sym sent) listed)
+    by : LookupOutcome rows r.moment.0 r.step m (lookup_effects rows r.moment.0 r.step m) → AllByRecursion (Carried (record { row = r; before = rows })) r.sent
+    by (now none listed) = now_carried rows r m heard read same_entries (ap (list_any names_earlier_row) notes ∙ none) (subst (AreListings m (entries rows) r.moment.0) (sym sent) listed)
     by (kept answer found used bodies) =
         let from = kept_from rows r.moment.0 (r.step.peer, key_in m) answer all found in
         used_carried rows r m answer heard read lookup (notes ∙ used) from

@@ -1,7 +1,7 @@
--- Who stands behind the first part of a tick, and whom it waits for: notices that are sent again keep their observers.
+-- Who stands after the first part of a tick, and whom it waits for: notices that are sent again keep their observers.
 use Rattle.std.proofs.Common.{◌≡◌, ℕ, ◌&&◌, Bool, true, false, not, List, [], ◌∷◌, ◌++◌, length, filter, Option, Some, None, option_map, refl, sym, ap, subst, ◌∙◌, append-nil, nat_le}
 use Rattle.std.specs.Prelude.{is_some}
-use Rattle.std.specs.List.{list_any, AllByRecursion}
+use Rattle.std.specs.List.{list_any}
 use Rattle.std.proofs.lemmas.Bool.{false≢true, and_from}
 use Rattle.std.proofs.lemmas.List.Folds.{list_any-append}
 use Rattle.rd_base.specs.declared.peers.Peer.{Peer}
@@ -26,28 +26,28 @@ use Rattle.rd_base.proofs.lemmas.Each.{each_one}
 -- ---- who stands
 
 -- the note adds or removes an observer
-abbrev pub is_turning : Note → Bool
-is_turning (note.Watched o) = true
-is_turning (note.Unwatched peer token) = true
-is_turning _ = false
+abbrev pub changes_observers : Note → Bool
+changes_observers (note.Watched o) = true
+changes_observers (note.Unwatched peer token) = true
+changes_observers _ = false
 
 -- else it ends nobody
-none_ends : (n : Note) → is_turning n ≡ false → (o : Observer) → not (is_end_of n (name_of o)) ≡ true
+none_ends : (n : Note) → changes_observers n ≡ false → (o : Observer) → not (is_end_of n (name_of o)) ≡ true
 none_ends (note.Watched x) h o = absurd (false≢true (sym h))
 none_ends (note.Unwatched peer token) h o = absurd (false≢true (sym h))
 none_ends _ h o = refl
 
 -- and adds nobody
-none_added : (n : Note) → is_turning n ≡ false → watched_by n ≡ []
+none_added : (n : Note) → changes_observers n ≡ false → watched_by n ≡ []
 none_added (note.Watched x) h = absurd (false≢true (sym h))
 none_added _ h = refl
 
 -- where none is added or removed, the same stand
-pub observers_same : (place moment word : ℕ) (notes : List Note) (before : List Event) → list_any is_turning notes ≡ false → observers (noted place moment word notes before) ≡ observers before
+pub observers_same : (place moment word : ℕ) (notes : List Note) (before : List Event) → list_any changes_observers notes ≡ false → observers (noted place moment word notes before) ≡ observers before
 unfolding observers
 observers_same place moment word [] before quiet = refl
 observers_same place moment word (n ∷ notes) before quiet =
-    let both = or_parts (is_turning n) (list_any is_turning notes) quiet in
+    let both = or_parts (changes_observers n) (list_any changes_observers notes) quiet in
     observers_same place moment word notes (event_at place moment word n ∷ before) both.1
     ∙ (ap (λ more. filter (λ o. not (is_end_of n (name_of o))) (observers before) ++ more) (none_added n both.0)
     ∙ (append-nil (filter (λ o. not (is_end_of n (name_of o))) (observers before))
