@@ -1,9 +1,9 @@
 pub mod OnLiterals
 pub mod SameLaws
 pub mod KeptLaws
-pub mod Noting
-pub mod LookingBack
+pub mod NotedLaws
+pub mod EventEquations
 pub mod ObserverLaws
-pub mod AddingLaws
+pub mod AddedObservers
 pub mod ManyObservers
 mod examples

@@ -1,4 +1,4 @@
--- The tests of peers, requests and queries tell whether they are equal.
+-- The tests of peers, requests and queries decide whether they are equal.
 use Rattle.std.proofs.Common.{◌≡◌, ℕ, true, ◌&&◌, ◌==◌, List, [], ◌∷◌, Option, Some, None, Decides, bytes_eq, refl, ap, ap₂, eqb-true, ◌∙◌, subst, arith}
 use Rattle.std.proofs.lemmas.Bool.{false≢true, and_parts, and_from}
 use Rattle.std.proofs.lemmas.Slice.Eq.{bytes_eq-Decides}

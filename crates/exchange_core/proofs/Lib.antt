@@ -1,7 +1,7 @@
 pub mod ResendLaws
 pub mod RowLaws
-pub mod Finding
+pub mod FilterLemmas
 pub mod RepeatLaws
 pub mod ExchangeLaws
-pub mod StandingLaws
+pub mod TableLaws
 pub mod OrderLaws

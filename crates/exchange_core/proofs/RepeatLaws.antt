@@ -10,10 +10,10 @@ use Rattle.event_model.specs.declared.notes.Note.{Note}
 use Rattle.event_model.specs.declared.notes.Note.TheVariants as note
 use Rattle.event_model.specs.Same.{is_same_peer}
 use Rattle.event_model.specs.Events.{Event, last_event, is_young, exchange_lifetime}
-use Rattle.event_model.specs.Repeats.{is_admission_of, admission_by, is_failure_of, admissions, kept, repeated, answer_noted}
+use Rattle.event_model.specs.Repeats.{is_admission_of, admission_noted, is_failure_of, admissions, kept, repeated, answer_noted}
 use Rattle.event_model.proofs.SameLaws.{is_same_peer-Decides, is_same_peer-refl}
-use Rattle.exchange_core.specs.Standing.{NoneAfter, IsNewPlace, AdmitsNew, AdmitsInOrder, IsOrderly}
-use Rattle.exchange_core.proofs.Finding.{found_holds, none_passes, each_filtered, none_behind, found_behind, only_dropped, any_behind_none, any_dropped}
+use Rattle.exchange_core.specs.ExchangeEvents.{NoneAfter, IsNewPlace, AdmitsNew, AdmitsInOrder, IsOrderly}
+use Rattle.exchange_core.proofs.FilterLemmas.{found_holds, none_passes, each_filtered, none_behind, found_behind, only_dropped, any_behind_none, any_dropped}
 use Rattle.rd_base.proofs.lemmas.Numbers.{eqb-refl}
 
 -- ---- admissions
@@ -45,11 +45,11 @@ each_admission P [] known = tt
 each_admission P (e ∷ before) known =
     by e.note (filter (λ a. not (is_failure_of a.place e.note)) (admissions before)) (each_filter P (λ a. not (is_failure_of a.place e.note)) (admissions before) (each_admission P before known.1))
   where
-    by : (n : Note) (rest : List Event) → AllByRecursion P rest → AllByRecursion P (admission_by n e ++ rest)
+    by : (n : Note) (rest : List Event) → AllByRecursion P rest → AllByRecursion P (admission_noted n e ++ rest)
     by (note.Admitted peer mid) rest more = (known.0, more)
     by _ rest more = more
 
--- an admission and one behind it: they have two places, and where they have one peer and Message ID, they are as far apart as an exchange lives
+-- an admission and one after it: they have two places, and where they have one peer and Message ID, they are as far apart as an exchange lives
 pub record Follows (x y : Event) : Type 0 where
   pub place : y.place ≢ x.place
   pub apart : (peer : Peer) (mid : ℕ) → x.note ≡ note.Admitted peer mid → y.note ≡ note.Admitted peer mid → y.moment + exchange_lifetime ≤ x.moment
@@ -165,8 +165,8 @@ found_step now peer mid e before known ordered in_time = by e.note refl ordered
         other false g = rw g were
 
     by : (n : Note) → e.note ≡ n → AdmitsInOrder n e before
-        → find (admits peer mid) (filter young (admission_by n e ++ filter (λ a. not (is_failure_of a.place n)) whole))
-        ≡ last_kept (filter young (admission_by n e ++ filter (λ a. not (is_failure_of a.place n)) whole)) (cond (is_admission_of peer mid n) (Some e) last)
+        → find (admits peer mid) (filter young (admission_noted n e ++ filter (λ a. not (is_failure_of a.place n)) whole))
+        ≡ last_kept (filter young (admission_noted n e ++ filter (λ a. not (is_failure_of a.place n)) whole)) (cond (is_admission_of peer mid n) (Some e) last)
     by (note.Admitted p m) is ordered =
         rw all (subst (λ n. find (admits peer mid) (filter young (e ∷ whole)) ≡ last_kept (filter young (e ∷ whole)) (cond (is_admission_of peer mid n) (Some e) last)) is
         (this (is_admission_of peer mid e.note) (young e) refl refl ordered.new_place ordered.in_time))
@@ -203,7 +203,7 @@ pairs_step e before known ordered = by e.note refl ordered
             far true e same = absurd (false≢true (sym (old e) ∙ (ap (is_admission_of peer mid) same ∙ admission_passes peer mid)))
             far false g same = ltb-false e.moment (y.moment + exchange_lifetime) g
 
-    by : (n : Note) → e.note ≡ n → AdmitsInOrder n e before → PairsByRecursion Follows (admission_by n e ++ filter (λ a. not (is_failure_of a.place n)) whole)
+    by : (n : Note) → e.note ≡ n → AdmitsInOrder n e before → PairsByRecursion Follows (admission_noted n e ++ filter (λ a. not (is_failure_of a.place n)) whole)
     by (note.Admitted p m) is ordered = rw (all_of whole) (first p m is ordered, known.pairs)
     by (note.Failed q) is ordered = pairs_filter Follows (λ a. not (q == a.place)) whole known.pairs
     by _ is ordered = rw (all_of whole) known.pairs

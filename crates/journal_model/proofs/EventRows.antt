@@ -5,7 +5,7 @@ use Rattle.std.specs.List.{list_any}
 use Rattle.std.proofs.lemmas.Bool.{false≢true, ne_eqb}
 use Rattle.event_model.specs.declared.notes.Note.{Note}
 use Rattle.event_model.specs.Events.{Event, noted, last_event, or_else, last_said}
-use Rattle.event_model.proofs.Noting.{event_at, last_event-before}
+use Rattle.event_model.proofs.NotedLaws.{event_at, last_event-before}
 use Rattle.journal_model.specs.declared.rows.Row.{Row}
 use Rattle.journal_model.specs.Journal.{events, row_at}
 use Rattle.journal_model.specs.Headline.{Within, Placed, last_row}

@@ -60,10 +60,10 @@ job_not_heard worker (r ∷ before) job e = by (r.step.worker == worker) e (λ h
     by false h more = more h
 
 -- so what is heard is heard as its datagram says
-pub heard_by_hearing : (rows : List Row) (s : Step) → MayBegin rows s → is_heard s.kind ≡ true → s.kind ≡ hearing s.datagram
-heard_by_hearing rows s (hears none heard) e = heard
-heard_by_hearing rows s (goes holds) e = absurd (false≢true (sym (job_not_heard s.worker rows (record { kind = s.kind; peer = s.peer; datagram = s.datagram }) holds) ∙ e))
-heard_by_hearing rows s (ticks tick) e = absurd (false≢true (sym (ap is_heard tick) ∙ e))
+pub heard_as_hearing : (rows : List Row) (s : Step) → MayBegin rows s → is_heard s.kind ≡ true → s.kind ≡ hearing s.datagram
+heard_as_hearing rows s (hears none heard) e = heard
+heard_as_hearing rows s (goes holds) e = absurd (false≢true (sym (job_not_heard s.worker rows (record { kind = s.kind; peer = s.peer; datagram = s.datagram }) holds) ∙ e))
+heard_as_hearing rows s (ticks tick) e = absurd (false≢true (sym (ap is_heard tick) ∙ e))
 
 -- one that is admitted is no look
 pub heard_no_look : (datagram : List ℕ) → step.Admit ≡ hearing datagram → is_look_datagram datagram ≡ false

@@ -10,7 +10,7 @@ use Rattle.journal_model.specs.Ticks.{tick_effects}
 use Rattle.journal_model.specs.Rows.{heard, looked, done, kept_body, effects, row_moment, row}
 use Rattle.journal_model.specs.Machine.{MayRun, IsJournal, begun, made, run}
 
--- a row has its step, whether it met want of memory, and what the step does at its moment
+-- a row has its step, whether memory ran out, and what the step does at its moment
 pub row-step : (rows : List Row) (s : Step) (starved : Bool) → (row rows s starved).step ≡ s
 unfolding row
 row-step rows s starved = refl

@@ -16,7 +16,7 @@ use Rattle.record_model.specs.declared.readings.Reading.{Reading}
 use Rattle.record_model.specs.declared.readings.Reading.TheVariants as reading
 use Rattle.link_model.specs.Characters.{is_empty}
 use Rattle.record_model.specs.Criteria.{fault_of, lookup_values}
-use Rattle.journal_model.specs.Sending.{Reply, diagnostic}
+use Rattle.journal_model.specs.Effects.{Reply, diagnostic}
 
 -- as what the query options of a request are read; those of a removal are not read
 abbrev pub reading_of : Path → ℕ → Option Reading
@@ -54,8 +54,8 @@ refusal_or_next (Some refusal) m = Some (diagnostic (refusal_code refusal) (refu
 refusal_or_next None m = refusal_of_query_or_payload m
 
 -- the first refusal that a request alone decides: option, proxy, path, method, block, accept, format, query, payload
-unfoldable pub refusal_by_request : Message → Option Reply
-refusal_by_request m = refusal_or_next (refusal_of m) m
+unfoldable pub refusal_of_request : Message → Option Reply
+refusal_of_request m = refusal_or_next (refusal_of m) m
 
 -- a lookup of resources or of endpoints, and discovery
 abbrev pub is_lookup : Path → Bool
@@ -98,11 +98,11 @@ abbrev pub szx_of : Option Block → ℕ
 szx_of None = greatest_szx
 szx_of (Some b) = b.szx
 
--- a block behind the first is asked for
+-- a block after the first is asked for
 abbrev pub is_later_block : Message → Bool
 is_later_block m = nat_lt 0 (number_of (asked_block m))
 
--- the values of Observe that are heeded: register and deregister (RFC 7641 section 2)
+-- the values of Observe that mean something: register and deregister (RFC 7641 section 2)
 abbrev pub register : ℕ
 register = 0
 
@@ -119,4 +119,4 @@ only_looks m = is_discovery (path_in m) || (is_lookup (path_in m) && not (is_lat
 
 -- such a request that meets no refusal
 unfoldable pub is_look_request : Message → Bool
-is_look_request m = is_none (refusal_by_request m) && only_looks m
+is_look_request m = is_none (refusal_of_request m) && only_looks m

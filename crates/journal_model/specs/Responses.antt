@@ -16,7 +16,7 @@ use Rattle.event_model.specs.Fetches.{Request, is_fetching, last_request, reques
 use Rattle.journal_model.specs.declared.steps.Step.{Step}
 use Rattle.journal_model.specs.declared.rows.Row.{Row}
 use Rattle.journal_model.specs.Journal.{events, entries}
-use Rattle.journal_model.specs.Sending.{Effects, nothing, joined, noting, acknowledging, resetting}
+use Rattle.journal_model.specs.Effects.{Effects, nothing, joined, noting, acknowledging, resetting}
 use Rattle.journal_model.specs.Changes.{registration}
 use Rattle.journal_model.specs.Commits.{asking}
 
@@ -86,7 +86,7 @@ abbrev pub tag_in : Message → Option (List ℕ)
 tag_in m = first_of (etags_in m)
 
 -- the response ends the fetch without a registration: it is no 2.05, has another format, says no block or one that is cut short,
--- is no block behind a first one, has another tag than that, or the body would be too long
+-- is no block after a first one, has another tag than that, or the body would be too long
 abbrev pub ends_fetch : Message → List (List ℕ × Option (List ℕ)) → ℕ → Bool
 ends_fetch m blocks size =
     not (m.code == codes_of.content)
@@ -130,10 +130,10 @@ response_to rows moment s m request =
     (ends_fetch m (gathered s.peer (events rows)) (length (collected s.peer (events rows)))) rows moment s m request
 
 -- a response, by the request that it answers
-abbrev pub response_by : Option Request → List Row → ℕ → Step → Message → Effects
-response_by None rows moment s m = strange s m m.kind
-response_by (Some request) rows moment s m = joined (acknowledgement s m m.kind) (response_to rows moment s m request)
+abbrev pub response_to_request : Option Request → List Row → ℕ → Step → Message → Effects
+response_to_request None rows moment s m = strange s m m.kind
+response_to_request (Some request) rows moment s m = joined (acknowledgement s m m.kind) (response_to rows moment s m request)
 
 -- what a response does
 unfoldable pub response_effects : List Row → ℕ → Step → Message → Effects
-response_effects rows moment s m = response_by (fetch_of s m (events rows)) rows moment s m
+response_effects rows moment s m = response_to_request (fetch_of s m (events rows)) rows moment s m

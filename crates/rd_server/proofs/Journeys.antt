@@ -21,7 +21,7 @@ use Rattle.rd_server.specs.Going.{Place, IsAt, Leads, Halts, Goes, Feeds, DoesLi
 use Rattle.rd_server.proofs.LineFeeds.{cut-append, lines_first, lines_begin}
 use Rattle.rd_server.proofs.Fronts.{front_take, front_behind, front_nothing, front_trans, journal_front, whole_front}
 
--- what stops behind a place, seen from the place before it
+-- what stops after a place, seen from the place before it
 pub halts_before : (j : Journal) (before after written : List ℕ) (old mid new : Option (List ℕ)) (halt : Stop) → after ≡ before ++ written → Appends old mid written
     → Halts j after mid new halt → Halts j before old new halt
 halts_before j before after written old mid new (stop.Bad bad) e a h =
@@ -35,7 +35,7 @@ halts_before j before after written old mid new stop.Starved e a h =
 joined : (place next : Place) (fed more written rest : List ℕ) → Leads place fed next written → journal_from place ((fed ++ more) ++ rest) ≡ journal_from next (more ++ rest)
 joined place next fed more written rest leads = ap (journal_from place) (append_assoc fed more rest) ∙ leads.same (more ++ rest)
 
--- what was fed behind a place was fed from the place before it
+-- what was fed after a place was fed from the place before it
 pub feeds_after : (place next : Place) (fed more written : List ℕ) (session : Session) (old mid new : Option (List ℕ)) (result : Option Stop) →
     Leads place fed next written → Appends old mid written → Feeds next more session mid new result → Feeds place (fed ++ more) session old new result
 feeds_after place next fed more written session old mid new None leads a h = record {

@@ -18,7 +18,7 @@ use Rattle.rd_server.proofs.LineFeeds.{lines_last, one_line}
 use Rattle.rd_server.proofs.Fronts.{front_take, front_behind, front_nothing, journal_front}
 use Rattle.rd_server.proofs.Journeys.{ok_and, err_and, unwritten_halts, starved_halts}
 
--- the journal when the trace has ended behind a line that lacks its line feed
+-- the journal when the trace has ended after a line that lacks its line feed
 ends_after : (place : Place) → cut 10 place.pending ≡ None → (place.pending ≡ [] → ⊥) →
     journal_from place [] ≡ goes_on (after_line place.rows (line_of place.pending)) place.rows place.number (λ more. record { rows = more; bad = None })
 ends_after place o some =

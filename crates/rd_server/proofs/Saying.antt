@@ -10,7 +10,7 @@ use Rattle.rd_server.specs.declared.endings.Status.{Status}
 use Rattle.rd_server.specs.Endings.{Says, IsFrontOf, IsReported, status_text}
 use Rattle.rd_server.proofs.Fronts.{front_self, front_trans, front_take, front_behind}
 
--- texts one behind the other
+-- texts one after the other
 abbrev pub joined : List (Bor (List ℕ)) → List ℕ
 joined texts = flat_map (λ text. text.now) texts
 
@@ -20,13 +20,13 @@ joined_more i texts text rest left =
     ap joined (sym (take-append-drop i texts)) ∙ flat_map-append (λ t. t.now) (take i texts) (drop i texts) ∙ ap (λ ts. joined (take i texts) ++ joined ts) left
 
 module _ (old mid : Option (List ℕ)) (counted counts : ℕ) (i : ℕ) (texts : List (Bor (List ℕ))) (known : Appends old mid (joined (take i texts))) where
-  -- behind the last text all was said
+  -- after the last text all was said
   pub all_said : length texts ≤ i → Says old mid counted counts (joined texts)
   all_said last =
       let whole = ap joined (take_all i texts last) in
       record { said = joined texts; front = front_self (joined texts); stands = subst (Appends old mid) whole known; whole = inl refl }
 
-  -- where the sink failed, a front
+  -- where the sink failed, a prefix
   pub front_said : (new : Option (List ℕ)) (text : Bor (List ℕ)) (rest : List (Bor (List ℕ))) → drop i texts ≡ text ∷ rest → (n : ℕ) × Appends mid new (take n text.now) → Rose counted counts → Says old new counted counts (joined texts)
   front_said new text rest left taken rose = record {
     said = joined (take i texts) ++ take taken.0 text.now;

@@ -103,14 +103,14 @@ Performs rows (Ok more) desk (Err (trouble.Bad said)) = ⊥
 Performs rows (Err why) desk (Err (trouble.Bad said)) = said ≡ why
 Performs rows _ desk (Err trouble.Starved) = Unit {0}
 
--- a text was written, or a front of it where the output failed, or nothing
+-- a text was written, or a prefix of it where the output failed, or nothing
 abbrev pub Writes : Option (List ℕ) → Option (List ℕ) → List ℕ → Option Stop → Type 0
 Writes old new whole None = Appends old new whole
 Writes old new whole (Some (stop.Bad bad)) = ⊥
 Writes old new whole (Some stop.Unwritten) = (n : ℕ) × Appends old new (take n whole)
 Writes old new whole (Some stop.Starved) = Appends old new []
 
--- the rows went on to others, and what the new ones sent was written, or a front of it
+-- the rows went on to others, and what the new ones sent was written, or a prefix of it
 abbrev pub WritesMore : List Row → List Row → Option (List ℕ) → Option (List ℕ) → Option Stop → Type 0
 WritesMore rows more old new result = (sent : List ℕ) × (text more ≡ text rows ++ sent) × Writes old new sent result
 

@@ -116,7 +116,7 @@ fn reason_name(why: Reason) -> &'static [u8]
     }
 }
 
-/// Writes texts one behind the other, or a front of them where the sink fails.
+/// Writes texts one after the other, or a prefix of them where the sink fails.
 fn say<E: Sink>(err: &mut E, texts: &[&[u8]])
     ensures { ends.Says (E.holds err.old) (E.holds err.new) (E.faults err.old) (E.faults err.new) (flat_map (λ text. text.now) texts.now) }
 {
@@ -145,7 +145,7 @@ fn say_line<E: Sink>(err: &mut E, bad: LineBad)
     say(err, &[b"line ", &digits[start..], b": ", why, b"\n"])
 }
 
-/// Says on the error sink how a replay ended: nothing for `Done`. A front of it is said where the sink fails. Takes no
+/// Says on the error sink how a replay ended: nothing for `Done`. A prefix of it is said where the sink fails. Takes no
 /// memory.
 pub fn report<E: Sink>(err: &mut E, status: Status)
     ensures { IsReported (E.holds err.old) (E.holds err.new) (E.faults err.old) (E.faults err.new) status }
@@ -174,7 +174,7 @@ pub fn replay<S: Source, K: Sink, E: Sink>(
     // Other words than those of the program are the one cause of Usage.
     ensures usage { result ≡ Status.Usage ↔ (ends.are_words (map string_bytes words.now) ≡ false) }
     // What is written for what was read: for Done the lines of the journal and the line that ends it, and nothing else;
-    // for a bad line the lines before it; else a front of all that.
+    // for a bad line the lines before it; else a prefix of all that.
     ensures written { IfSome (S.left source.old) (λ bytes. IsWritten (journals.journal_of bytes) (K.holds out.old) (K.holds out.new) result) }
     // The first bad line is reported and no other, and with a bad line nothing is done.
     ensures line { IfSome (S.left source.old) (λ bytes. ends.are_words (map string_bytes words.now) ≡ true → EndsBy (journals.journal_of bytes).bad result) }
@@ -183,7 +183,7 @@ pub fn replay<S: Source, K: Sink, E: Sink>(
     // ReadFault and WriteFault come only where a count rose, and any other status only where it did not.
     ensures reads { CountsReads (S.faults source.old) (S.faults source.new) result }
     ensures writes { CountsWrites (K.faults out.old) (K.faults out.new) result }
-    // The text of the status was said, or a front of it where `err` counted a fault.
+    // The text of the status was said, or a prefix of it where `err` counted a fault.
     ensures reported { IsReported (E.holds err.old) (E.holds err.new) (E.faults err.old) (E.faults err.new) result }
     // In each journal a step has its one entry exactly where it ends a job and is answered 2.01.
     ensures accounted { (lines : List (List ℕ)) → AllByRecursion journals.IsAccounted (journals.journal [] 1 lines).rows }

@@ -19,7 +19,7 @@ use Rattle.journal_model.specs.declared.rows.Row.{Row}
 use Rattle.journal_model.specs.Rows.{row, row_moment}
 use Rattle.journal_model.specs.Meantime.{is_never, is_left_out, is_left_out_of, is_too_long, is_heard, row_unless, row_where}
 use Rattle.journal_model.specs.Machine.{is_look_datagram, hearing, Job, job_of, hears, goes, ticks, MayMake, IsJournal, begun, made}
-use Rattle.trace_model.specs.Steps.{hearing_where, come_step, go_step, step_of_worker, worker_of, if_worker, step_of_line, Traced, untraced, traced_step, traced_unless, traced_line, traced}
+use Rattle.trace_model.specs.Steps.{hearing_where, come_step, go_step, step_of_worker, worker_of, if_worker, step_of_line, Traced, nothing_traced, traced_step, traced_unless, traced_line, traced}
 
 -- where every request is served, none is left out
 none_left_out : (read : Result Message Unread) → is_left_out_of is_never read ≡ false
@@ -100,7 +100,7 @@ told_line-IsJournal workers t text journal = by t.bad
 -- what a trace gives is a journal of the machine
 pub traced-IsJournal : (workers : ℕ) (bytes : List ℕ) → IsJournal (traced is_never workers bytes).journal
 unfolding traced
-traced-IsJournal workers bytes = folded (lines_of bytes) untraced begun
+traced-IsJournal workers bytes = folded (lines_of bytes) nothing_traced begun
   where
     folded : (texts : List (List ℕ)) (t : Traced) → IsJournal t.journal → IsJournal (fold (traced_line is_never workers) t texts).journal
     folded [] t journal = journal

@@ -1,4 +1,4 @@
 pub mod OnLiterals
-pub mod Writing
+pub mod OutputLines
 pub mod JournalLaw
 mod examples

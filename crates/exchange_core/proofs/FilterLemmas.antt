@@ -1,4 +1,4 @@
--- What is found in lists behind filters.
+-- What is found in a list, and in what a filter keeps of it.
 use Rattle.std.proofs.Common.{◌≡◌, Bool, true, false, ◌||◌, cond, List, [], ◌∷◌, filter, find, Some, None, refl, sym, ap, subst, ◌∙◌}
 use Rattle.std.specs.List.{list_any, AllByRecursion}
 use Rattle.std.proofs.lemmas.Bool.{false≢true}
@@ -46,7 +46,7 @@ each_filtered {X} P keep (x ∷ xs) h = by (keep x) refl h (each_filtered P keep
     by true e k more = (λ yes. k.0, more k.1)
     by false e k more = (λ yes. absurd (false≢true (sym e ∙ yes)), more k)
 
--- nothing is found behind a filter where nothing was found before it
+-- nothing is found in what a filter keeps where nothing was found before it
 pub none_behind : {X : Type 0} (test keep : X → Bool) (xs : List X) → find test xs ≡ None → find test (filter keep xs) ≡ None
 none_behind test keep [] none = refl
 none_behind {X} test keep (x ∷ xs) none = by (keep x) (test x) refl none (none_behind test keep xs)
@@ -57,7 +57,7 @@ none_behind {X} test keep (x ∷ xs) none = by (keep x) (test x) refl none (none
     by true false t h more = rw t (more h)
     by false false t h more = more h
 
--- what is found before a filter and kept by it is found behind it
+-- what is found before a filter and kept by it is found in what it keeps
 pub found_behind : {X : Type 0} (test keep : X → Bool) (xs : List X) (a : X) → find test xs ≡ Some a → keep a ≡ true → find test (filter keep xs) ≡ Some a
 found_behind test keep [] a there kept = absurd cc
 found_behind {X} test keep (x ∷ xs) a there kept = by (keep x) (test x) refl refl there (λ h. found_behind test keep xs a h kept)
@@ -69,7 +69,7 @@ found_behind {X} test keep (x ∷ xs) a there kept = by (keep x) (test x) refl r
     by true false k t h more = rw t (more h)
     by false false k t h more = more h
 
--- where no two pass, and what is found is dropped by a filter, nothing is found behind it
+-- where no two pass, and what is found is dropped by a filter, nothing is found in what it keeps
 pub only_dropped : {X : Type 0} (test keep : X → Bool) (xs : List X) (a : X) → PairsByRecursion (λ x y. test x ≡ true → test y ≡ false) xs → find test xs ≡ Some a → keep a ≡ false
     → find test (filter keep xs) ≡ None
 only_dropped test keep [] a apart there dropped = refl

@@ -1,4 +1,4 @@
--- What a desk stands for: the parts of a journal that its answers need.
+-- What a desk shows, and the journal that it stands for: the parts of it that answers need.
 use Rattle.std.specs.Prelude.{◌≡◌, ℕ, ◌≤◌, ◌%◌, ◌^◌, Bool, List, [], length, map, take, filter_map, count_by, Option, Some, None, option_map, option_and_then, unwrap_or}
 use Rattle.rd_base.specs.declared.parameters.RegParams.{RegParams}
 use Rattle.rd_base.specs.declared.peers.Peer.{Peer}
@@ -17,7 +17,7 @@ use Rattle.event_model.specs.Due.{is_due}
 use Rattle.event_model.specs.Fetches.{Request, is_start, fetches, last_request, request_noted, gathered, collected, tag_of_first, resendings, fetch_deadline}
 use Rattle.journal_model.specs.declared.rows.Row.{Row}
 use Rattle.journal_model.specs.Journal.{events, entries, now, row_at, transitions}
-use Rattle.journal_model.specs.Ticks.{sent_by}
+use Rattle.journal_model.specs.Ticks.{confirmable_sent}
 
 -- an exchange that is kept: who wrote, under which Message ID, when, and the octets of the answer, where there is one
 pub record Exchange : Type 0 where
@@ -49,7 +49,7 @@ pub record Sent : Type 0 where
 pub record Watching : Type 0 where
   pub observer : Observer
   pub due : Bool
-  pub given : Option (List ℕ)
+  pub last_body : Option (List ℕ)
   pub waits : Option Sent
 
 -- a fetch: its peer, its last request, what is collected, and the tag of the first block
@@ -70,8 +70,8 @@ pub record Desk : Type 0 where
   pub answers : List KeptAnswer
   pub observers : List Watching
   pub fetches : List Fetch
-  pub given : ℕ
-  pub started : ℕ
+  pub observe_values : ℕ
+  pub fetches_started : ℕ
 
 -- the moment of an event, where there is one
 abbrev pub event_moment : Option Event → ℕ
@@ -79,11 +79,11 @@ event_moment e = unwrap_or (option_map (λ e. e.moment) e) 0
 
 -- an admission as an exchange
 abbrev pub exchange_of : List Event → Event → Option Exchange
-exchange_of events a = exchange_by a.note
+exchange_of events a = exchange_noted a.note
   where
-    exchange_by : Note → Option Exchange
-    exchange_by (note.Admitted peer mid) = Some (record { peer = peer; mid = mid; moment = a.moment; reply = settled a.place events })
-    exchange_by _ = None
+    exchange_noted : Note → Option Exchange
+    exchange_noted (note.Admitted peer mid) = Some (record { peer = peer; mid = mid; moment = a.moment; reply = settled a.place events })
+    exchange_noted _ = None
 
 -- the exchanges that are kept, the latest first
 unfoldable pub exchanges_of : List Row → List Exchange
@@ -107,7 +107,7 @@ answers_of rows = filter_map (kept_under (events rows)) (take max_answers (names
 
 -- the octets of the message that the row at a place sent to a peer with this Message ID
 abbrev pub octets_at : List Row → ℕ → Peer → ℕ → List ℕ
-octets_at rows place peer mid = unwrap_or (option_map (λ d. d.1) (sent_by (row_at place rows) peer mid)) []
+octets_at rows place peer mid = unwrap_or (option_map (λ d. d.1) (confirmable_sent (row_at place rows) peer mid)) []
 
 abbrev pub notice_sent : List Row → Peer → Flight → Sent
 notice_sent rows peer f = record {
@@ -121,7 +121,7 @@ abbrev pub watching : List Row → Observer → Watching
 watching rows o = record {
   observer = o;
   due = is_due o (events rows) (transitions rows);
-  given = last_body_formed (name_of o) (events rows);
+  last_body = last_body_formed (name_of o) (events rows);
   waits = option_map (notice_sent rows o.peer) (flight o (events rows));
 }
 
@@ -152,12 +152,12 @@ fetch_with rows peer =
 unfoldable pub fetches_of : List Row → List Fetch
 fetches_of rows = filter_map (fetch_with rows) (fetches (events rows))
 
--- how many Observe values were given, and how many fetches started, as 64 bits count
-unfoldable pub observe_values : List Row → ℕ
-observe_values rows = count_by (λ e. is_forming e.note) (events rows) % 2 ^ 64
+-- how many Observe values were sent, and how many fetches started, as 64 bits count
+unfoldable pub observe_values_of : List Row → ℕ
+observe_values_of rows = count_by (λ e. is_forming e.note) (events rows) % 2 ^ 64
 
-unfoldable pub fetches_started : List Row → ℕ
-fetches_started rows = count_by (λ e. is_start e.note) (events rows) % 2 ^ 64
+unfoldable pub fetches_started_of : List Row → ℕ
+fetches_started_of rows = count_by (λ e. is_start e.note) (events rows) % 2 ^ 64
 
 -- a desk stands for a journal, part by part
 pub record DeskStandsFor (rows : List Row) (desk : Desk) : Type 0 where
@@ -169,5 +169,5 @@ pub record DeskStandsFor (rows : List Row) (desk : Desk) : Type 0 where
   pub answers : desk.answers ≡ answers_of rows
   pub observers : desk.observers ≡ observers_of rows
   pub fetches : desk.fetches ≡ fetches_of rows
-  pub given : desk.given ≡ observe_values rows
-  pub started : desk.started ≡ fetches_started rows
+  pub observe_values : desk.observe_values ≡ observe_values_of rows
+  pub fetches_started : desk.fetches_started ≡ fetches_started_of rows

@@ -1,4 +1,4 @@
--- Where notes remove no observer, those that they add stand behind those that stood, as long as no two have the same name.
+-- Where notes remove no observer, those that they add stand after those that stood, as long as no two have the same name.
 -- Where no admission failed, each of them stands.
 use Rattle.std.proofs.Common.{◌≡◌, ℕ, ◌||◌, Bool, true, false, not, cond, List, [], ◌∷◌, ◌++◌, filter, flat_map, refl, ap, subst, sym, ◌∙◌, append-nil, append_assoc}
 use Rattle.std.specs.List.{AllByRecursion}
@@ -11,8 +11,8 @@ use Rattle.event_model.specs.declared.notes.Note.TheVariants as note
 use Rattle.event_model.specs.declared.notes.Observer.{Observer}
 use Rattle.event_model.specs.Same.{is_same_request}
 use Rattle.event_model.specs.Events.{Event, has_event, noted}
-use Rattle.event_model.specs.Repeats.{admission_by, is_failure_of, admissions}
-use Rattle.event_model.specs.Observers.{name_of, is_end_of, watched_by, observers}
+use Rattle.event_model.specs.Repeats.{admission_noted, is_failure_of, admissions}
+use Rattle.event_model.specs.Observers.{name_of, is_end_of, observer_added, observers}
 use Rattle.event_model.proofs.ObserverLaws.{Apart, apart-sym}
 
 -- the note removes an observer, and adds none
@@ -31,8 +31,8 @@ each_before R [] x rest h = tt
 each_before R (y ∷ front) x rest h = (each_at (R y) front x rest h.0, each_before R front x rest h.1)
 
 -- one note
-observers_push : (n : Note) (standing rest : List Observer) → is_removal n ≡ false → PairsByRecursion Apart (standing ++ (watched_by n ++ rest))
-    → filter (λ o. not (is_end_of n (name_of o))) standing ++ watched_by n ≡ standing ++ watched_by n
+observers_push : (n : Note) (standing rest : List Observer) → is_removal n ≡ false → PairsByRecursion Apart (standing ++ (observer_added n ++ rest))
+    → filter (λ o. not (is_end_of n (name_of o))) standing ++ observer_added n ≡ standing ++ observer_added n
 observers_push (note.Watched o) standing rest none h =
     ap (λ left. left ++ o ∷ [])
     (filter_all (λ x. not (is_same_request (name_of o) (name_of x))) standing
@@ -43,7 +43,7 @@ observers_push n standing rest none h = ap (λ left. left ++ []) (filter_all (λ
 
 -- the notes of a row
 pub observers_noted : (place moment word : ℕ) (notes : List Note) (before : List Event) → AllByRecursion (λ n. is_removal n ≡ false) notes
-    → PairsByRecursion Apart (observers before ++ flat_map watched_by notes) → observers (noted place moment word notes before) ≡ observers before ++ flat_map watched_by notes
+    → PairsByRecursion Apart (observers before ++ flat_map observer_added notes) → observers (noted place moment word notes before) ≡ observers before ++ flat_map observer_added notes
 unfolding observers
 observers_noted place moment word [] before none h = sym (append-nil (observers before))
 observers_noted place moment word (n ∷ notes) before none h =
@@ -52,12 +52,12 @@ observers_noted place moment word (n ∷ notes) before none h =
     next : Event
     next = record { place = place; moment = moment; word = word; note = n }
 
-    joined : observers (next ∷ before) ++ flat_map watched_by notes ≡ observers before ++ (watched_by n ++ flat_map watched_by notes)
+    joined : observers (next ∷ before) ++ flat_map observer_added notes ≡ observers before ++ (observer_added n ++ flat_map observer_added notes)
     joined =
-        ap (λ standing. standing ++ flat_map watched_by notes) (observers_push n (observers before) (flat_map watched_by notes) none.0 h)
-        ∙ append_assoc (observers before) (watched_by n) (flat_map watched_by notes)
+        ap (λ standing. standing ++ flat_map observer_added notes) (observers_push n (observers before) (flat_map observer_added notes) none.0 h)
+        ∙ append_assoc (observers before) (observer_added n) (flat_map observer_added notes)
 
--- the note ends an admission for want of memory; it is an admission
+-- the note ends an admission because memory ran out; it is an admission
 abbrev pub is_failing : Note → Bool
 is_failing (note.Failed place) = true
 is_failing _ = false
@@ -79,7 +79,7 @@ admissions_whole (e ∷ before) none = by e.note none (admissions_whole before)
     admitting = filter (λ a. is_admitting a.note) before
 
     by : (n : Note) → (is_failing n || has_event is_failing before) ≡ false → (has_event is_failing before ≡ false → admissions before ≡ admitting)
-        → admission_by n e ++ filter (λ a. not (is_failure_of a.place n)) (admissions before) ≡ cond (is_admitting n) (e ∷ admitting) admitting
+        → admission_noted n e ++ filter (λ a. not (is_failure_of a.place n)) (admissions before) ≡ cond (is_admitting n) (e ∷ admitting) admitting
     by (note.Admitted peer mid) h more = ap (λ rest. e ∷ rest) (all_kept ∙ more h)
     by (note.Failed place) h more = absurd (false≢true (sym h))
     by n h more = all_kept ∙ more h

@@ -1,13 +1,26 @@
-// One exchange of the table.
+//! A write that was admitted, and how one that repeats it is answered.
 ghost use Rattle.std.specs.Prelude.{◌≡◌, Option};
 ghost use Rattle.event_model.specs.Events.{is_young};
-ghost use Rattle.exchange_core.specs.Rows.{is_with, is_admitted_at, repeating};
+ghost use Rattle.exchange_core.specs.Table.{is_with, is_admitted_at, repeating};
 
-use crate::{Keyed, Reply};
+use crate::Reply;
 use rd_base::{Moment, Peer};
 
 /// How long an exchange lives, in milliseconds (RFC 7252 section 4.8.2, EXCHANGE_LIFETIME).
 const EXCHANGE_LIFETIME: u64 = 247_000;
+
+/// What a write is, by the exchanges that are kept (RFC 7252 section 4.5).
+#[derive(Debug, Drop, PartialEq, Eq)]
+pub enum Keyed {
+    /// It is new, and it was admitted.
+    Fresh,
+    /// It repeats a write that is still in flight: there is no answer yet.
+    InFlight,
+    /// It repeats a write that was answered by these octets.
+    Kept(Reply),
+    /// It is new, and as many exchanges are kept as there is room for.
+    FullExchanges,
+}
 
 /// A write that was admitted, and its answer.
 #[derive(Debug, Drop)]

@@ -1,18 +1,18 @@
--- When a message is sent again, as events tell it (RFC 7252 section 4.2).
+-- When a message is sent again, from what events note (RFC 7252 section 4.2).
 use Rattle.std.specs.Prelude.{◌≡◌, ℕ, ◌*◌, ◌^◌, nat_lt, List, length, if◌then◌else◌}
 use Rattle.event_model.specs.Events.{Event}
 use Rattle.event_model.specs.Flights.{max_again, first_wait, moment_of_last, deadline}
-use Rattle.exchange_core.specs.declared.resending.Again.{Again}
-use Rattle.exchange_core.specs.declared.resending.Again.TheVariants as again
+use Rattle.exchange_core.specs.declared.resends.Again.{Again}
+use Rattle.exchange_core.specs.declared.resends.Again.TheVariants as again
 
 -- what is kept of a message that waits: when it was last sent, how long it waits from then on, and how often it was sent again
-pub record Resending : Type 0 where
+pub record Retransmission : Type 0 where
   pub sent : ℕ
   pub wait : ℕ
   pub again : ℕ
 
 -- this is kept of a message that an event sent first, and others sent again, the newest first
-pub record Resends (first : Event) (others : List Event) (r : Resending) : Type 0 where
+pub record Resends (first : Event) (others : List Event) (r : Retransmission) : Type 0 where
   pub sent : r.sent ≡ moment_of_last others first.moment
   pub wait : r.wait ≡ first_wait first.word * 2 ^ length others
   pub again : r.again ≡ length others

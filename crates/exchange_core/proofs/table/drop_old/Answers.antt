@@ -1,10 +1,10 @@
 use Rattle.std.proofs.Common.{ℕ, ◌-◌, ◌≡◌, List, [], ◌∷◌, ◌++◌, take, true, refl, sym, ap, subst, ◌∙◌}
 use Rattle.std.specs.VecDeque.{deque_len}
 use Rattle.event_model.specs.Events.{is_young}
-use Rattle.exchange_core.specs.declared.rows.Exchange.{Exchange}
-use Rattle.exchange_core.specs.Rows.{young, InOrder}
+use Rattle.exchange_core.specs.declared.writes.Exchange.{Exchange}
+use Rattle.exchange_core.specs.Table.{young, InOrder}
 use Rattle.exchange_core.proofs.RowLaws.{young-all, young-popped, oldest_behind, InOrder-popped}
-use Rattle.exchange_core.proofs.held.drop_old.Goals as goal
+use Rattle.exchange_core.proofs.table.drop_old.Goals as goal
 
 -- the exchanges that are left, where the oldest is young
 all_left : (now : ℕ) (xs front : List Exchange) (x : Exchange) → xs ≡ front ++ x ∷ [] → InOrder now xs → is_young now x.admitted.0 ≡ true → xs ≡ young now xs

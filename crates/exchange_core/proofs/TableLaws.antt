@@ -9,15 +9,15 @@ use Rattle.rd_base.proofs.lemmas.Pairs.{pairs_filter, PairsByRecursion}
 use Rattle.event_model.specs.declared.notes.Note.{Note}
 use Rattle.event_model.specs.declared.notes.Note.TheVariants as note
 use Rattle.event_model.specs.Events.{Event, is_young, exchange_lifetime, or_else, last_said}
-use Rattle.event_model.specs.Repeats.{admission_by, is_failure_of, admissions, kept, repeated, answer_noted, settled, is_full_of_exchanges}
-use Rattle.event_model.proofs.AddingLaws.{is_admitting}
-use Rattle.exchange_core.specs.declared.answers.Keyed.{Keyed}
-use Rattle.exchange_core.specs.declared.answers.Keyed.TheVariants as keyed
-use Rattle.exchange_core.specs.declared.rows.Exchange.{Exchange}
-use Rattle.exchange_core.specs.Rows.{Table, is_with, is_admitted_at, young, InOrder, repeating, repeating_young, repeat_among, answered_first, without_first}
-use Rattle.exchange_core.specs.Standing.{exchange_by, exchange_of, exchanges_at, ExchangesStandFor, NoneAfter, IsNewPlace, IsOrderly, HasAdmission, is_aside, keyed_new, keyed_as, keyed_by}
+use Rattle.event_model.specs.Repeats.{admission_noted, is_failure_of, admissions, kept, repeated, answer_noted, settled, is_full_of_exchanges}
+use Rattle.event_model.proofs.AddedObservers.{is_admitting}
+use Rattle.exchange_core.specs.declared.writes.Keyed.{Keyed}
+use Rattle.exchange_core.specs.declared.writes.Keyed.TheVariants as keyed
+use Rattle.exchange_core.specs.declared.writes.Exchange.{Exchange}
+use Rattle.exchange_core.specs.Table.{Table, is_with, is_admitted_at, young, InOrder, repeating, repeating_young, repeat_among, answered_first, without_first}
+use Rattle.exchange_core.specs.ExchangeEvents.{exchange_admitted, exchange_of, exchanges_at, ExchangesStandFor, NoneAfter, IsNewPlace, IsOrderly, HasAdmission, is_aside, keyed_new, keyed_as, keyed_after}
 use Rattle.exchange_core.proofs.RowLaws.{repeat_among-young}
-use Rattle.exchange_core.proofs.Finding.{found_passes}
+use Rattle.exchange_core.proofs.FilterLemmas.{found_passes}
 use Rattle.exchange_core.proofs.RepeatLaws.{admits, admission_is, Follows, known}
 use Rattle.exchange_core.proofs.ExchangeLaws.{young-exchanges, find-exchanges, length-exchanges, same-exchanges, Matches, each_matches, young-answered, answered-exchanges, young-without, without-exchanges}
 
@@ -53,7 +53,7 @@ ExchangesStandFor-aged at now events t aged h left stands =
 answer_found : (peer : Peer) (mid : ℕ) (events : List Event) (a : Event) → admits peer mid a ≡ true
     → option_map (λ x. repeating x.reply) (exchange_of events a) ≡ Some (repeating (settled a.place events))
 answer_found peer mid events a it =
-    subst (λ n. option_map (λ x. repeating x.reply) (exchange_by a.moment (settled a.place events) n) ≡ Some (repeating (settled a.place events))) (sym (admission_is peer mid a.note it)) refl
+    subst (λ n. option_map (λ x. repeating x.reply) (exchange_admitted a.moment (settled a.place events) n) ≡ Some (repeating (settled a.place events))) (sym (admission_is peer mid a.note it)) refl
 
 repeat_stands : (now : ℕ) (peer : Peer) (mid last : ℕ) (events : List Event) (t : Table) → InOrder last t.exchanges → IsOrderly events → NoneAfter now events → ExchangesStandFor now events t
     → repeat_among now peer mid t.exchanges ≡ option_map (λ a. repeating (settled a.place events)) (repeated now peer mid events)
@@ -73,8 +73,8 @@ repeat_stands now peer mid last events t order orderly in_time stands =
     by (Some a) there = answer_found peer mid events a (found_passes (admits peer mid) (kept now events) a there)
 
 pub repeat_answers : (at now : ℕ) (peer : Peer) (mid last : ℕ) (events : List Event) (t : Table) (answer : Keyed) → at ≤ now → InOrder last t.exchanges → IsOrderly events → NoneAfter now events
-    → ExchangesStandFor at events t → Some answer ≡ repeat_among now peer mid t.exchanges → answer ≡ keyed_by now peer mid events
-unfolding keyed_by
+    → ExchangesStandFor at events t → Some answer ≡ repeat_among now peer mid t.exchanges → answer ≡ keyed_after now peer mid events
+unfolding keyed_after
 repeat_answers at now peer mid last events t answer h order orderly in_time stands found =
     by (repeated now peer mid events) (found ∙ repeat_stands now peer mid last events t order orderly in_time (ExchangesStandFor-later at now events t h stands))
   where
@@ -84,8 +84,8 @@ repeat_answers at now peer mid last events t answer h order orderly in_time stan
 
 -- where nothing is repeated, fullness decides
 no_repeat : (now : ℕ) (peer : Peer) (mid last : ℕ) (events : List Event) (t : Table) → InOrder last t.exchanges → IsOrderly events → NoneAfter now events → ExchangesStandFor now events t
-    → None ≡ repeat_among now peer mid t.exchanges → keyed_new (is_full_of_exchanges now events) ≡ keyed_by now peer mid events
-unfolding keyed_by
+    → None ≡ repeat_among now peer mid t.exchanges → keyed_new (is_full_of_exchanges now events) ≡ keyed_after now peer mid events
+unfolding keyed_after
 no_repeat now peer mid last events t order orderly in_time stands none =
     by (repeated now peer mid events) (none ∙ repeat_stands now peer mid last events t order orderly in_time stands)
   where
@@ -100,7 +100,7 @@ each_admits [] = tt
 each_admits (e ∷ before) = by e.note refl (filter (λ a. not (is_failure_of a.place e.note)) (admissions before))
     (each_filter (λ a. is_admitting a.note ≡ true) (λ a. not (is_failure_of a.place e.note)) (admissions before) (each_admits before))
   where
-    by : (n : Note) → e.note ≡ n → (rest : List Event) → AllByRecursion (λ a. is_admitting a.note ≡ true) rest → AllByRecursion (λ a. is_admitting a.note ≡ true) (admission_by n e ++ rest)
+    by : (n : Note) → e.note ≡ n → (rest : List Event) → AllByRecursion (λ a. is_admitting a.note ≡ true) rest → AllByRecursion (λ a. is_admitting a.note ≡ true) (admission_noted n e ++ rest)
     by (note.Admitted peer mid) is rest more = (ap is_admitting is, more)
     by _ is rest more = more
 
@@ -114,7 +114,7 @@ unfolding exchanges_at
 length-kept now events t stands = ap length stands.kept ∙ length-exchanges events (kept now events) (each_kept now events)
 
 pub full_answers : (at now : ℕ) (peer : Peer) (mid last : ℕ) (events : List Event) (t : Table) (left : List Exchange) → at ≤ now → InOrder last t.exchanges → IsOrderly events → NoneAfter now events
-    → ExchangesStandFor at events t → None ≡ repeat_among now peer mid t.exchanges → left ≡ young now t.exchanges → 4_096 ≤ length left → keyed.FullExchanges ≡ keyed_by now peer mid events
+    → ExchangesStandFor at events t → None ≡ repeat_among now peer mid t.exchanges → left ≡ young now t.exchanges → 4_096 ≤ length left → keyed.FullExchanges ≡ keyed_after now peer mid events
 full_answers at now peer mid last events t left h order orderly in_time stands none aged full =
     let later = ExchangesStandFor-later at now events t h stands in
     let many = length-kept now events t later in
@@ -123,7 +123,7 @@ full_answers at now peer mid last events t left h order orderly in_time stands n
     ap keyed_new (sym yes) ∙ no_repeat now peer mid last events t order orderly in_time later none
 
 pub fresh_answers : (at now : ℕ) (peer : Peer) (mid last : ℕ) (events : List Event) (t : Table) (left : List Exchange) → at ≤ now → InOrder last t.exchanges → IsOrderly events → NoneAfter now events
-    → ExchangesStandFor at events t → None ≡ repeat_among now peer mid t.exchanges → left ≡ young now t.exchanges → length left < 4_096 → keyed.Fresh ≡ keyed_by now peer mid events
+    → ExchangesStandFor at events t → None ≡ repeat_among now peer mid t.exchanges → left ≡ young now t.exchanges → length left < 4_096 → keyed.Fresh ≡ keyed_after now peer mid events
 fresh_answers at now peer mid last events t left h order orderly in_time stands none aged room =
     let later = ExchangesStandFor-later at now events t h stands in
     let many = length-kept now events t later in
@@ -159,7 +159,7 @@ pub ExchangesStandFor-none : (at : ℕ) (t : Table) → t.exchanges ≡ [] → E
 unfolding exchanges_at kept admissions
 ExchangesStandFor-none at t none = record { kept = ap (young at) none }
 
--- one that tells nothing of exchanges
+-- one that says nothing of exchanges
 pub ExchangesStandFor-aside : (at : ℕ) (e : Event) (events : List Event) (t : Table) → is_aside e.note ≡ true → ExchangesStandFor at events t → ExchangesStandFor at (e ∷ events) t
 unfolding exchanges_at kept admissions
 ExchangesStandFor-aside at e events t aside stands = record { kept = stands.kept ∙ sym (same-exchanges e events here (each_one (λ a. answer_noted a.place e.note ≡ None) (λ a. silent a.place e.note aside) here) ∙ refl) ∙ sym (same e.note aside) }
@@ -172,7 +172,7 @@ ExchangesStandFor-aside at e events t aside stands = record { kept = stands.kept
     silent place _ h = refl
 
     same : (n : Note) → is_aside n ≡ true
-        → filter_map (exchange_of (e ∷ events)) (filter (λ a. is_young at a.moment) (admission_by n e ++ filter (λ a. not (is_failure_of a.place n)) (admissions events)))
+        → filter_map (exchange_of (e ∷ events)) (filter (λ a. is_young at a.moment) (admission_noted n e ++ filter (λ a. not (is_failure_of a.place n)) (admissions events)))
         ≡ filter_map (exchange_of (e ∷ events)) here
     same (note.Admitted peer mid) h = absurd (false≢true h)
     same (note.Settled place reply) h = absurd (false≢true h)
@@ -193,8 +193,8 @@ in_flight : (now : ℕ) (peer : Peer) (mid : ℕ) (e : Event) (events : List Eve
     → exchange_of (e ∷ events) e ≡ Some (just_admitted peer mid now)
 unfolding settled last_said just_admitted
 in_flight now peer mid e events is at new =
-    subst (λ n. exchange_by e.moment (or_else (answer_noted e.place n) (last_said (answer_noted e.place) events)) n ≡ Some (just_admitted peer mid now)) (sym is)
-    (ap (λ reply. exchange_by e.moment reply (note.Admitted peer mid)) (unsettled e.place events new) ∙ ap (λ m. Some (just_admitted peer mid m)) at)
+    subst (λ n. exchange_admitted e.moment (or_else (answer_noted e.place n) (last_said (answer_noted e.place) events)) n ≡ Some (just_admitted peer mid now)) (sym is)
+    (ap (λ reply. exchange_admitted e.moment reply (note.Admitted peer mid)) (unsettled e.place events new) ∙ ap (λ m. Some (just_admitted peer mid m)) at)
 
 -- one that admits a write
 pub ExchangesStandFor-admitted : (now : ℕ) (peer : Peer) (mid : ℕ) (e : Event) (events : List Event) (t more : Table) → e.note ≡ note.Admitted peer mid → e.moment ≡ now → IsNewPlace e.place events
@@ -216,10 +216,10 @@ ExchangesStandFor-admitted now peer mid e events t more is at new added stands =
     young_now : is_young now e.moment ≡ true
     young_now = ap (is_young now) at ∙ fresh now
 
-    there : filter_map (exchange_of (e ∷ events)) (filter (λ a. is_young now a.moment) (admission_by e.note e ++ filter (λ a. not (is_failure_of a.place e.note)) (admissions events)))
+    there : filter_map (exchange_of (e ∷ events)) (filter (λ a. is_young now a.moment) (admission_noted e.note e ++ filter (λ a. not (is_failure_of a.place e.note)) (admissions events)))
         ≡ just_admitted peer mid now ∷ filter_map (exchange_of events) here
     there =
-        subst (λ n. filter_map (exchange_of (e ∷ events)) (filter (λ a. is_young now a.moment) (admission_by n e ++ filter (λ a. not (is_failure_of a.place n)) (admissions events)))
+        subst (λ n. filter_map (exchange_of (e ∷ events)) (filter (λ a. is_young now a.moment) (admission_noted n e ++ filter (λ a. not (is_failure_of a.place n)) (admissions events)))
         ≡ just_admitted peer mid now ∷ filter_map (exchange_of events) here) (sym is)
         (rw (all_of (admissions events)) (rw young_now
         (ap (λ o. cons_option o (filter_map (exchange_of (e ∷ events)) here)) (in_flight now peer mid e events is at new)
@@ -245,13 +245,13 @@ ExchangesStandFor-settled at place peer mid admitted reply e events t more is or
     pairs : PairsByRecursion Follows (admissions events)
     pairs = (known events orderly).pairs
 
-    same : filter_map (exchange_of (e ∷ events)) (filter (λ a. is_young at a.moment) (admission_by e.note e ++ filter (λ a. not (is_failure_of a.place e.note)) (admissions events)))
+    same : filter_map (exchange_of (e ∷ events)) (filter (λ a. is_young at a.moment) (admission_noted e.note e ++ filter (λ a. not (is_failure_of a.place e.note)) (admissions events)))
         ≡ filter_map (exchange_of (e ∷ events)) here
     same =
-        subst (λ n. filter_map (exchange_of (e ∷ events)) (filter (λ a. is_young at a.moment) (admission_by n e ++ filter (λ a. not (is_failure_of a.place n)) (admissions events)))
+        subst (λ n. filter_map (exchange_of (e ∷ events)) (filter (λ a. is_young at a.moment) (admission_noted n e ++ filter (λ a. not (is_failure_of a.place n)) (admissions events)))
         ≡ filter_map (exchange_of (e ∷ events)) here) (sym is) (rw (all_of (admissions events)) refl)
 
--- one that ends a write for want of memory
+-- one that ends a write because memory ran out
 pub ExchangesStandFor-failed : (at place : ℕ) (peer : Peer) (mid admitted : ℕ) (e : Event) (events : List Event) (t fewer : Table) → e.note ≡ note.Failed place → IsOrderly events
     → HasAdmission place peer mid admitted events → fewer.exchanges ≡ without_first (is_admitted_at peer mid admitted) t.exchanges → ExchangesStandFor at events t → ExchangesStandFor at (e ∷ events) fewer
 unfolding exchanges_at kept admissions
@@ -276,10 +276,10 @@ ExchangesStandFor-failed at place peer mid admitted e events t fewer is orderly 
     pairs : PairsByRecursion Follows (admissions events)
     pairs = (known events orderly).pairs
 
-    same : filter_map (exchange_of (e ∷ events)) (filter (λ a. is_young at a.moment) (admission_by e.note e ++ filter (λ a. not (is_failure_of a.place e.note)) (admissions events)))
+    same : filter_map (exchange_of (e ∷ events)) (filter (λ a. is_young at a.moment) (admission_noted e.note e ++ filter (λ a. not (is_failure_of a.place e.note)) (admissions events)))
         ≡ filter_map (exchange_of events) left
     same =
-        subst (λ n. filter_map (exchange_of (e ∷ events)) (filter (λ a. is_young at a.moment) (admission_by n e ++ filter (λ a. not (is_failure_of a.place n)) (admissions events)))
+        subst (λ n. filter_map (exchange_of (e ∷ events)) (filter (λ a. is_young at a.moment) (admission_noted n e ++ filter (λ a. not (is_failure_of a.place n)) (admissions events)))
         ≡ filter_map (exchange_of (e ∷ events)) left) (sym is)
         (ap (filter_map (exchange_of (e ∷ events))) (filter_swapped (λ a. is_young at a.moment) (λ a. not (place == a.place)) (admissions events)))
         ∙ same-exchanges e events left (each_one (λ a. answer_noted a.place e.note ≡ None) (λ a. ap (answer_noted a.place) is) left)

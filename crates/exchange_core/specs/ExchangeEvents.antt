@@ -6,19 +6,19 @@ use Rattle.event_model.specs.declared.notes.Note.{Note}
 use Rattle.event_model.specs.declared.notes.Note.TheVariants as note
 use Rattle.event_model.specs.Events.{Event}
 use Rattle.event_model.specs.Repeats.{is_admission_of, admissions, kept, repeated, answer_noted, settled, is_full_of_exchanges}
-use Rattle.exchange_core.specs.declared.answers.Keyed.{Keyed}
-use Rattle.exchange_core.specs.declared.answers.Keyed.TheVariants as keyed
-use Rattle.exchange_core.specs.declared.rows.Exchange.{Exchange}
-use Rattle.exchange_core.specs.Rows.{Table, young, repeating}
+use Rattle.exchange_core.specs.declared.writes.Keyed.{Keyed}
+use Rattle.exchange_core.specs.declared.writes.Keyed.TheVariants as keyed
+use Rattle.exchange_core.specs.declared.writes.Exchange.{Exchange}
+use Rattle.exchange_core.specs.Table.{Table, young, repeating}
 
 -- an admission with its answer, as an exchange
-abbrev pub exchange_by : ℕ → Option (List ℕ) → Note → Option Exchange
-exchange_by moment reply (note.Admitted peer mid) = Some (record { peer = peer; mid = mid; admitted = record { 0 = moment }; reply = reply })
-exchange_by moment reply _ = None
+abbrev pub exchange_admitted : ℕ → Option (List ℕ) → Note → Option Exchange
+exchange_admitted moment reply (note.Admitted peer mid) = Some (record { peer = peer; mid = mid; admitted = record { 0 = moment }; reply = reply })
+exchange_admitted moment reply _ = None
 
 -- an admission with what the events say of its answer
 abbrev pub exchange_of : List Event → Event → Option Exchange
-exchange_of events a = exchange_by a.moment (settled a.place events) a.note
+exchange_of events a = exchange_admitted a.moment (settled a.place events) a.note
 
 -- the exchanges that are kept at a moment, the latest first
 unfoldable pub exchanges_at : ℕ → List Event → List Exchange
@@ -36,7 +36,7 @@ NoneAfter moment events = AllByRecursion (λ e. e.moment ≤ moment) events
 abbrev pub IsNewPlace : ℕ → List Event → Type 0
 IsNewPlace place events = AllByRecursion (λ e. (e.place ≢ place) × (answer_noted place e.note ≡ None)) events
 
--- an admission behind these events: it is new as a write, and as a place, and not before them
+-- an admission after these events: it is new as a write, and as a place, and not before them
 pub record AdmitsNew (peer : Peer) (mid : ℕ) (e : Event) (before : List Event) : Type 0 where
   pub no_repeat : repeated e.moment peer mid before ≡ None
   pub new_place : IsNewPlace e.place before
@@ -59,14 +59,14 @@ is_admitted_event place peer mid moment a = a.place == place && is_admission_of 
 abbrev pub HasAdmission : ℕ → Peer → ℕ → ℕ → List Event → Type 0
 HasAdmission place peer mid moment events = list_any (is_admitted_event place peer mid moment) (admissions events) ≡ true
 
--- the note tells nothing of exchanges
+-- the note says nothing of exchanges
 abbrev pub is_aside : Note → Bool
 is_aside (note.Admitted peer mid) = false
 is_aside (note.Settled place reply) = false
 is_aside (note.Failed place) = false
 is_aside _ = true
 
--- how a write of a peer under a Message ID is answered behind these events
+-- how a write of a peer under a Message ID is answered after these events
 abbrev pub keyed_new : Bool → Keyed
 keyed_new true = keyed.FullExchanges
 keyed_new false = keyed.Fresh
@@ -75,5 +75,5 @@ abbrev pub keyed_as : Option Event → ℕ → List Event → Keyed
 keyed_as (Some first) moment events = repeating (settled first.place events)
 keyed_as None moment events = keyed_new (is_full_of_exchanges moment events)
 
-unfoldable pub keyed_by : ℕ → Peer → ℕ → List Event → Keyed
-keyed_by moment peer mid events = keyed_as (repeated moment peer mid events) moment events
+unfoldable pub keyed_after : ℕ → Peer → ℕ → List Event → Keyed
+keyed_after moment peer mid events = keyed_as (repeated moment peer mid events) moment events

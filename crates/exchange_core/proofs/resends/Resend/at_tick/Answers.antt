@@ -1,7 +1,7 @@
 use Rattle.std.proofs.Common.{arith, subst, sym}
-use Rattle.exchange_core.specs.Resending.{Resends}
+use Rattle.exchange_core.specs.Retransmissions.{Resends}
 use Rattle.exchange_core.proofs.ResendLaws.{due_waits, due_sends, due_ends, sent_again}
-use Rattle.exchange_core.proofs.resending.Resend.at_tick.Goals as goal
+use Rattle.exchange_core.proofs.resends.Resend.at_tick.Goals as goal
 
 pub returns-then-saturating_sub-from-clause-answer : goal.returns-then-saturating_sub-from-clause-answer
 returns-then-saturating_sub-from-clause-answer c first others h =

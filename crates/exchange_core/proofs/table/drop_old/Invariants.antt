@@ -1,7 +1,7 @@
 use Rattle.std.proofs.Common.{◌≡◌, length}
 use Rattle.std.specs.VecDeque.{deque_capacity}
-use Rattle.exchange_core.specs.Rows.{InOrder, young}
-use Rattle.exchange_core.proofs.held.drop_old.Given as goal
+use Rattle.exchange_core.specs.Table.{InOrder, young}
+use Rattle.exchange_core.proofs.table.drop_old.Given as goal
 
 abbrev pub invariant-oldest : goal.invariant-oldest
 invariant-oldest l = record {

@@ -1,4 +1,4 @@
--- What is sent: answers, Resets and acknowledgements, and which Message IDs they have (RFC 7252 sections 4.2, 4.3, 4.4 and 5.2).
+-- What a step does, and what it sends: answers, Resets and acknowledgements, and which Message IDs they have (RFC 7252 sections 4.2, 4.3, 4.4 and 5.2).
 use Rattle.std.specs.Prelude.{ℕ, ◌+◌, ◌*◌, ◌%◌, List, [], ◌∷◌, ◌++◌}
 use Rattle.rd_base.specs.declared.peers.Peer.{Peer}
 use Rattle.message_model.specs.declared.messages.Kind4.{Kind4}
@@ -31,7 +31,7 @@ noting notes = record { sent = []; notes = notes; drew = 0 }
 abbrev pub sending : Peer → List ℕ → Effects
 sending peer octets = record { sent = (peer, octets) ∷ []; notes = []; drew = 0 }
 
--- how many Message IDs are told apart for each worker
+-- how many Message IDs each worker has
 abbrev pub worker_mids : ℕ
 worker_mids = 4_096
 

@@ -8,7 +8,7 @@ use Rattle.event_model.specs.Events.{Event}
 use Rattle.event_model.specs.Observers.{observers}
 use Rattle.event_model.specs.Flights.{Flight, flight}
 use Rattle.event_model.specs.Fetches.{is_fetching, last_request, request_noted, Request}
-use Rattle.journal_model.specs.Sending.{Effects, noting}
+use Rattle.journal_model.specs.Effects.{Effects, noting}
 
 -- the notice has this Message ID
 abbrev pub is_flight_of : ℕ → Option Flight → Bool

@@ -1,9 +1,9 @@
-// When a message that waits for its acknowledgement is sent again.
+//! Messages that wait for their acknowledgement, and when they are sent again.
 ghost use Rattle.std.specs.Prelude.{◌≡◌, ◌≢◌, [], ◌∷◌, List};
 ghost use Rattle.event_model.specs.Events.{Event};
-ghost use Rattle.exchange_core.specs.Resending.{Resends, due_at};
+ghost use Rattle.exchange_core.specs.Retransmissions.{Resends, due_at};
 
-use rd_base::Moment;
+use rd_base::{Bytes, Moment};
 use std::marker::Model;
 
 /// The first wait is at least so long, in milliseconds (RFC 7252 section 4.8, ACK_TIMEOUT).
@@ -29,16 +29,19 @@ pub enum Again {
 /// When a message is sent again: after a first wait, and then after waits that are each twice as long (RFC 7252 section 4.2).
 #[derive(Debug, Drop)]
 pub struct Resend {
+    /// When it was last sent.
     sent: Moment,
+    /// How long it waits from then on, in milliseconds.
     wait: u32,
+    /// How often it was sent again.
     again: u8,
 }
 
 impl Model for Resend {
     ghost use Rattle.std.specs.Prelude.{ℕ, ◌<◌, ◌≤◌, ◌*◌, ◌^◌};
-    ghost use Rattle.exchange_core.specs.Resending.{Resending};
+    ghost use Rattle.exchange_core.specs.Retransmissions.{Retransmission};
 
-    ghost Value = { Resending };
+    ghost Value = { Retransmission };
 
     ghost view = { λ r. record { sent = r.sent.0; wait = r.wait; again = r.again } };
 
@@ -46,7 +49,7 @@ impl Model for Resend {
 }
 
 impl Resend {
-    /// Of a message that is sent first now, with the word that its first wait is drawn from.
+    /// Of a message that is sent first now, with the word that its first wait is made from.
     pub fn start(now: Moment, word: u32) -> Resend
         ensures { (first : Event) → first.moment ≡ now.0 → first.word ≡ word → Resends first [] result }
     {
@@ -74,4 +77,15 @@ impl Resend {
         self.again += 1;
         Again::Send
     }
+}
+
+/// A message in flight: its Message ID, its octets, and when it is sent again.
+#[derive(Debug, Drop)]
+pub struct Flight {
+    /// The Message ID, by which it is acknowledged.
+    pub mid: u16,
+    /// The message, as it was sent and is sent again.
+    pub bytes: Bytes,
+    /// When it is sent again, and when it is given up.
+    pub resend: Resend,
 }

@@ -9,7 +9,7 @@ use Rattle.event_model.specs.declared.notes.Note.TheVariants as note
 use Rattle.event_model.specs.declared.notes.Observer.{Observer}
 use Rattle.event_model.specs.Same.{RequestName}
 use Rattle.event_model.specs.Events.{Event, noted, last_event, has_event, or_else, last_said}
-use Rattle.event_model.specs.Observers.{name_of, is_end_of, watched_by, observers, body_formed, last_body_formed}
+use Rattle.event_model.specs.Observers.{name_of, is_end_of, observer_added, observers, body_formed, last_body_formed}
 use Rattle.event_model.specs.Due.{is_looking_for}
 
 -- an event of a row
@@ -78,7 +78,7 @@ pub not_formed : (name : RequestName) (n : Note) → is_looking_for name n ≡ f
 not_formed name (note.Formed peer token body mid) h = rw h refl
 not_formed name _ h = refl
 
--- where a row looks at no listing of an observer, the body that was given is the one before
+-- where a row looks at no listing of an observer, the body that was last formed is the one before
 pub last_body_formed-before : (name : RequestName) (place moment word : ℕ) (notes : List Note) (before : List Event) → list_any (is_looking_for name) notes ≡ false
     → last_body_formed name (noted place moment word notes before) ≡ last_body_formed name before
 unfolding last_body_formed last_said
@@ -86,12 +86,12 @@ last_body_formed-before name place moment word [] before none = refl
 last_body_formed-before name place moment word (n ∷ notes) before none =
     by (is_looking_for name n) refl none (λ h. last_body_formed-before name place moment word notes (event_at place moment word n ∷ before) h)
   where
-    Given : List Event → Option (List ℕ)
-    Given events = last_said (body_formed name) events
+    Last : List Event → Option (List ℕ)
+    Last events = last_said (body_formed name) events
 
     by : (b : Bool) → is_looking_for name n ≡ b → (b || list_any (is_looking_for name) notes) ≡ false
-        → (list_any (is_looking_for name) notes ≡ false → Given (noted place moment word notes (event_at place moment word n ∷ before)) ≡ or_else (body_formed name n) (Given before))
-        → Given (noted place moment word notes (event_at place moment word n ∷ before)) ≡ Given before
+        → (list_any (is_looking_for name) notes ≡ false → Last (noted place moment word notes (event_at place moment word n ∷ before)) ≡ or_else (body_formed name n) (Last before))
+        → Last (noted place moment word notes (event_at place moment word n ∷ before)) ≡ Last before
     by true it h more = absurd (false≢true (sym h))
     by false it h more = more h ∙ rw (not_formed name n it) refl
 
@@ -108,7 +108,7 @@ observers-noted P place moment word [] before none each = each
 observers-noted P place moment word (n ∷ notes) before none each =
     by (is_watching n) refl none (λ h more. observers-noted P place moment word notes (event_at place moment word n ∷ before) h more)
   where
-    nobody : (x : Note) → is_watching x ≡ false → watched_by x ≡ []
+    nobody : (x : Note) → is_watching x ≡ false → observer_added x ≡ []
     nobody (note.Watched o) h = absurd (false≢true (sym h))
     nobody _ h = refl
 
@@ -116,7 +116,7 @@ observers-noted P place moment word (n ∷ notes) before none each =
     left = filter (λ o. not (is_end_of n (name_of o))) (observers before)
 
     by : (b : Bool) → is_watching n ≡ b → (b || list_any is_watching notes) ≡ false
-        → (list_any is_watching notes ≡ false → AllByRecursion P (left ++ watched_by n) → AllByRecursion P (observers (noted place moment word notes (event_at place moment word n ∷ before))))
+        → (list_any is_watching notes ≡ false → AllByRecursion P (left ++ observer_added n) → AllByRecursion P (observers (noted place moment word notes (event_at place moment word n ∷ before))))
         → AllByRecursion P (observers (noted place moment word notes (event_at place moment word n ∷ before)))
     by true it h more = absurd (false≢true (sym h))
     by false it h more = more h (rw (nobody n it) (rw (append-nil left) (each_filter P (λ o. not (is_end_of n (name_of o))) (observers before) each)))

@@ -1,12 +1,12 @@
--- What each look back finds with one event more.
+-- What each definition that looks back over events finds with one event more.
 use Rattle.std.proofs.Common.{◌≡◌, Bool, not, cond, List, [], ◌∷◌, ◌++◌, filter, Option, refl}
 use Rattle.event_model.specs.declared.notes.Note.{Note}
 use Rattle.event_model.specs.Same.{RequestName}
 use Rattle.event_model.specs.Events.{Event, events_since, or_else, last_said}
-use Rattle.event_model.specs.Repeats.{admission_by, is_failure_of, admissions}
+use Rattle.event_model.specs.Repeats.{admission_noted, is_failure_of, admissions}
 use Rattle.event_model.specs.Uploads.{collected_after, upload, starts_or_ends_upload, begun_by, uploads}
 use Rattle.event_model.specs.KeptAnswers.{used_by, is_use_of, names_used}
-use Rattle.event_model.specs.Observers.{name_of, is_end_of, watched_by, observers}
+use Rattle.event_model.specs.Observers.{name_of, is_end_of, observer_added, observers}
 use Rattle.event_model.specs.Fetches as fetching
 use Rattle.event_model.specs.Fetches.{fetches, started_by}
 
@@ -18,7 +18,7 @@ pub events_since-event : (is_kind : Note → Bool) (e : Event) (before : List Ev
 unfolding events_since
 events_since-event is_kind e before = refl
 
-pub admissions-event : (e : Event) (before : List Event) → admissions (e ∷ before) ≡ admission_by e.note e ++ filter (λ a. not (is_failure_of a.place e.note)) (admissions before)
+pub admissions-event : (e : Event) (before : List Event) → admissions (e ∷ before) ≡ admission_noted e.note e ++ filter (λ a. not (is_failure_of a.place e.note)) (admissions before)
 unfolding admissions
 admissions-event e before = refl
 
@@ -34,7 +34,7 @@ pub names_used-event : (e : Event) (before : List Event) → names_used (e ∷ b
 unfolding names_used
 names_used-event e before = refl
 
-pub observers-event : (e : Event) (before : List Event) → observers (e ∷ before) ≡ filter (λ o. not (is_end_of e.note (name_of o))) (observers before) ++ watched_by e.note
+pub observers-event : (e : Event) (before : List Event) → observers (e ∷ before) ≡ filter (λ o. not (is_end_of e.note (name_of o))) (observers before) ++ observer_added e.note
 unfolding observers
 observers-event e before = refl
 
