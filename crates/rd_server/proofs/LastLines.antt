@@ -11,9 +11,9 @@ use Rattle.rd_server.specs.Fields.{cut}
 use Rattle.line_model.specs.Lines.{line_of}
 use Rattle.line_model.specs.Texts.{lines_of}
 use Rattle.rd_server.specs.Journal.{Row, Journal, journal, goes_on, after_line, text, end_line}
-use Rattle.rd_server.specs.Standing.{DeskKeeps}
+use Rattle.rd_server.specs.Desks.{DeskKeeps}
 use Rattle.rd_server.specs.Endings.{IsFrontOf, whole_text}
-use Rattle.rd_server.specs.Going.{Place, IsAt, Halts, DoesLine, EndsLines, Finishes, Writes, WritesMore, journal_from}
+use Rattle.rd_server.specs.Sessions.{Place, IsAt, Halts, DoesLine, EndsLines, Finishes, Writes, WritesMore, journal_from}
 use Rattle.rd_server.proofs.LineFeeds.{lines_last, one_line}
 use Rattle.rd_server.proofs.Fronts.{front_take, front_behind, front_nothing, journal_front}
 use Rattle.rd_server.proofs.Journeys.{ok_and, err_and, unwritten_halts, starved_halts}

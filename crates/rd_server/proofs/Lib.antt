@@ -1,14 +1,14 @@
 pub mod Cuts
 pub mod Parts
-pub mod Registering
-pub mod Performing
-pub mod Writing
+pub mod NumberLaws
+pub mod StepLaws
+pub mod WrittenPieces
 pub mod LineDone
 pub mod LineFeeds
 pub mod Fronts
 pub mod Journeys
 pub mod LastLines
-pub mod Saying
-pub mod Whole
+pub mod ReportLaws
+pub mod ReplayLaws
 pub mod Accounts
 mod examples

@@ -1,4 +1,4 @@
-// Texts between separators.
+//! Texts between separators.
 ghost use Rattle.std.specs.Prelude.{◌≡◌, ◌<◌, ◌==◌, option_map, IfSome, length, position};
 ghost use Rattle.rd_server.specs.Fields as fields;
 

@@ -1,4 +1,4 @@
-// Traces replayed from memory, with ample memory: what no contract can tell is that they end otherwise than for want of it.
+//! Traces replayed from memory, with ample memory: no contract says that they end otherwise than because memory ran out.
 use crate::{LineBad, Reason, Status, replay};
 use rd_base::{Bytes, MemSink, MemSource, Starved, SureSink, SureSource};
 use std::alloc::Global;

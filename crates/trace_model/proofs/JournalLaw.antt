@@ -85,8 +85,8 @@ step_of_line-MayGive workers rows (Ok l) = by (nat_lt (worker_of l) workers)
     by false = bad
 
 -- a journal stays one with one line more
-told_line-IsJournal : (workers : ℕ) (t : Traced) (text : List ℕ) → IsJournal t.journal → IsJournal (traced_line is_never workers t text).journal
-told_line-IsJournal workers t text journal = by t.bad
+traced_line-IsJournal : (workers : ℕ) (t : Traced) (text : List ℕ) → IsJournal t.journal → IsJournal (traced_line is_never workers t text).journal
+traced_line-IsJournal workers t text journal = by t.bad
   where
     stepped : (given : Result (Option Step) Reason) → MayGive t.journal given → IsJournal (traced_step is_never t given).journal
     stepped (Err why) bad = journal
@@ -104,4 +104,4 @@ traced-IsJournal workers bytes = folded (lines_of bytes) nothing_traced begun
   where
     folded : (texts : List (List ℕ)) (t : Traced) → IsJournal t.journal → IsJournal (fold (traced_line is_never workers) t texts).journal
     folded [] t journal = journal
-    folded (text ∷ texts) t journal = folded texts (traced_line is_never workers t text) (told_line-IsJournal workers t text journal)
+    folded (text ∷ texts) t journal = folded texts (traced_line is_never workers t text) (traced_line-IsJournal workers t text journal)

@@ -1,7 +1,7 @@
 use Rattle.std.proofs.Common.{◌++◌, take, Some, None, refl, ◌∙◌}
 use Rattle.std.proofs.KnownBytes.{Consumes-trans}
 use Rattle.rd_server.proofs.Journeys.{feeds_more}
-use Rattle.rd_server.proofs.replaying.read_all.Goals as goal
+use Rattle.rd_server.proofs.replays.read_all.Goals as goal
 
 pub returns-in-Some-clause-read : goal.returns-in-Some-clause-read
 returns-in-Some-clause-read g c place at =

@@ -1,6 +1,6 @@
-use Rattle.rd_server.proofs.Whole.{stopped, failed, done, unfinished}
-use Rattle.rd_server.specs.Going.{start}
-use Rattle.rd_server.proofs.replaying.run_in.Goals as goal
+use Rattle.rd_server.proofs.ReplayLaws.{stopped, failed, done, unfinished}
+use Rattle.rd_server.specs.Sessions.{start}
+use Rattle.rd_server.proofs.replays.run_in.Goals as goal
 
 pub returns-in-Failed-clause-written : goal.returns-in-Failed-clause-written
 returns-in-Failed-clause-written g c = let r = c.in-Failed.ensures.read start c.requires in failed _ _ r.0 c.read_all.new.session _ _ r.1 r.2

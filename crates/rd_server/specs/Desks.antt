@@ -1,4 +1,5 @@
 -- What a desk stands for, and what its steps answer.
+-- A scaffold: it goes when the desk serves every request.
 use Rattle.std.specs.Prelude.{◌≡◌, ℕ, List, [], ◌∷◌, Option, Some, None, bytes_eq, max, if◌then◌else◌}
 use Rattle.std.specs.HashMap.{get}
 use Rattle.rd_base.specs.declared.moments.Moment.{Moment}

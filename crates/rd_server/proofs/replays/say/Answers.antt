@@ -1,7 +1,7 @@
 use Rattle.std.proofs.Common.{ℕ, List, [], Bor, get_or, drop, suc, subst, drop-cons}
 use Rattle.rd_base.specs.Outside.{Rose}
-use Rattle.rd_server.proofs.Saying.{all_said, front_said}
-use Rattle.rd_server.proofs.replaying.say.Goals as goal
+use Rattle.rd_server.proofs.ReportLaws.{all_said, front_said}
+use Rattle.rd_server.proofs.replays.say.Goals as goal
 
 pub returns-then-not-write_all : goal.returns-then-not-write_all
 returns-then-not-write_all g c =

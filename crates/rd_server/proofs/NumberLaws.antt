@@ -10,7 +10,7 @@ use Rattle.rd_server.specs.declared.desk.Job.{Job}
 use Rattle.rd_server.specs.Forms.{location}
 use Rattle.rd_server.specs.Journal.{Row, Entry, given, drawn, held, number_by, number_in}
 use Rattle.rd_server.specs.declared.registry.Registry.{Registry}
-use Rattle.rd_server.specs.Standing.{DeskKeeps, KeepsNumbers, GivesNumber, Went}
+use Rattle.rd_server.specs.Desks.{DeskKeeps, KeepsNumbers, GivesNumber, Went}
 
 -- a number that a name has is not above the greatest
 below_by : (name : List ℕ) (entry : Option Entry) (earlier : Option ℕ) (most n : ℕ) → ((m : ℕ) → earlier ≡ Some m → m ≤ most)
@@ -43,18 +43,6 @@ gives_again rows name number registry keeps found =
       drawn_is = let k = given_below name rows number e in let d = keeps.drawn_so_far in omega arith;
     }
 
--- a new name gets the next number
-pub gives_next : (rows : List Row) (name : List ℕ) (number : ℕ) (old new : Registry) → KeepsNumbers rows old → None ≡ get bytes_eq old.numbers name → number ≡ old.drawn + 1
-    → ((other : List ℕ) → get bytes_eq new.numbers other ≡ (if bytes_eq name other then Some number else get bytes_eq old.numbers other)) → new.drawn ≡ number
-    → GivesNumber rows name number new
-gives_next rows name number old new keeps absent next puts drew =
-    let e : given name rows ≡ None = sym (keeps.numbers name) ∙ sym absent in
-    record {
-      number_is = next ∙ ap (λ n. n + 1) keeps.drawn_so_far ∙ sym (ap (λ (o : Option ℕ). unwrap_or o (drawn rows + 1)) e);
-      numbers = λ other. puts other ∙ ap (λ (o : Option ℕ). if bytes_eq name other then Some number else o) (keeps.numbers other);
-      drawn_is = let d = keeps.drawn_so_far in omega arith;
-    }
-
 -- after the end of a job the desk stands for one row more
 pub went : (rows : List Row) (worker : ℕ) (moment : Moment) (old new : Desk) (job : Job) (number : ℕ) (answer : List ℕ) → DeskKeeps rows old → old.job ≡ Some job
     → GivesNumber rows job.name number new.registry → new.entries ≡ old.entries + 1 → new.job ≡ None → answer ≡ job.answer ++ location number
@@ -72,12 +60,6 @@ went rows worker moment old new job number answer st isjob gives counted free an
       ap (λ (a : List ℕ). (job.peer, a) ∷ []) (sym (answered ∙ ap (λ n. job.answer ++ location n) gives.number_is)),
     ) in
     subst (λ (h : Option Job). Went rows worker moment h new (Some (job.peer, answer))) (sym isjob ∙ st.job_held) here
-
--- without a job nothing happens
-pub went_nowhere : (rows : List Row) (worker : ℕ) (moment : Moment) (desk : Desk) → DeskKeeps rows desk → desk.job ≡ None → Went rows worker moment (held rows) desk None
-went_nowhere rows worker moment desk st free =
-    let here : Went rows worker moment None desk None = (st, refl) in
-    subst (λ (h : Option Job). Went rows worker moment h desk None) (sym free ∙ st.job_held) here
 
 -- the value where a fact decides whether there is one
 pub some_value : (o : Option ℕ) (P : Type 0) (v x : ℕ) → SomeIff o P v → o ≡ Some x → x ≡ v

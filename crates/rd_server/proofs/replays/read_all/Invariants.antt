@@ -1,7 +1,7 @@
 use Rattle.std.proofs.Common.{◌≡◌, List, ℕ}
 use Rattle.std.specs.Io.KnownBytes.{Consumes}
-use Rattle.rd_server.specs.Going.{Place, IsAt, Goes}
-use Rattle.rd_server.proofs.replaying.read_all.Given as goal
+use Rattle.rd_server.specs.Sessions.{Place, IsAt, Goes}
+use Rattle.rd_server.proofs.replays.read_all.Given as goal
 
 -- no call failed, and what was taken from the source led to where the session is
 abbrev pub invariant-pieces : goal.invariant-pieces

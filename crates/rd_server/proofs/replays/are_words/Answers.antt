@@ -2,8 +2,8 @@ use Rattle.std.proofs.Common.{ap, sym, ◌∙◌}
 use Rattle.std.specs.Prelude.{map, bytes_eq, codes}
 use Rattle.std.specs.String.{string_bytes}
 use Rattle.rd_server.specs.Endings.{are_words}
-use Rattle.rd_server.proofs.Saying.{one_of}
-use Rattle.rd_server.proofs.replaying.are_words.Goals as goal
+use Rattle.rd_server.proofs.ReportLaws.{one_of}
+use Rattle.rd_server.proofs.replays.are_words.Goals as goal
 
 pub returns-in-len1 : goal.returns-in-len1
 returns-in-len1 c =

@@ -16,7 +16,7 @@ use Rattle.rd_server.specs.Fields.{cut}
 use Rattle.line_model.specs.Lines.{line_of}
 use Rattle.line_model.specs.Texts.{lines_of}
 use Rattle.rd_server.specs.Journal.{Row, Journal, journal, after_line, out_line, text}
-use Rattle.rd_server.specs.Standing.{DeskKeeps}
+use Rattle.rd_server.specs.Desks.{DeskKeeps}
 use Rattle.rd_server.specs.Endings.{IsFrontOf, whole_text}
 
 -- a place in a trace: the rows so far, the number of the next line, and what has come of that line

@@ -13,8 +13,8 @@ use Rattle.line_model.specs.declared.lines.Reason.{Reason}
 use Rattle.line_model.specs.declared.lines.Reason.TheVariants as reason
 use Rattle.rd_server.specs.Journal.{out_line}
 use Rattle.rd_server.specs.Journal.{Row, held, come_row, go_row, number_for, gone, worker_in, workers, after_step, after_line, text}
-use Rattle.rd_server.specs.Standing.{DeskKeeps, Answers, Went}
-use Rattle.rd_server.specs.Going.{Performs, sent_text}
+use Rattle.rd_server.specs.Desks.{DeskKeeps, Answers, Went}
+use Rattle.rd_server.specs.Sessions.{Performs, sent_text}
 
 none_held : (o : Option Job) → is_some o ≡ false → o ≡ None
 none_held None e = refl

@@ -1,7 +1,7 @@
 use Rattle.std.proofs.Common.{◌≡◌, take}
 use Rattle.std.specs.Io.KnownBytes.{Appends}
-use Rattle.rd_server.proofs.Saying.{joined}
-use Rattle.rd_server.proofs.replaying.say.Given as goal
+use Rattle.rd_server.proofs.ReportLaws.{joined}
+use Rattle.rd_server.proofs.replays.say.Given as goal
 
 -- the texts so far were said, and no call failed
 abbrev pub invariant-texts : goal.invariant-texts

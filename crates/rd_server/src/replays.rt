@@ -1,4 +1,4 @@
-// A trace replayed: from words and octets to output lines and a status.
+//! A trace replayed: from words and octets to output lines and a status.
 ghost use Rattle.std.specs.Prelude.{◌≡◌, ◌↔◌, ◌≤◌, ℕ, List, [], map, flat_map, drop, decimal, IfSome, true, false};
 ghost use Rattle.std.specs.String.{string_bytes};
 ghost use Rattle.std.specs.Io.KnownBytes.{IsAtEnd};
@@ -6,7 +6,7 @@ ghost use Rattle.std.specs.List.{AllByRecursion};
 ghost use Rattle.rd_server.specs.Journal as journals;
 ghost use Rattle.rd_server.specs.Endings as ends;
 ghost use Rattle.rd_server.specs.Endings.{IsWritten, EndsBy, CountsReads, CountsWrites, IsReported};
-ghost use Rattle.rd_server.specs.Going.{Place, IsAt, ReadsAll, CountsFailed, CountsStopped, start};
+ghost use Rattle.rd_server.specs.Sessions.{Place, IsAt, ReadsAll, CountsFailed, CountsStopped, start};
 
 use crate::endings::{Read, Status, Stop};
 use crate::sessions::{Session, write_all};

@@ -1,6 +1,6 @@
 use Rattle.rd_server.specs.declared.endings.Status.TheVariants as status
-use Rattle.rd_server.proofs.Saying.{said}
-use Rattle.rd_server.proofs.replaying.report.Goals as goal
+use Rattle.rd_server.proofs.ReportLaws.{said}
+use Rattle.rd_server.proofs.replays.report.Goals as goal
 
 pub returns-in-ReadFault : goal.returns-in-ReadFault
 returns-in-ReadFault g c = said _ status.ReadFault _ _ _ _ c.in-ReadFault.is c.say.ensures

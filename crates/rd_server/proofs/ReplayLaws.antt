@@ -11,7 +11,7 @@ use Rattle.rd_server.specs.declared.sessions.Session.{Session}
 use Rattle.rd_server.specs.Journal.{Journal, journal_of, text, end_line}
 use Rattle.line_model.specs.Texts.{lines_of}
 use Rattle.rd_server.specs.Endings.{IsWritten, IsFrontOf, whole_text, status_of}
-use Rattle.rd_server.specs.Going.{Goes, Feeds, Halts, Finishes, start, journal_from}
+use Rattle.rd_server.specs.Sessions.{Goes, Feeds, Halts, Finishes, start, journal_from}
 use Rattle.rd_server.proofs.Fronts.{journal_front, whole_front}
 use Rattle.rd_server.proofs.Journeys.{halts_before}
 
