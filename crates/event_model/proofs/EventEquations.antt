@@ -1,4 +1,5 @@
 -- What each definition that looks back over events finds with one event more.
+-- End theorems, for what keeps the events of a journal: nothing here cites them.
 use Rattle.std.proofs.Common.{◌≡◌, Bool, not, cond, List, [], ◌∷◌, ◌++◌, filter, Option, refl}
 use Rattle.event_model.specs.declared.notes.Note.{Note}
 use Rattle.event_model.specs.Same.{RequestName}

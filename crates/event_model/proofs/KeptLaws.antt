@@ -1,5 +1,5 @@
 -- The last admission of a peer and a Message ID: where it is young and did not fail, it is kept, and a write of them is a repeat.
-use Rattle.std.proofs.Common.{◌≡◌, ℕ, ◌==◌, ◌||◌, Bool, true, false, not, cond, List, [], ◌∷◌, ◌++◌, filter, Some, None, option_and_then, refl, sym, ap, subst, ◌∙◌, eqb-true, arith}
+use Rattle.std.proofs.Common.{◌≡◌, ℕ, ◌==◌, ◌||◌, Bool, true, false, not, cond, List, [], ◌∷◌, ◌++◌, filter, Some, None, option_and_then, refl, sym, ap, subst, ◌∙◌, eqb-true}
 use Rattle.std.specs.List.{list_any}
 use Rattle.std.proofs.lemmas.Bool.{false≢true, or_right, or_parts}
 use Rattle.std.proofs.lemmas.List.Elements.{filter-append}
@@ -13,9 +13,9 @@ use Rattle.event_model.specs.Repeats.{is_admission_of, admission_noted, is_failu
 use Rattle.rd_base.proofs.lemmas.Numbers.{eqb-refl}
 
 -- so it is after others, and among those that pass another test
-found_behind : (test young keep : Event → Bool) → ((o : Event) → test o ≡ true → keep o ≡ true) → (xs ys : List Event) → list_any test (filter young ys) ≡ true
+found_filtered : (test young keep : Event → Bool) → ((o : Event) → test o ≡ true → keep o ≡ true) → (xs ys : List Event) → list_any test (filter young ys) ≡ true
     → list_any test (filter young (xs ++ filter keep ys)) ≡ true
-found_behind test young keep kept_too xs ys h =
+found_filtered test young keep kept_too xs ys h =
     rw (filter-append young xs (filter keep ys)) (rw (list_any-append test (filter young xs) (filter young (filter keep ys)))
     (or_right (list_any test (filter young xs)) (list_any test (filter young (filter keep ys)))
     (ap (list_any test) (filter_swapped young keep ys) ∙ (any_kept test keep kept_too (filter young ys) ∙ h))))
@@ -42,7 +42,7 @@ last_is_kept now peer mid (e ∷ before) a last young alive =
         let same : e ≡ a = cc in
         rw (admitted_by peer mid e.note e it) (rw (subst (λ (x : Event). is_young now x.moment ≡ true) (sym same) young) (rw (subst (λ (x : Event). (x.place == a.place) ≡ true) (sym same) (eqb-refl a.place)) refl))
     by false it found both more =
-        found_behind (λ other. other.place == a.place) (λ x. is_young now x.moment) (λ x. not (is_failure_of x.place e.note))
+        found_filtered (λ other. other.place == a.place) (λ x. is_young now x.moment) (λ x. not (is_failure_of x.place e.note))
         (λ o t. ap not (subst (λ p. is_failure_of p e.note ≡ false) (sym (eqb-true o.place a.place t)) both.0)) (admission_noted e.note e) (admissions before) (more found both.1)
 
 -- where no kept admission has a peer and a Message ID, but the last one with them is young, that one failed

@@ -1,3 +1,7 @@
+-- The tests of peers, requests and queries: SameLaws.
+-- Looking back over events: NotedLaws (the notes of a row), EventEquations (one event more), KeptLaws (admissions).
+-- Observers: ObserverLaws (no two have one name), AddedObservers and ManyObservers (those that notes add).
+-- OnLiterals unfolds the definitions, so that examples compute.
 pub mod OnLiterals
 pub mod SameLaws
 pub mod KeptLaws

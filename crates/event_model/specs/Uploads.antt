@@ -16,7 +16,7 @@ max_body = 8_192
 abbrev pub collected_after : RequestName → Note → Option (List ℕ) → Option (List ℕ)
 collected_after name (note.Piece peer key number octets) before =
     if is_same_request (peer, key) name
-    then (if number == 0 then Some octets else option_map (λ front. front ++ octets) before)
+    then (if number == 0 then Some octets else option_map (λ collected. collected ++ octets) before)
     else before
 collected_after name (note.Finished peer key) before = if is_same_request (peer, key) name then None else before
 collected_after name _ before = before

@@ -2,8 +2,13 @@
 use Rattle.std.proofs.Common.{◌≡◌, Bool, true, false, ◌||◌, cond, List, [], ◌∷◌, filter, find, Some, None, refl, sym, ap, subst, ◌∙◌}
 use Rattle.std.specs.List.{list_any, AllByRecursion}
 use Rattle.std.proofs.lemmas.Bool.{false≢true}
+use Rattle.rd_base.proofs.lemmas.Each.{each_one}
+use Rattle.rd_base.proofs.lemmas.Filters.{filter_all}
 use Rattle.rd_base.proofs.lemmas.Pairs.{PairsByRecursion}
-use Rattle.rd_base.proofs.lemmas.Filters.{filter_none, any_kept}
+
+-- a filter that keeps all
+pub filter_true : {X : Type 0} (xs : List X) → filter (λ x. true) xs ≡ xs
+filter_true xs = filter_all (λ x. true) xs (each_one (λ x. true ≡ true) (λ x. refl) xs)
 
 -- what is found passes, and what holds of each holds of it
 pub found_passes : {X : Type 0} (test : X → Bool) (xs : List X) (a : X) → find test xs ≡ Some a → test a ≡ true
@@ -47,9 +52,9 @@ each_filtered {X} P keep (x ∷ xs) h = by (keep x) refl h (each_filtered P keep
     by false e k more = (λ yes. absurd (false≢true (sym e ∙ yes)), more k)
 
 -- nothing is found in what a filter keeps where nothing was found before it
-pub none_behind : {X : Type 0} (test keep : X → Bool) (xs : List X) → find test xs ≡ None → find test (filter keep xs) ≡ None
-none_behind test keep [] none = refl
-none_behind {X} test keep (x ∷ xs) none = by (keep x) (test x) refl none (none_behind test keep xs)
+pub none_filtered : {X : Type 0} (test keep : X → Bool) (xs : List X) → find test xs ≡ None → find test (filter keep xs) ≡ None
+none_filtered test keep [] none = refl
+none_filtered {X} test keep (x ∷ xs) none = by (keep x) (test x) refl none (none_filtered test keep xs)
   where
     by : (k t : Bool) → test x ≡ t → cond t (Some x) (find test xs) ≡ None → (find test xs ≡ None → find test (filter keep xs) ≡ None)
         → find test (cond k (x ∷ filter keep xs) (filter keep xs)) ≡ None
@@ -58,9 +63,9 @@ none_behind {X} test keep (x ∷ xs) none = by (keep x) (test x) refl none (none
     by false false t h more = more h
 
 -- what is found before a filter and kept by it is found in what it keeps
-pub found_behind : {X : Type 0} (test keep : X → Bool) (xs : List X) (a : X) → find test xs ≡ Some a → keep a ≡ true → find test (filter keep xs) ≡ Some a
-found_behind test keep [] a there kept = absurd cc
-found_behind {X} test keep (x ∷ xs) a there kept = by (keep x) (test x) refl refl there (λ h. found_behind test keep xs a h kept)
+pub found_filtered : {X : Type 0} (test keep : X → Bool) (xs : List X) (a : X) → find test xs ≡ Some a → keep a ≡ true → find test (filter keep xs) ≡ Some a
+found_filtered test keep [] a there kept = absurd cc
+found_filtered {X} test keep (x ∷ xs) a there kept = by (keep x) (test x) refl refl there (λ h. found_filtered test keep xs a h kept)
   where
     by : (k t : Bool) → keep x ≡ k → test x ≡ t → cond t (Some x) (find test xs) ≡ Some a → (find test xs ≡ Some a → find test (filter keep xs) ≡ Some a)
         → find test (cond k (x ∷ filter keep xs) (filter keep xs)) ≡ Some a
@@ -76,7 +81,7 @@ only_dropped test keep [] a apart there dropped = refl
 only_dropped {X} test keep (x ∷ xs) a apart there dropped = by (keep x) (test x) refl refl there (λ h. only_dropped test keep xs a apart.1 h dropped)
   where
     rest_none : test x ≡ true → find test (filter keep xs) ≡ None
-    rest_none t = none_behind test keep xs (nothing_found test xs (apply t xs apart.0))
+    rest_none t = none_filtered test keep xs (nothing_found test xs (apply t xs apart.0))
       where
         apply : test x ≡ true → (ys : List X) → AllByRecursion (λ (y : X). test x ≡ true → test y ≡ false) ys → AllByRecursion (λ (y : X). test y ≡ false) ys
         apply t [] h = tt
@@ -94,9 +99,9 @@ pub any_none : {X : Type 0} (test : X → Bool) (xs : List X) → AllByRecursion
 any_none test [] none = refl
 any_none test (x ∷ xs) none = let first = none.0 in rw first (any_none test xs none.1)
 
-pub any_behind_none : {X : Type 0} (test keep : X → Bool) (xs : List X) → list_any test xs ≡ false → list_any test (filter keep xs) ≡ false
-any_behind_none test keep [] none = refl
-any_behind_none {X} test keep (x ∷ xs) none = by (keep x) (test x) refl none (any_behind_none test keep xs)
+pub any_none_filtered : {X : Type 0} (test keep : X → Bool) (xs : List X) → list_any test xs ≡ false → list_any test (filter keep xs) ≡ false
+any_none_filtered test keep [] none = refl
+any_none_filtered {X} test keep (x ∷ xs) none = by (keep x) (test x) refl none (any_none_filtered test keep xs)
   where
     by : (k t : Bool) → test x ≡ t → (t || list_any test xs) ≡ false → (list_any test xs ≡ false → list_any test (filter keep xs) ≡ false)
         → list_any test (cond k (x ∷ filter keep xs) (filter keep xs)) ≡ false

@@ -12,11 +12,13 @@ use Rattle.exchange_core.specs.Table.{repeating}
 use Rattle.exchange_core.specs.ExchangeEvents.{AdmitsNew, AdmitsInOrder, IsOrderly, keyed_as, keyed_after}
 
 -- none
+-- An end theorem: nothing here cites it.
 pub IsOrderly-none : IsOrderly []
 unfolding IsOrderly
 IsOrderly-none = tt
 
 -- one that admits no write
+-- An end theorem: nothing here cites it.
 pub IsOrderly-other : (e : Event) (events : List Event) → is_admitting e.note ≡ false → IsOrderly events → IsOrderly (e ∷ events)
 unfolding IsOrderly
 IsOrderly-other e events other orderly = (by e.note other, orderly)
@@ -26,11 +28,13 @@ IsOrderly-other e events other orderly = (by e.note other, orderly)
     by _ h = tt
 
 -- one that admits a new write
+-- An end theorem: nothing here cites it.
 pub IsOrderly-admitted : (peer : Peer) (mid : ℕ) (e : Event) (events : List Event) → e.note ≡ note.Admitted peer mid → AdmitsNew peer mid e events → IsOrderly events → IsOrderly (e ∷ events)
 unfolding IsOrderly
 IsOrderly-admitted peer mid e events is new orderly = (subst (λ n. AdmitsInOrder n e events) (sym is) new, orderly)
 
 -- a write that is answered as a new one is no repeat
+-- An end theorem: nothing here cites it.
 pub fresh-no_repeat : (now : ℕ) (peer : Peer) (mid : ℕ) (events : List Event) → keyed.Fresh ≡ keyed_after now peer mid events → repeated now peer mid events ≡ None
 unfolding keyed_after
 fresh-no_repeat now peer mid events fresh = by (repeated now peer mid events) fresh

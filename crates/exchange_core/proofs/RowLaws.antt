@@ -44,9 +44,9 @@ without_first-at test (x ∷ xs) i there =
     without_at test (x ∷ xs) i x found.0 found.1 found.2
 
 -- its index is within
-pub place_within : (test : Exchange → Bool) (xs : List Exchange) (i : ℕ) → position test xs ≡ Some i → i < length xs
-place_within test [] i there = absurd cc
-place_within test (x ∷ xs) i there = (position-Some test (x ∷ xs) i x there).0
+pub index_within : (test : Exchange → Bool) (xs : List Exchange) (i : ℕ) → position test xs ≡ Some i → i < length xs
+index_within test [] i there = absurd cc
+index_within test (x ∷ xs) i there = (position-Some test (x ∷ xs) i x there).0
 
 -- it is nowhere
 nowhere : (test : Exchange → Bool) (xs : List Exchange) → position test xs ≡ None → length xs ≤ position_or_len test xs
@@ -142,8 +142,8 @@ young-popped now [] x old = rw old refl
 young-popped now (y ∷ ys) x old = ap (λ rest. cond (is_young now y.admitted.0) (y ∷ rest) rest) (young-popped now ys x old)
 
 -- the oldest, after the others
-pub oldest_behind : (xs : List Exchange) (n : ℕ) (x : Exchange) → n ≡ length xs → 0 < n → x ≡ get_or xs (n - 1) x → xs ≡ take (n - 1) xs ++ x ∷ []
-oldest_behind xs n x e some is =
+pub oldest_last : (xs : List Exchange) (n : ℕ) (x : Exchange) → n ≡ length xs → 0 < n → x ≡ get_or xs (n - 1) x → xs ≡ take (n - 1) xs ++ x ∷ []
+oldest_last xs n x e some is =
     let more : take (n - 1 + 1) xs ≡ take (n - 1) xs ++ get_or xs (n - 1) x ∷ [] = take_more xs (n - 1) x (omega (arith, e, some)) in
     let whole : n - 1 + 1 ≡ length xs = omega (arith, e, some) in
     sym (take_all (n - 1 + 1) xs (omega (arith, whole))) ∙ (more ∙ ap (λ y. take (n - 1) xs ++ y ∷ []) (sym is))

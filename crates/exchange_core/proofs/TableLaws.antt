@@ -3,7 +3,7 @@ use Rattle.std.proofs.Common.{◌≡◌, ℕ, ◌+◌, ◌≤◌, ◌<◌, ◌==
 use Rattle.std.specs.List.{cons_option, filter_map, AllByRecursion}
 use Rattle.std.proofs.lemmas.Bool.{false≢true}
 use Rattle.rd_base.specs.declared.peers.Peer.{Peer}
-use Rattle.rd_base.proofs.lemmas.Filters.{filter_all, filter_stronger, filter_swapped}
+use Rattle.rd_base.proofs.lemmas.Filters.{filter_stronger, filter_swapped}
 use Rattle.rd_base.proofs.lemmas.Each.{each_one, each_filter}
 use Rattle.rd_base.proofs.lemmas.Pairs.{pairs_filter, PairsByRecursion}
 use Rattle.event_model.specs.declared.notes.Note.{Note}
@@ -17,7 +17,7 @@ use Rattle.exchange_core.specs.declared.writes.Exchange.{Exchange}
 use Rattle.exchange_core.specs.Table.{Table, is_with, is_admitted_at, young, InOrder, repeating, repeating_young, repeat_among, answered_first, without_first}
 use Rattle.exchange_core.specs.ExchangeEvents.{exchange_admitted, exchange_of, exchanges_at, ExchangesStandFor, NoneAfter, IsNewPlace, IsOrderly, HasAdmission, is_aside, keyed_new, keyed_as, keyed_after}
 use Rattle.exchange_core.proofs.RowLaws.{repeat_among-young}
-use Rattle.exchange_core.proofs.FilterLemmas.{found_passes}
+use Rattle.exchange_core.proofs.FilterLemmas.{filter_true, found_passes}
 use Rattle.exchange_core.proofs.RepeatLaws.{admits, admission_is, Follows, known}
 use Rattle.exchange_core.proofs.ExchangeLaws.{young-exchanges, find-exchanges, length-exchanges, same-exchanges, Matches, each_matches, young-answered, answered-exchanges, young-without, without-exchanges}
 
@@ -150,16 +150,13 @@ repeat-not_fresh now peer mid xs answer found fresh = by (find (is_with peer mid
 
 -- ---- events
 
--- a filter that keeps all
-all_of : (xs : List Event) → filter (λ a. true) xs ≡ xs
-all_of xs = filter_all (λ a. true) xs (each_one (λ a. true ≡ true) (λ a. refl) xs)
-
 -- none
 pub ExchangesStandFor-none : (at : ℕ) (t : Table) → t.exchanges ≡ [] → ExchangesStandFor at [] t
 unfolding exchanges_at kept admissions
 ExchangesStandFor-none at t none = record { kept = ap (young at) none }
 
 -- one that says nothing of exchanges
+-- An end theorem: nothing here cites it.
 pub ExchangesStandFor-aside : (at : ℕ) (e : Event) (events : List Event) (t : Table) → is_aside e.note ≡ true → ExchangesStandFor at events t → ExchangesStandFor at (e ∷ events) t
 unfolding exchanges_at kept admissions
 ExchangesStandFor-aside at e events t aside stands = record { kept = stands.kept ∙ sym (same-exchanges e events here (each_one (λ a. answer_noted a.place e.note ≡ None) (λ a. silent a.place e.note aside) here) ∙ refl) ∙ sym (same e.note aside) }
@@ -177,7 +174,7 @@ ExchangesStandFor-aside at e events t aside stands = record { kept = stands.kept
     same (note.Admitted peer mid) h = absurd (false≢true h)
     same (note.Settled place reply) h = absurd (false≢true h)
     same (note.Failed place) h = absurd (false≢true h)
-    same _ h = rw (all_of (admissions events)) refl
+    same _ h = rw (filter_true (admissions events)) refl
 
 -- a place that is new has no answer
 unsettled : (place : ℕ) (events : List Event) → IsNewPlace place events → settled place events ≡ None
@@ -221,7 +218,7 @@ ExchangesStandFor-admitted now peer mid e events t more is at new added stands =
     there =
         subst (λ n. filter_map (exchange_of (e ∷ events)) (filter (λ a. is_young now a.moment) (admission_noted n e ++ filter (λ a. not (is_failure_of a.place n)) (admissions events)))
         ≡ just_admitted peer mid now ∷ filter_map (exchange_of events) here) (sym is)
-        (rw (all_of (admissions events)) (rw young_now
+        (rw (filter_true (admissions events)) (rw young_now
         (ap (λ o. cons_option o (filter_map (exchange_of (e ∷ events)) here)) (in_flight now peer mid e events is at new)
         ∙ ap (λ xs. just_admitted peer mid now ∷ xs) (same-exchanges e events here (each_one (λ a. answer_noted a.place e.note ≡ None) (λ a. silent a.place) here)))))
 
@@ -249,7 +246,7 @@ ExchangesStandFor-settled at place peer mid admitted reply e events t more is or
         ≡ filter_map (exchange_of (e ∷ events)) here
     same =
         subst (λ n. filter_map (exchange_of (e ∷ events)) (filter (λ a. is_young at a.moment) (admission_noted n e ++ filter (λ a. not (is_failure_of a.place n)) (admissions events)))
-        ≡ filter_map (exchange_of (e ∷ events)) here) (sym is) (rw (all_of (admissions events)) refl)
+        ≡ filter_map (exchange_of (e ∷ events)) here) (sym is) (rw (filter_true (admissions events)) refl)
 
 -- one that ends a write because memory ran out
 pub ExchangesStandFor-failed : (at place : ℕ) (peer : Peer) (mid admitted : ℕ) (e : Event) (events : List Event) (t fewer : Table) → e.note ≡ note.Failed place → IsOrderly events

@@ -60,6 +60,7 @@ job_not_heard worker (r ∷ before) job e = by (r.step.worker == worker) e (λ h
     by false h more = more h
 
 -- so what is heard is heard as its datagram says
+-- An end theorem: nothing here cites it.
 pub heard_as_hearing : (rows : List Row) (s : Step) → MayBegin rows s → is_heard s.kind ≡ true → s.kind ≡ hearing s.datagram
 heard_as_hearing rows s (hears none heard) e = heard
 heard_as_hearing rows s (goes holds) e = absurd (false≢true (sym (job_not_heard s.worker rows (record { kind = s.kind; peer = s.peer; datagram = s.datagram }) holds) ∙ e))

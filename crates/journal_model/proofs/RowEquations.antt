@@ -1,4 +1,5 @@
 -- The parts of a row, and what a journal shows with one row more.
+-- End theorems, for what keeps the events of a journal: nothing here cites them.
 use Rattle.std.proofs.Common.{◌≡◌, ℕ, Bool, cond, max, List, [], ◌∷◌, length, fold, refl}
 use Rattle.message_model.specs.Reading.{reading}
 use Rattle.event_model.specs.Events.{noted}

@@ -88,7 +88,7 @@ step_of_line-MayGive workers rows (Ok l) = by (nat_lt (worker_of l) workers)
 traced_line-IsJournal : (workers : ℕ) (t : Traced) (text : List ℕ) → IsJournal t.journal → IsJournal (traced_line is_never workers t text).journal
 traced_line-IsJournal workers t text journal = by t.bad
   where
-    stepped : (given : Result (Option Step) Reason) → MayGive t.journal given → IsJournal (traced_step is_never t given).journal
+    stepped : (said : Result (Option Step) Reason) → MayGive t.journal said → IsJournal (traced_step is_never t said).journal
     stepped (Err why) bad = journal
     stepped (Ok None) no_step = journal
     stepped (Ok (Some s)) (gives may) = subst (λ (r : Row). IsJournal (r ∷ t.journal)) (sym (row_where_never t.journal s false)) (made false journal may)

@@ -1,3 +1,4 @@
+-- JournalLaw: what a trace gives is a journal of the machine. OutputLines and OnLiterals serve the traces in examples.
 pub mod OnLiterals
 pub mod OutputLines
 pub mod JournalLaw

@@ -48,12 +48,12 @@ abbrev hearing : List ℕ → Step
 hearing datagram = record { kind = step.Admit; worker = 0; handed = record { 0 = 0 }; word = 0; peer = peer 1; datagram = datagram; drawn = 0 }
 
 -- after a row with these notes
-abbrev behind_notes : List Note → List Row
-behind_notes notes = record { step = hearing []; moment = record { 0 = 0 }; starved = false; sent = []; notes = notes; drew = 0 } ∷ []
+abbrev after_notes : List Note → List Row
+after_notes notes = record { step = hearing []; moment = record { 0 = 0 }; starved = false; sent = []; notes = notes; drew = 0 } ∷ []
 
 -- after a row that added these observers
 abbrev behind : List Observer → List Row
-behind added = behind_notes (flat_map adding added)
+behind added = after_notes (flat_map adding added)
 
 -- what is sent to a peer that then asks for a page
 abbrev sent : ℕ → List Observer → List (List ℕ)
@@ -115,12 +115,12 @@ update = record {
 }
 
 -- after a row that admitted so many writes of the same peer, under the Message IDs from 0 on
-abbrev behind_writes : ℕ → List Row
-behind_writes n = behind_notes (map (λ mid. note.Admitted (peer 1) mid) (range_with_len 0 n))
+abbrev after_writes : ℕ → List Row
+after_writes n = after_notes (map (λ mid. note.Admitted (peer 1) mid) (range_with_len 0 n))
 
 -- the update is heard
-abbrev heard_behind : ℕ → Row
-heard_behind n = row (behind_writes n) (hearing (spelling update)) false
+abbrev heard_after : ℕ → Row
+heard_after n = row (after_writes n) (hearing (spelling update)) false
 
 -- what is done about it, where these are the admissions that stand
 abbrev done_about : List Event → Effects
@@ -132,12 +132,12 @@ unfolding messages_on_literals history_on_literals repeated kept events latest a
 writes_on_literals = tt
 
 -- 4,095 exchanges are kept: the write is admitted
-room_for_exchange : (heard_behind 4_095).notes ≡ note.Admitted (peer 1) 4_096 ∷ []
+room_for_exchange : (heard_after 4_095).notes ≡ note.Admitted (peer 1) 4_096 ∷ []
 unfolding writes_on_literals
-room_for_exchange = ap (λ admitted. (done_about admitted).notes) (admissions_whole (events (behind_writes 4_095)) refl)
+room_for_exchange = ap (λ admitted. (done_about admitted).notes) (admissions_whole (events (after_writes 4_095)) refl)
 
 -- 4,096 are kept: it is refused at once
 --     ACK 5.03 m=1000 | exchanges
-full_of_exchanges : map (λ d. d.1) (heard_behind 4_096).sent ≡ hex (codes "60a31000ff65786368616e676573") ∷ []
+full_of_exchanges : map (λ d. d.1) (heard_after 4_096).sent ≡ hex (codes "60a31000ff65786368616e676573") ∷ []
 unfolding writes_on_literals
-full_of_exchanges = ap (λ admitted. map (λ d. d.1) (done_about admitted).sent) (admissions_whole (events (behind_writes 4_096)) refl)
+full_of_exchanges = ap (λ admitted. map (λ d. d.1) (done_about admitted).sent) (admissions_whole (events (after_writes 4_096)) refl)

@@ -151,9 +151,9 @@ due_by_a_change_back : due_after (noticed ++ changed_back) ≡ true ∷ []
 unfolding output_on_literals
 due_by_a_change_back = refl
 
-not_due_behind_the_tick : due_after (noticed ++ (changed_back ++ codes "tick 0 700020" ∷ [])) ≡ false ∷ []
+not_due_after_the_tick : due_after (noticed ++ (changed_back ++ codes "tick 0 700020" ∷ [])) ≡ false ∷ []
 unfolding output_on_literals
-not_due_behind_the_tick = refl
+not_due_after_the_tick = refl
 
 -- the notice is never acknowledged: it is sent again four times, and then the observer is removed
 --     tick 0 3400

@@ -3,7 +3,7 @@ use Rattle.std.specs.Option.{IsSome, OnSome}
 use Rattle.std.specs.List.{position, remove}
 use Rattle.std.specs.VecDeque.{deque_len}
 use Rattle.exchange_core.specs.Table.{is_admitted_at}
-use Rattle.exchange_core.proofs.RowLaws.{without_first-at, without_first-nowhere, place_within}
+use Rattle.exchange_core.proofs.RowLaws.{without_first-at, without_first-nowhere, index_within}
 use Rattle.exchange_core.proofs.table.drop_first.Goals as goal
 
 -- what holds where there is a value
@@ -18,7 +18,7 @@ returns-in-Some-clause-items c =
     let i = c.in-Some.index in
     let there : position test xs ≡ Some i = sym c.in-Some.ensures in
     let ok = c.args.rows.now.ok.0 in
-    let inside : i < deque_len c.args.rows.now = let low = place_within test xs i there in omega (arith, low, ok) in
+    let inside : i < deque_len c.args.rows.now = let low = index_within test xs i there in omega (arith, low, ok) in
     present c.remove.result (c.remove.new.self.items ≡ remove xs i) (c.remove.ensures.variant.1 inside) c.remove.ensures.items ∙ without_first-at test xs i there
 
 pub returns-in_default-clause-items : goal.returns-in_default-clause-items
