@@ -60,7 +60,7 @@ impl Resend {
         }
     }
 
-    /// What is due now. A retransmission counts as made now.
+    /// What is due now (RFC 7252 section 4.2). A retransmission counts as made now.
     pub fn at_tick(&mut self, now: Moment) -> Again
         ensures answer { (first : Event) (others : List Event) → Resends first others self.old → result ≡ due_at now.0 first others }
         ensures sent { (first : Event) (others : List Event) (again : Event) → again.moment ≡ now.0 → result ≡ Again.Send → Resends first others self.old → Resends first (again ∷ others) self.new }

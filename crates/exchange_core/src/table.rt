@@ -39,7 +39,7 @@ impl Model for Exchanges {
 }
 
 impl Exchanges {
-    /// No exchanges, with room for as many as are kept at most.
+    /// No exchanges, with room for as many as are kept at most, 4,096. `Starved` where memory ran out, and then nothing is kept.
     pub fn make(alloc: Global) -> Result<Exchanges, Starved>
         ensures moment { IfOk result (λ t. t.moment ≡ 0) }
         ensures stands { IfOk result (λ t. ExchangesStandFor 0 [] t) }
@@ -51,7 +51,7 @@ impl Exchanges {
         })
     }
 
-    /// How a write of a peer under a Message ID is answered. One that is new is admitted now, in flight, if there is room.
+    /// How a write of a peer under a Message ID is answered (RFC 7252 section 4.5). One that is new is admitted now, in flight, if there is room.
     /// Now is not before the moments that the table was changed at. Takes no memory.
     pub fn admit_key(&mut self, now: Moment, peer: Peer, mid: u16) -> Keyed
         requires { self.old.moment ≤ now.0 }
