@@ -8,10 +8,11 @@ use Rattle.event_model.specs.declared.notes.Note.TheVariants as note
 use Rattle.event_model.specs.Same.{RequestName, is_same_request, is_same_query}
 use Rattle.event_model.specs.Events.{Event, last_said}
 
--- the most observers, and the most queries that are observed
+-- the most observers
 abbrev pub max_observers : ℕ
 max_observers = 1_024
 
+-- the most queries that are observed
 abbrev pub max_watched : ℕ
 max_watched = 256
 

@@ -5,10 +5,11 @@ use Rattle.event_model.specs.declared.notes.Note.TheVariants as note
 use Rattle.event_model.specs.Same.{RequestName, is_same_request}
 use Rattle.event_model.specs.Events.{Event, last_event, is_young}
 
--- the most uploads that live, and the most octets of a body
+-- the most uploads that live
 abbrev pub max_uploads : ℕ
 max_uploads = 64
 
+-- the most octets of a body
 abbrev pub max_body : ℕ
 max_body = 8_192
 

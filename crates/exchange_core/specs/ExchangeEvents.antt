@@ -42,6 +42,7 @@ pub record AdmitsNew (peer : Peer) (mid : ℕ) (e : Event) (before : List Event)
   pub new_place : IsNewPlace e.place before
   pub in_time : NoneAfter e.moment before
 
+-- the note of an event, where it is an admission, admits such a write
 abbrev pub AdmitsInOrder : Note → Event → List Event → Type 0
 AdmitsInOrder (note.Admitted peer mid) e before = AdmitsNew peer mid e before
 AdmitsInOrder _ e before = Unit {0}
@@ -66,14 +67,16 @@ is_aside (note.Settled place reply) = false
 is_aside (note.Failed place) = false
 is_aside _ = true
 
--- how a write of a peer under a Message ID is answered after these events
+-- how a new write is answered, by whether the table is full
 abbrev pub keyed_new : Bool → Keyed
 keyed_new true = keyed.FullExchanges
 keyed_new false = keyed.Fresh
 
+-- how a write is answered, by the admission that it repeats
 abbrev pub keyed_as : Option Event → ℕ → List Event → Keyed
 keyed_as (Some first) moment events = repeating (settled first.place events)
 keyed_as None moment events = keyed_new (is_full_of_exchanges moment events)
 
+-- how a write of a peer under a Message ID is answered after these events
 unfoldable pub keyed_after : ℕ → Peer → ℕ → List Event → Keyed
 keyed_after moment peer mid events = keyed_as (repeated moment peer mid events) moment events

@@ -98,8 +98,8 @@ unfolding job_of last_row
 keeps_of worker [] job body tag e keep = absurd (let h : None ≡ Some job = e in cc)
 keeps_of worker (r ∷ before) job body tag e keep = by (r.step.worker == worker) refl e (λ h. keeps_of worker before job body tag h keep)
   where
-    behind : (is_look r.step.kind && r.step.worker == worker) ≡ false → KeepsOf before worker job → KeepsOf (r ∷ before) worker job
-    behind other it = record {
+    after : (is_look r.step.kind && r.step.worker == worker) ≡ false → KeepsOf before worker job → KeepsOf (r ∷ before) worker job
+    after other it = record {
       look = it.look;
       found = rw other it.found;
       within = record { later = r ∷ it.within.later; whole = ap (λ (rows : List Row). r ∷ rows) it.within.whole };
@@ -123,9 +123,9 @@ keeps_of worker (r ∷ before) job body tag e keep = by (r.step.worker == worker
     }
     own (step.Commit place) is same h more = absurd (let no : None ≡ Some job = h in cc)
     own (step.Keep others current) is same h more = absurd (let no : None ≡ Some job = h in cc)
-    own step.Tick is same h more = behind (rw is refl) (more h)
+    own step.Tick is same h more = after (rw is refl) (more h)
 
     by : (b : Bool) → (r.step.worker == worker) ≡ b → cond b (job_after r.step.kind r before (job_of worker before)) (job_of worker before) ≡ Some job
         → (job_of worker before ≡ Some job → KeepsOf before worker job) → KeepsOf (r ∷ before) worker job
     by true same h more = own r.step.kind refl same h more
-    by false other h more = behind (rw other (and_false (is_look r.step.kind))) (more h)
+    by false other h more = after (rw other (and_false (is_look r.step.kind))) (more h)

@@ -73,8 +73,8 @@ transitions-row rows r = refl
 -- what comes of steps that may be made one after the other is a journal of the machine
 pub run-IsJournal : (steps : List (Step × Bool)) → MayRun steps [] → IsJournal (run steps)
 unfolding run
-run-IsJournal steps may = behind steps [] may begun
+run-IsJournal steps may = after steps [] may begun
   where
-    behind : (more : List (Step × Bool)) (rows : List Row) → MayRun more rows → IsJournal rows → IsJournal (fold (λ before next. row before next.0 next.1 ∷ before) rows more)
-    behind [] rows may journal = journal
-    behind (next ∷ more) rows may journal = behind more (row rows next.0 next.1 ∷ rows) may.1 (made next.1 journal may.0)
+    after : (more : List (Step × Bool)) (rows : List Row) → MayRun more rows → IsJournal rows → IsJournal (fold (λ before next. row before next.0 next.1 ∷ before) rows more)
+    after [] rows may journal = journal
+    after (next ∷ more) rows may journal = after more (row rows next.0 next.1 ∷ rows) may.1 (made next.1 journal may.0)

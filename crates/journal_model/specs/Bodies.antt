@@ -10,15 +10,17 @@ use Rattle.message_model.specs.Refusals.{link_format}
 use Rattle.journal_model.specs.Effects.{Reply, diagnostic}
 use Rattle.journal_model.specs.Requests.{number_of, szx_of}
 
--- the options of an entity tag, an Observe value and a block, where there are such
+-- the option of an entity tag, where there is one
 abbrev pub tag_option : Option (List ℕ) → List Opt
 tag_option None = []
 tag_option (Some tag) = (table.etag, tag) ∷ []
 
+-- the option of an Observe value, where there is one
 abbrev pub observe_option : Option ℕ → List Opt
 observe_option None = []
 observe_option (Some value) = (table.observe, uint_bytes value) ∷ []
 
+-- the option of a block of the answer, where there is one
 abbrev pub block2_option : Option Block → List Opt
 block2_option None = []
 block2_option (Some b) = (table.block2, block_value b) ∷ []

@@ -54,10 +54,12 @@ pub data BodyRead : Type 0 where
   bad_body : List ℕ → BodyRead
   good_body : List SubmittedLink → BodyRead
 
+-- the links, where they are in the Limited Link Format
 abbrev pub limited_links : Bool → List SubmittedLink → BodyRead
 limited_links true links = bad_body (codes "limited")
 limited_links false links = good_body links
 
+-- the links, where the body is a document of references
 abbrev pub links_or_bad : Option (List SubmittedLink) → BodyRead
 links_or_bad None = bad_body (codes "links")
 links_or_bad (Some links) = limited_links (is_some (first_unlimited links)) links

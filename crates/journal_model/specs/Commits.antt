@@ -69,6 +69,7 @@ simple_unless false false events place s m =
     joined (settling place s m (record { reply = bare codes_of.changed; notes = [] }))
     (asking s (s.drawn + drawn_for m.kind) (next_token events) (registration_values (queries_in m)) 0 None)
 
+-- a simple registration
 abbrev pub registering_simply : List Event → ℕ → Step → Message → Effects
 registering_simply events place s m = simple_unless (is_fetching s.peer events) (nat_le max_fetches (length (fetches events))) events place s m
 

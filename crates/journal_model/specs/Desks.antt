@@ -89,6 +89,7 @@ exchange_of events a = exchange_noted a.note
 unfoldable pub exchanges_of : List Row → List Exchange
 exchanges_of rows = filter_map (exchange_of (events rows)) (kept (now rows) (events rows))
 
+-- the upload of a name, where it lives
 abbrev pub upload_of : ℕ → List Event → RequestName → Option Upload
 upload_of moment events name =
     option_map (λ body. record { name = name; body = body; moment = event_moment (last_event (is_piece_of name) events) }) (live_upload moment name events)
@@ -97,6 +98,7 @@ upload_of moment events name =
 unfoldable pub uploads_of : List Row → List Upload
 uploads_of rows = filter_map (upload_of (now rows) (events rows)) (uploads (events rows))
 
+-- the answer that is kept under a name, where there is one
 abbrev pub kept_under : List Event → RequestName → Option KeptAnswer
 kept_under events name =
     option_map (λ answer. record { name = name; answer = answer; moment = event_moment (last_event (is_use_of name) events) }) (last_said (answer_kept name) events)
@@ -109,6 +111,7 @@ answers_of rows = filter_map (kept_under (events rows)) (take max_answers (names
 abbrev pub octets_at : List Row → ℕ → Peer → ℕ → List ℕ
 octets_at rows place peer mid = unwrap_or (option_map (λ d. d.1) (confirmable_sent (row_at place rows) peer mid)) []
 
+-- the notice in flight to a peer, as a message that waits
 abbrev pub notice_sent : List Row → Peer → Flight → Sent
 notice_sent rows peer f = record {
   mid = f.mid;
@@ -117,6 +120,7 @@ notice_sent rows peer f = record {
   deadline = deadline f.formed f.again;
 }
 
+-- an observer as a desk shows it
 abbrev pub watching : List Row → Observer → Watching
 watching rows o = record {
   observer = o;
@@ -129,6 +133,7 @@ watching rows o = record {
 unfoldable pub observers_of : List Row → List Watching
 observers_of rows = map (watching rows) (observers (events rows))
 
+-- the fetch of a peer, by the event of its last request
 abbrev pub fetch_asked : List Row → Peer → Event → Request → Fetch
 fetch_asked rows peer e request = record {
   peer = peer;
@@ -144,6 +149,7 @@ fetch_asked rows peer e request = record {
   tag = tag_of_first (gathered peer (events rows));
 }
 
+-- the fetch of a peer, where it made a request
 abbrev pub fetch_with : List Row → Peer → Option Fetch
 fetch_with rows peer =
     option_and_then (λ e. option_map (fetch_asked rows peer e) (request_noted e.note)) (last_request peer (events rows))
@@ -152,10 +158,11 @@ fetch_with rows peer =
 unfoldable pub fetches_of : List Row → List Fetch
 fetches_of rows = filter_map (fetch_with rows) (fetches (events rows))
 
--- how many Observe values were sent, and how many fetches started, as 64 bits count
+-- how many Observe values were sent, as 64 bits count
 unfoldable pub observe_values_of : List Row → ℕ
 observe_values_of rows = count_by (λ e. is_forming e.note) (events rows) % 2 ^ 64
 
+-- how many fetches started, as 64 bits count
 unfoldable pub fetches_started_of : List Row → ℕ
 fetches_started_of rows = count_by (λ e. is_start e.note) (events rows) % 2 ^ 64
 

@@ -187,7 +187,7 @@ pub record AnswersAsFormed (rows : List Row) : Type 0 where
       → (code_sent r.sent == codes_of.valid) ≡ (is_look r.step.kind && looks_with_tag (tag (entries before) r.moment.0) (reading r.step.datagram))
 
 -- Equally tagged blocks come from one state: where the tags at two rows are equal, so are the histories and the live registrations.
-pub record TagsTellStates (rows : List Row) : Type 0 where
+pub record TagsDecideStates (rows : List Row) : Type 0 where
   pub histories : (before other_before : List Row) (r other : Row) → Within rows before r → Within rows other_before other
       → tag (entries (r ∷ before)) r.moment.0 ≡ tag (entries (other ∷ other_before)) other.moment.0
       → entries (r ∷ before) ≡ entries (other ∷ other_before)
@@ -204,5 +204,5 @@ pub record ObserversKnow (rows : List Row) : Type 0 where
 pub record Headline (rows : List Row) : Type 0 where
   pub changes : HoldsEachOnce rows
   pub answers : AnswersAsFormed rows
-  pub tags : TagsTellStates rows
+  pub tags : TagsDecideStates rows
   pub observers : ObserversKnow rows

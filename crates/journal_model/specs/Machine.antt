@@ -17,15 +17,17 @@ use Rattle.journal_model.specs.Journal.{entries}
 use Rattle.journal_model.specs.Requests.{is_look_request, query_of}
 use Rattle.journal_model.specs.Rows.{row}
 
--- the datagram is a request that is answered by a look
+-- a message is a request that is answered by a look
 abbrev pub is_look_message : Role → Message → Bool
 is_look_message role.Request m = is_look_request m
 is_look_message _ m = false
 
+-- what is read of a datagram is such a request
 abbrev pub is_look_reading : Result Message Unread → Bool
 is_look_reading (Err fault) = false
 is_look_reading (Ok m) = is_look_message (role_of m.kind m.code) m
 
+-- the datagram is such a request
 unfoldable pub is_look_datagram : List ℕ → Bool
 is_look_datagram datagram = is_look_reading (reading datagram)
 

@@ -61,22 +61,23 @@ block_in m = answered_block (block2_in m)
     answered_block None = None
     answered_block (Some value) = block_read value
 
--- a block that does not begin where what is collected ends is passed over
+-- the block does not begin where what is collected ends, and is passed over
 abbrev pub is_elsewhere : Option Block → ℕ → Bool
 is_elsewhere None size = false
 is_elsewhere (Some b) size = not (b.num * block_size b.szx == size)
 
--- a block that more follow has not the block size
+-- more blocks follow this one, and it has not the block size
 abbrev pub is_cut_short : Option Block → ℕ → Bool
 is_cut_short None size = false
 is_cut_short (Some b) size = b.more && not (size == block_size b.szx)
 
--- the tag differs from that of the first block; to have none counts as a value
+-- two tags are the same; to have none counts as a value
 abbrev pub is_same_tag : Option (List ℕ) → Option (List ℕ) → Bool
 is_same_tag None None = true
 is_same_tag (Some tag) (Some other) = bytes_eq tag other
 is_same_tag _ _ = false
 
+-- the tag differs from that of the first block, where one came
 abbrev pub is_other_tag : Option (Option (List ℕ)) → Option (List ℕ) → Bool
 is_other_tag None tag = false
 is_other_tag (Some first) tag = not (is_same_tag first tag)
@@ -124,6 +125,7 @@ response_taken true ends rows moment s m request = nothing
 response_taken false true rows moment s m request = noting (note.Ceased s.peer ∷ [])
 response_taken false false rows moment s m request = gathering (more_follow (block_in m)) (block_in m) rows moment s m request
 
+-- a response to this request of a fetch
 abbrev pub response_to : List Row → ℕ → Step → Message → Request → Effects
 response_to rows moment s m request =
     response_taken (is_elsewhere (block_in m) (length (collected s.peer (events rows))))

@@ -84,6 +84,7 @@ transition_of_tick rows moment = record {
   moment_after = moment;
 }
 
+-- what the notices of a tick are made from, by its step and moment
 abbrev pub ticking : List Row → ℕ → Step → Ticking
 ticking rows moment s = record { rows = rows; moment = moment; step = s; transitions = transition_of_tick rows moment ∷ transitions rows }
 
@@ -133,6 +134,7 @@ noticed_unless false t done o answer = noticed t done o answer (mid_of t.step.wo
 abbrev pub listing_for : Ticking → Observer → Answer
 listing_for t o = record { body = listing o.query (entries t.rows) t.moment; tag = tag (entries t.rows) t.moment }
 
+-- an observer that is not looked at gets nothing
 abbrev pub noticed_if : Bool → Ticking → Effects → Observer → Effects
 noticed_if false t done o = nothing
 noticed_if true t done o =

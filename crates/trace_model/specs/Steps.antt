@@ -68,6 +68,7 @@ worker_of (line.Come worker moment peer datagram) = worker
 worker_of (line.Go worker moment) = worker
 worker_of (line.Tick worker moment word) = worker
 
+-- the step of a line, where there is its worker
 abbrev pub if_worker : Bool → NotServed → List Row → Line → Result (Option Step) Reason
 if_worker true not_served rows l = step_of_worker not_served rows l
 if_worker false not_served rows l = Err reason.Worker

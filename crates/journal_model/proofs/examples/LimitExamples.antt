@@ -52,20 +52,20 @@ abbrev after_notes : List Note → List Row
 after_notes notes = record { step = hearing []; moment = record { 0 = 0 }; starved = false; sent = []; notes = notes; drew = 0 } ∷ []
 
 -- after a row that added these observers
-abbrev behind : List Observer → List Row
-behind added = after_notes (flat_map adding added)
+abbrev after : List Observer → List Row
+after added = after_notes (flat_map adding added)
 
 -- what is sent to a peer that then asks for a page
 abbrev sent : ℕ → List Observer → List (List ℕ)
-sent k added = map (λ d. d.1) (row (behind added) (hearing (spelling (lookup k))) false).sent
+sent k added = map (λ d. d.1) (row (after added) (hearing (spelling (lookup k))) false).sent
 
 -- an observer is added, or none, as there is room or none
 sent_if : (k : ℕ) (query : ℕ → Query) (n : ℕ) (b : Bool) → has_room_for (query_of (lookup k)) (without (peer 1, 193 ∷ []) (observers_of_queries query n)) ≡ b
-    → observed (behind (observers_of_queries query n)) 0 (hearing (spelling (lookup k))) (lookup k)
-    ≡ observed_if b (behind (observers_of_queries query n)) (hearing (spelling (lookup k))) (lookup k) (listing_now (behind (observers_of_queries query n)) 0 (lookup k))
+    → observed (after (observers_of_queries query n)) 0 (hearing (spelling (lookup k))) (lookup k)
+    ≡ observed_if b (after (observers_of_queries query n)) (hearing (spelling (lookup k))) (lookup k) (listing_now (after (observers_of_queries query n)) 0 (lookup k))
 unfolding observed events
 sent_if k query n b room =
-    ap (λ c. observed_if c (behind (observers_of_queries query n)) (hearing (spelling (lookup k))) (lookup k) (listing_now (behind (observers_of_queries query n)) 0 (lookup k)))
+    ap (λ c. observed_if c (after (observers_of_queries query n)) (hearing (spelling (lookup k))) (lookup k) (listing_now (after (observers_of_queries query n)) 0 (lookup k)))
     (ap (λ standing. has_room_for (query_of (lookup k)) (without (peer 1, 193 ∷ []) standing)) (all_stand query n) ∙ room)
 
 -- what an example unfolds; who observes is left to the law above
