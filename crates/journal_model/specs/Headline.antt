@@ -197,7 +197,7 @@ pub record TagsDecideStates (rows : List Row) : Type 0 where
 
 -- Where no notice is due to an observer, the body that was last formed for it is the listing now.
 pub record ObserversKnow (rows : List Row) : Type 0 where
-  pub given : (o : Observer) → IsAmong (observers (events rows)) o → is_due o (events rows) (transitions rows) ≡ false
+  pub last_formed : (o : Observer) → IsAmong (observers (events rows)) o → is_due o (events rows) (transitions rows) ≡ false
       → last_body_formed (name_of o) (events rows) ≡ Some (listing o.query (entries rows) (now rows))
 
 -- What holds of every journal of the machine.
