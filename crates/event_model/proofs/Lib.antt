@@ -1,9 +1,13 @@
+-- The tests of peers, requests and queries: SameLaws.
+-- Looking back over events: NotedLaws (the notes of a row), EventEquations (one event more), KeptLaws (admissions).
+-- Observers: ObserverLaws (no two have one name), AddedObservers and ManyObservers (those that notes add).
+-- OnLiterals unfolds the definitions, so that examples compute.
 pub mod OnLiterals
 pub mod SameLaws
 pub mod KeptLaws
-pub mod Noting
-pub mod LookingBack
+pub mod NotedLaws
+pub mod EventEquations
 pub mod ObserverLaws
-pub mod AddingLaws
+pub mod AddedObservers
 pub mod ManyObservers
 mod examples

@@ -13,16 +13,16 @@ use Rattle.event_model.specs.declared.notes.Note.TheVariants as note
 use Rattle.event_model.specs.declared.notes.Observer.{Observer}
 use Rattle.event_model.specs.Same.{is_same_request}
 use Rattle.event_model.specs.Events.{noted}
-use Rattle.event_model.specs.Observers.{name_of, watched_by, observers}
+use Rattle.event_model.specs.Observers.{name_of, observer_added, observers}
 use Rattle.event_model.proofs.SameLaws.{is_same_request-Decides}
 use Rattle.event_model.proofs.ObserverLaws.{Apart}
-use Rattle.event_model.proofs.AddingLaws.{is_removal, observers_noted}
+use Rattle.event_model.proofs.AddedObservers.{is_removal, observers_noted}
 
 -- the peer 192.0.3.k
 abbrev pub peer : ℕ → Peer
 peer k = record { host = host.V4 (192 ∷ 0 ∷ 3 ∷ k ∷ []); port = 5683 }
 
--- a lookup of one page of the endpoints, told apart by its page
+-- a lookup of one page of the endpoints, known by its page
 abbrev pub page_query : ℕ → Query
 page_query k = record { kind = kind.Endpoint; criteria = []; page = Some k; count = Some 1 }
 
@@ -31,8 +31,8 @@ abbrev pub observer : Query → ℕ → Observer
 observer q k = record { peer = peer 1; token = k / 256 ∷ k % 256 ∷ []; query = q; key = []; szx = 6 }
 
 -- so many observers, the one with the token k of the query of k
-abbrev pub observers_by : (ℕ → Query) → ℕ → List Observer
-observers_by query n = map (λ k. observer (query k) k) (range_with_len 0 n)
+abbrev pub observers_of_queries : (ℕ → Query) → ℕ → List Observer
+observers_of_queries query n = map (λ k. observer (query k) k) (range_with_len 0 n)
 
 -- what is noted where an observer is added, whose listing is empty
 abbrev pub adding : Observer → List Note
@@ -65,18 +65,18 @@ none_removed : (added : List Observer) → AllByRecursion (λ n. is_removal n �
 none_removed [] = tt
 none_removed (o ∷ added) = (refl, (refl, none_removed added))
 
-these_added : (added : List Observer) → flat_map watched_by (flat_map adding added) ≡ added
+these_added : (added : List Observer) → flat_map observer_added (flat_map adding added) ≡ added
 these_added [] = refl
 these_added (o ∷ added) = ap (λ rest. o ∷ rest) (these_added added)
 
 -- all that are added stand
-pub all_stand : (query : ℕ → Query) (n : ℕ) → observers (noted 0 0 0 (flat_map adding (observers_by query n)) []) ≡ observers_by query n
+pub all_stand : (query : ℕ → Query) (n : ℕ) → observers (noted 0 0 0 (flat_map adding (observers_of_queries query n)) []) ≡ observers_of_queries query n
 unfolding observers
 all_stand query n =
-    observers_noted 0 0 0 (flat_map adding (observers_by query n)) [] (none_removed (observers_by query n)) (subst (PairsByRecursion Apart) (sym (these_added (observers_by query n))) apart)
-    ∙ these_added (observers_by query n)
+    observers_noted 0 0 0 (flat_map adding (observers_of_queries query n)) [] (none_removed (observers_of_queries query n)) (subst (PairsByRecursion Apart) (sym (these_added (observers_of_queries query n))) apart)
+    ∙ these_added (observers_of_queries query n)
   where
-    apart : PairsByRecursion Apart (observers_by query n)
+    apart : PairsByRecursion Apart (observers_of_queries query n)
     apart =
         pairs_map (λ x. Unit {0}) (λ x y. x < y) Apart (λ k. observer (query k) k) (λ x y known also below. tokens_apart (query x) (query y) x y below)
         (range_with_len 0 n) (each_one (λ x. Unit {0}) (λ x. tt) (range_with_len 0 n)) (range-ascends 0 n)

@@ -9,7 +9,7 @@ use Rattle.event_model.specs.declared.notes.Note.TheVariants as note
 use Rattle.event_model.specs.declared.notes.Observer.{Observer}
 use Rattle.event_model.specs.Same.{RequestName, is_same_request}
 use Rattle.event_model.specs.Events.{Event}
-use Rattle.event_model.specs.Observers.{name_of, is_end_of, watched_by, observers}
+use Rattle.event_model.specs.Observers.{name_of, is_end_of, observer_added, observers}
 use Rattle.event_model.proofs.SameLaws.{is_same_request-Decides}
 
 -- they have different names
@@ -38,7 +38,7 @@ observers-apart (e ∷ before) = by e.note (observers-apart before)
     Left : Note → List Observer
     Left n = filter (λ o. not (is_end_of n (name_of o))) (observers before)
 
-    by : (n : Note) → PairsByRecursion Apart (observers before) → PairsByRecursion Apart (Left n ++ watched_by n)
+    by : (n : Note) → PairsByRecursion Apart (observers before) → PairsByRecursion Apart (Left n ++ observer_added n)
     by (note.Watched o) h =
         pairs_push Apart (Left (note.Watched o)) o (pairs_filter Apart (λ x. not (is_same_request (name_of o) (name_of x))) (observers before) h)
         (each_weaker (λ x. not (is_same_request (name_of o) (name_of x)) ≡ true) (λ x. Apart x o)

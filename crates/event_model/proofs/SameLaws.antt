@@ -1,5 +1,5 @@
--- The tests of peers, requests and queries tell whether they are equal.
-use Rattle.std.proofs.Common.{◌≡◌, ℕ, true, ◌&&◌, ◌==◌, List, [], ◌∷◌, Option, Some, None, Decides, bytes_eq, refl, ap, ap₂, eqb-true, ◌∙◌, subst, arith}
+-- The tests of peers, requests and queries decide whether they are equal.
+use Rattle.std.proofs.Common.{◌≡◌, ℕ, true, ◌&&◌, ◌==◌, List, [], ◌∷◌, Option, Some, None, Decides, bytes_eq, refl, ap, ap₂, eqb-true, ◌∙◌, subst}
 use Rattle.std.proofs.lemmas.Bool.{false≢true, and_parts, and_from}
 use Rattle.std.proofs.lemmas.Slice.Eq.{bytes_eq-Decides}
 use Rattle.rd_base.specs.declared.peers.Host.{Host}
@@ -101,6 +101,7 @@ are_same_criteria-Decides (a ∷ more) (b ∷ others) = (forth (are_same_criteri
 query_of : Kind → List Criterion → Option ℕ → Option ℕ → Query
 query_of k criteria page count = record { kind = k; criteria = criteria; page = page; count = count }
 
+-- An end theorem: nothing here cites it.
 pub is_same_query-Decides : (a b : Query) → Decides (is_same_query a b) (a ≡ b)
 unfolding query_of
 is_same_query-Decides a b = (forth, back)

@@ -11,7 +11,7 @@ use Rattle.event_model.specs.Same.{RequestName, is_same_request}
 use Rattle.event_model.specs.Events.{Event, last_event}
 use Rattle.event_model.specs.Observers.{name_of}
 
--- a row that is no look, as observers see it: its place, and the history and the moment before it and after it
+-- a row whose step is no look, as observers see it: its place, and the history and the moment before it and after it
 pub record Transition : Type 0 where
   pub place : ℕ
   pub before : List Entry

@@ -10,7 +10,7 @@ pub record Event : Type 0 where
   pub word : ℕ
   pub note : Note
 
--- events with the notes of one row behind them, which it notes in this order
+-- events with the notes of one row after them, which it notes in this order
 abbrev pub noted : ℕ → ℕ → ℕ → List Note → List Event → List Event
 noted place moment word notes before = fold (λ events n. record { place = place; moment = moment; word = word; note = n } ∷ events) before notes
 
@@ -27,12 +27,12 @@ unfoldable pub events_since : (Note → Bool) → List Event → List Event
 events_since is_kind [] = []
 events_since is_kind (e ∷ before) = if is_kind e.note then [] else e ∷ events_since is_kind before
 
--- the first of two that says something
+-- the first of two, where it is present, and else the second
 abbrev pub or_else : {A : Type 0} → Option A → Option A → Option A
 or_else (Some x) other = Some x
 or_else None other = other
 
--- what the last note says that says something
+-- what is said by the last note of which something is said
 unfoldable pub last_said : {A : Type 0} → (Note → Option A) → List Event → Option A
 last_said says [] = None
 last_said says (e ∷ before) = or_else (says e.note) (last_said says before)

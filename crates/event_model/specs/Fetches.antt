@@ -57,11 +57,12 @@ abbrev pub is_request_to : Peer → Note → Bool
 is_request_to peer (note.Asked p token mid params number) = is_same_peer p peer
 is_request_to peer _ = false
 
--- the last request was sent again; it was acknowledged
+-- the last request to a peer was sent again
 abbrev pub is_resent_to : Peer → Note → Bool
 is_resent_to peer (note.Resent p) = is_same_peer p peer
 is_resent_to peer _ = false
 
+-- the last request to a peer was acknowledged
 abbrev pub is_waiting_for : Peer → Note → Bool
 is_waiting_for peer (note.Waiting p) = is_same_peer p peer
 is_waiting_for peer _ = false

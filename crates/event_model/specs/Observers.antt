@@ -1,4 +1,4 @@
--- Who observes a lookup (RFC 7641 section 4.1), and what was given to whom.
+-- Who observes a lookup (RFC 7641 section 4.1), and what was formed for whom.
 use Rattle.std.specs.Prelude.{ℕ, ◌+◌, ◌%◌, ◌^◌, Bool, true, false, not, ◌&&◌, ◌||◌, nat_lt, List, [], ◌∷◌, ◌++◌, length, filter, count_by, Option, Some, None, if◌then◌else◌}
 use Rattle.std.specs.List.{list_any}
 use Rattle.rd_base.specs.declared.queries.Query.{Query}
@@ -8,10 +8,11 @@ use Rattle.event_model.specs.declared.notes.Note.TheVariants as note
 use Rattle.event_model.specs.Same.{RequestName, is_same_request, is_same_query}
 use Rattle.event_model.specs.Events.{Event, last_said}
 
--- the most observers, and the most queries that are observed
+-- the most observers
 abbrev pub max_observers : ℕ
 max_observers = 1_024
 
+-- the most queries that are observed
 abbrev pub max_watched : ℕ
 max_watched = 256
 
@@ -26,14 +27,14 @@ is_end_of (note.Unwatched peer token) name = is_same_request (peer, token) name
 is_end_of _ name = false
 
 -- the observer that a note adds
-abbrev pub watched_by : Note → List Observer
-watched_by (note.Watched o) = o ∷ []
-watched_by _ = []
+abbrev pub observer_added : Note → List Observer
+observer_added (note.Watched o) = o ∷ []
+observer_added _ = []
 
 -- the observers that no later note replaces or removes, in the order in which they were added
 unfoldable pub observers : List Event → List Observer
 observers [] = []
-observers (e ∷ before) = filter (λ o. not (is_end_of e.note (name_of o))) (observers before) ++ watched_by e.note
+observers (e ∷ before) = filter (λ o. not (is_end_of e.note (name_of o))) (observers before) ++ observer_added e.note
 
 -- an observer of this peer and token stands
 abbrev pub is_observer : RequestName → List Observer → Bool
@@ -57,7 +58,7 @@ abbrev pub is_forming : Note → Bool
 is_forming (note.Formed peer token body mid) = true
 is_forming _ = false
 
--- the Observe value that is given next: one more than were given before, in its low 24 bits (RFC 7641 section 3.4)
+-- the Observe value that is sent next: one more than were sent before, in its low 24 bits (RFC 7641 section 3.4)
 unfoldable pub observe_value : List Event → ℕ
 observe_value events = (count_by (λ e. is_forming e.note) events + 1) % 2 ^ 24
 

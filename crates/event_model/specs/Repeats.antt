@@ -17,11 +17,11 @@ is_admission_of peer mid (note.Admitted p m) = is_same_peer p peer && m == mid
 is_admission_of peer mid _ = false
 
 -- the event, where its note is an admission
-abbrev pub admission_by : Note → Event → List Event
-admission_by (note.Admitted peer mid) e = e ∷ []
-admission_by _ e = []
+abbrev pub admission_noted : Note → Event → List Event
+admission_noted (note.Admitted peer mid) e = e ∷ []
+admission_noted _ e = []
 
--- the admission of this place ended for want of memory
+-- the admission of this place ended because memory ran out
 abbrev pub is_failure_of : ℕ → Note → Bool
 is_failure_of place (note.Failed p) = p == place
 is_failure_of place _ = false
@@ -29,7 +29,7 @@ is_failure_of place _ = false
 -- the admissions that no later failure follows, the newest first
 unfoldable pub admissions : List Event → List Event
 admissions [] = []
-admissions (e ∷ before) = admission_by e.note e ++ filter (λ a. not (is_failure_of a.place e.note)) (admissions before)
+admissions (e ∷ before) = admission_noted e.note e ++ filter (λ a. not (is_failure_of a.place e.note)) (admissions before)
 
 -- the admissions that are kept at a moment: no failure follows them, and they are young enough
 unfoldable pub kept : ℕ → List Event → List Event

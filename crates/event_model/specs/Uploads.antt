@@ -5,10 +5,11 @@ use Rattle.event_model.specs.declared.notes.Note.TheVariants as note
 use Rattle.event_model.specs.Same.{RequestName, is_same_request}
 use Rattle.event_model.specs.Events.{Event, last_event, is_young}
 
--- the most uploads that live, and the most octets of a body
+-- the most uploads that live
 abbrev pub max_uploads : ℕ
 max_uploads = 64
 
+-- the most octets of a body
 abbrev pub max_body : ℕ
 max_body = 8_192
 
@@ -16,7 +17,7 @@ max_body = 8_192
 abbrev pub collected_after : RequestName → Note → Option (List ℕ) → Option (List ℕ)
 collected_after name (note.Piece peer key number octets) before =
     if is_same_request (peer, key) name
-    then (if number == 0 then Some octets else option_map (λ front. front ++ octets) before)
+    then (if number == 0 then Some octets else option_map (λ collected. collected ++ octets) before)
     else before
 collected_after name (note.Finished peer key) before = if is_same_request (peer, key) name then None else before
 collected_after name _ before = before

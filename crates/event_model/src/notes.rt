@@ -1,4 +1,7 @@
-// The notes of a journal. No value of these types is made.
+//! The notes of a journal.
+//!
+//! No value of these types is made at run time: they are Rust types so that the contracts of code and the definitions in antt share one type.
+//! The same holds of the types of the history (history_model) and of the steps and rows of the journal (journal_model).
 use history_model::Entry;
 use rd_base::{Peer, Query, RegParams};
 use std::collections::LinkedList;
@@ -23,7 +26,7 @@ pub enum Note {
     Admitted(Peer, u16),
     /// The admission of this place was answered by these octets.
     Settled(u64, LinkedList<u8>),
-    /// The admission of this place ended for want of memory.
+    /// The admission of this place ended because memory ran out.
     Failed(u64),
     /// A change was accepted.
     Entered(Entry),

@@ -11,11 +11,11 @@ use Rattle.event_model.specs.declared.notes.Note.TheVariants as note
 use Rattle.event_model.specs.Same.{is_same_peer}
 use Rattle.event_model.specs.Events.{Event, is_young, or_else, last_said}
 use Rattle.event_model.specs.Repeats.{is_admission_of, answer_noted, settled}
-use Rattle.event_model.proofs.AddingLaws.{is_admitting}
-use Rattle.exchange_core.specs.declared.rows.Exchange.{Exchange}
-use Rattle.exchange_core.specs.Rows.{is_with, is_admitted_at, young, answered, answered_first, without_first}
-use Rattle.exchange_core.specs.Standing.{exchange_by, exchange_of, is_admitted_event}
-use Rattle.exchange_core.proofs.Finding.{any_known}
+use Rattle.event_model.proofs.AddedObservers.{is_admitting}
+use Rattle.exchange_core.specs.declared.writes.Exchange.{Exchange}
+use Rattle.exchange_core.specs.Table.{is_with, is_admitted_at, young, answered, answered_first, without_first}
+use Rattle.exchange_core.specs.ExchangeEvents.{exchange_admitted, exchange_of, is_admitted_event}
+use Rattle.exchange_core.proofs.FilterLemmas.{any_known}
 use Rattle.exchange_core.proofs.RepeatLaws.{admits, eqb-differs, admission_is, Follows}
 
 -- ---- one list for the other
@@ -34,7 +34,7 @@ young-exchanges moment events (a ∷ rest) =
     left = filter (λ b. is_young moment b.moment) rest
 
     exchange : Note → Option Exchange
-    exchange n = exchange_by a.moment (settled a.place events) n
+    exchange n = exchange_admitted a.moment (settled a.place events) n
 
     by : (n : Note) (y : Bool) → is_young moment a.moment ≡ y → young moment others ≡ filter_map (exchange_of events) left
         → young moment (cons_option (exchange n) others) ≡ cond y (cons_option (exchange n) (filter_map (exchange_of events) left)) (filter_map (exchange_of events) left)
@@ -61,14 +61,14 @@ find-exchanges peer mid events (a ∷ rest) = by a.note refl (find-exchanges pee
     found = find (admits peer mid) rest
 
     by : (n : Note) → a.note ≡ n → find (is_with peer mid) others ≡ option_and_then (exchange_of events) found
-        → find (is_with peer mid) (cons_option (exchange_by a.moment (settled a.place events) n) others) ≡ option_and_then (exchange_of events) (cond (is_admission_of peer mid n) (Some a) found)
+        → find (is_with peer mid) (cons_option (exchange_admitted a.moment (settled a.place events) n) others) ≡ option_and_then (exchange_of events) (cond (is_admission_of peer mid n) (Some a) found)
     by (note.Admitted p m) is more = here (is_same_peer p peer && m == mid) refl
       where
         x : Exchange
         x = record { peer = p; mid = m; admitted = record { 0 = a.moment }; reply = settled a.place events }
 
         here : (b : Bool) → (is_same_peer p peer && m == mid) ≡ b → cond b (Some x) (find (is_with peer mid) others) ≡ option_and_then (exchange_of events) (cond b (Some a) found)
-        here true e = sym (ap (exchange_by a.moment (settled a.place events)) is)
+        here true e = sym (ap (exchange_admitted a.moment (settled a.place events)) is)
         here false e = more
     by _ is more = more
 
@@ -78,7 +78,7 @@ length-exchanges events [] known = refl
 length-exchanges events (a ∷ rest) known = by a.note known.0 (length-exchanges events rest known.1)
   where
     by : (n : Note) → is_admitting n ≡ true → length (filter_map (exchange_of events) rest) ≡ length rest
-        → length (cons_option (exchange_by a.moment (settled a.place events) n) (filter_map (exchange_of events) rest)) ≡ length (a ∷ rest)
+        → length (cons_option (exchange_admitted a.moment (settled a.place events) n) (filter_map (exchange_of events) rest)) ≡ length (a ∷ rest)
     by (note.Admitted peer mid) it more = ap (λ n. suc n) more
     by _ it more = absurd (false≢true it)
 
@@ -89,7 +89,7 @@ unfolding settled last_said
 same-exchanges e events [] silent = refl
 same-exchanges e events (a ∷ rest) silent =
     let first = silent.0 in
-    rw first (ap (λ xs. cons_option (exchange_by a.moment (settled a.place events) a.note) xs) (same-exchanges e events rest silent.1))
+    rw first (ap (λ xs. cons_option (exchange_admitted a.moment (settled a.place events) a.note) xs) (same-exchanges e events rest silent.1))
 
 -- ---- the admission of a write at a moment
 
@@ -218,8 +218,8 @@ answered-exchanges place peer mid moment reply e events (a ∷ rest) is pairs ma
 
     by : (n : Note) → a.note ≡ n → (p : Bool) → (place == a.place) ≡ p → (is_admission_of peer mid a.note && a.moment == moment) ≡ (place == a.place)
         → answered_first test reply others ≡ others_now
-        → answered_first test reply (cons_option (exchange_by a.moment (settled a.place events) n) others)
-        ≡ cons_option (exchange_by a.moment (or_else (answer_noted a.place e.note) (settled a.place events)) n) others_now
+        → answered_first test reply (cons_option (exchange_admitted a.moment (settled a.place events) n) others)
+        ≡ cons_option (exchange_admitted a.moment (or_else (answer_noted a.place e.note) (settled a.place events)) n) others_now
     by (note.Admitted q m) n true p it more =
         let now : answer_noted a.place e.note ≡ Some reply = said ∙ rw p refl in
         rw (match q m n it ∙ p) (rw now (ap (λ xs. answered reply (exchange q m) ∷ xs) (sym (same-exchanges e events rest (silent (eqb-true place a.place p))))))
@@ -283,7 +283,7 @@ without-exchanges place peer mid moment events (a ∷ rest) admitting pairs matc
     left = filter (λ b. not (place == b.place)) rest
 
     exchange : Note → Option Exchange
-    exchange n = exchange_by a.moment (settled a.place events) n
+    exchange n = exchange_admitted a.moment (settled a.place events) n
 
     match : (q : Peer) (m : ℕ) → a.note ≡ note.Admitted q m → (is_admission_of peer mid a.note && a.moment == moment) ≡ (place == a.place)
         → (is_same_peer q peer && m == mid && a.moment == moment) ≡ (place == a.place)

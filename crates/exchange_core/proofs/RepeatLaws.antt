@@ -3,17 +3,17 @@ use Rattle.std.proofs.Common.{◌≡◌, ◌≢◌, ℕ, ◌+◌, ◌≤◌, ◌
 use Rattle.std.specs.List.{list_any, AllByRecursion}
 use Rattle.std.proofs.lemmas.Bool.{false≢true, and_parts, and_from, ltb-false, le-ltb}
 use Rattle.rd_base.specs.declared.peers.Peer.{Peer}
-use Rattle.rd_base.proofs.lemmas.Filters.{filter_all, filter_swapped, filter_none, any_kept}
-use Rattle.rd_base.proofs.lemmas.Each.{each_weaker, each_both, each_one, each_filter, each_passes}
+use Rattle.rd_base.proofs.lemmas.Filters.{filter_swapped, filter_none, any_kept}
+use Rattle.rd_base.proofs.lemmas.Each.{each_weaker, each_both, each_filter, each_passes}
 use Rattle.rd_base.proofs.lemmas.Pairs.{pairs_filter, pairs_known, PairsByRecursion}
 use Rattle.event_model.specs.declared.notes.Note.{Note}
 use Rattle.event_model.specs.declared.notes.Note.TheVariants as note
 use Rattle.event_model.specs.Same.{is_same_peer}
 use Rattle.event_model.specs.Events.{Event, last_event, is_young, exchange_lifetime}
-use Rattle.event_model.specs.Repeats.{is_admission_of, admission_by, is_failure_of, admissions, kept, repeated, answer_noted}
+use Rattle.event_model.specs.Repeats.{is_admission_of, admission_noted, is_failure_of, admissions, kept, repeated, answer_noted}
 use Rattle.event_model.proofs.SameLaws.{is_same_peer-Decides, is_same_peer-refl}
-use Rattle.exchange_core.specs.Standing.{NoneAfter, IsNewPlace, AdmitsNew, AdmitsInOrder, IsOrderly}
-use Rattle.exchange_core.proofs.Finding.{found_holds, none_passes, each_filtered, none_behind, found_behind, only_dropped, any_behind_none, any_dropped}
+use Rattle.exchange_core.specs.ExchangeEvents.{NoneAfter, IsNewPlace, AdmitsNew, AdmitsInOrder, IsOrderly}
+use Rattle.exchange_core.proofs.FilterLemmas.{filter_true, found_holds, none_passes, each_filtered, none_filtered, found_filtered, only_dropped, any_none_filtered, any_dropped}
 use Rattle.rd_base.proofs.lemmas.Numbers.{eqb-refl}
 
 -- ---- admissions
@@ -45,18 +45,14 @@ each_admission P [] known = tt
 each_admission P (e ∷ before) known =
     by e.note (filter (λ a. not (is_failure_of a.place e.note)) (admissions before)) (each_filter P (λ a. not (is_failure_of a.place e.note)) (admissions before) (each_admission P before known.1))
   where
-    by : (n : Note) (rest : List Event) → AllByRecursion P rest → AllByRecursion P (admission_by n e ++ rest)
+    by : (n : Note) (rest : List Event) → AllByRecursion P rest → AllByRecursion P (admission_noted n e ++ rest)
     by (note.Admitted peer mid) rest more = (known.0, more)
     by _ rest more = more
 
--- an admission and one behind it: they have two places, and where they have one peer and Message ID, they are as far apart as an exchange lives
+-- an admission and one after it: they have two places, and where they have one peer and Message ID, they are as far apart as an exchange lives
 pub record Follows (x y : Event) : Type 0 where
   pub place : y.place ≢ x.place
   pub apart : (peer : Peer) (mid : ℕ) → x.note ≡ note.Admitted peer mid → y.note ≡ note.Admitted peer mid → y.moment + exchange_lifetime ≤ x.moment
-
--- a filter that keeps all
-all_of : (xs : List Event) → filter (λ a. true) xs ≡ xs
-all_of xs = filter_all (λ a. true) xs (each_one (λ a. true ≡ true) (λ a. refl) xs)
 
 -- what is known of events
 pub record Known (events : List Event) : Type 0 where
@@ -105,7 +101,7 @@ one_kept e keeps (Some a) other =
 -- one fewer: that of a place
 failed_kept : (test : Event → Bool) (q : ℕ) (keeps : List Event) (last : Option Event) → PairsByRecursion (λ x y. test x ≡ true → test y ≡ false) keeps → find test keeps ≡ last_kept keeps last
     → find test (filter (λ a. not (q == a.place)) keeps) ≡ last_kept (filter (λ a. not (q == a.place)) keeps) last
-failed_kept test q keeps None apart found = none_behind test (λ a. not (q == a.place)) keeps found
+failed_kept test q keeps None apart found = none_filtered test (λ a. not (q == a.place)) keeps found
 failed_kept test q keeps (Some a) apart found =
     by (list_any (λ o. o.place == a.place) keeps) (q == a.place) refl refl found
   where
@@ -123,9 +119,9 @@ failed_kept test q keeps (Some a) apart found =
 
     by : (k f : Bool) → list_any same keeps ≡ k → (q == a.place) ≡ f → find test keeps ≡ cond k (Some a) None
         → find test (filter keep keeps) ≡ cond (list_any same (filter keep keeps)) (Some a) None
-    by false f k e h = rw (any_behind_none same keep keeps k) (none_behind test keep keeps h)
+    by false f k e h = rw (any_none_filtered same keep keeps k) (none_filtered test keep keeps h)
     by true true k e h = rw (any_dropped same keep (dropped_too e) keeps) (only_dropped test keep keeps a apart h (rw e refl))
-    by true false k e h = rw (any_kept same keep (kept_too e) keeps) (rw k (found_behind test keep keeps a h (rw e refl)))
+    by true false k e h = rw (any_kept same keep (kept_too e) keeps) (rw k (found_filtered test keep keeps a h (rw e refl)))
 
 -- what is found with one event more
 found_step : (now : ℕ) (peer : Peer) (mid : ℕ) (e : Event) (before : List Event) → Known before → AdmitsInOrder e.note e before → NoneAfter now (e ∷ before)
@@ -146,7 +142,7 @@ found_step now peer mid e before known ordered in_time = by e.note refl ordered
     were = known.found now peer mid in_time.1
 
     all : filter (λ a. true) whole ≡ whole
-    all = all_of whole
+    all = filter_true whole
 
     -- an admission of this peer and Message ID
     this : (m : Bool) (y : Bool) → is_admission_of peer mid e.note ≡ m → young e ≡ y → IsNewPlace e.place before → NoneAfter e.moment before
@@ -165,8 +161,8 @@ found_step now peer mid e before known ordered in_time = by e.note refl ordered
         other false g = rw g were
 
     by : (n : Note) → e.note ≡ n → AdmitsInOrder n e before
-        → find (admits peer mid) (filter young (admission_by n e ++ filter (λ a. not (is_failure_of a.place n)) whole))
-        ≡ last_kept (filter young (admission_by n e ++ filter (λ a. not (is_failure_of a.place n)) whole)) (cond (is_admission_of peer mid n) (Some e) last)
+        → find (admits peer mid) (filter young (admission_noted n e ++ filter (λ a. not (is_failure_of a.place n)) whole))
+        ≡ last_kept (filter young (admission_noted n e ++ filter (λ a. not (is_failure_of a.place n)) whole)) (cond (is_admission_of peer mid n) (Some e) last)
     by (note.Admitted p m) is ordered =
         rw all (subst (λ n. find (admits peer mid) (filter young (e ∷ whole)) ≡ last_kept (filter young (e ∷ whole)) (cond (is_admission_of peer mid n) (Some e) last)) is
         (this (is_admission_of peer mid e.note) (young e) refl refl ordered.new_place ordered.in_time))
@@ -203,10 +199,10 @@ pairs_step e before known ordered = by e.note refl ordered
             far true e same = absurd (false≢true (sym (old e) ∙ (ap (is_admission_of peer mid) same ∙ admission_passes peer mid)))
             far false g same = ltb-false e.moment (y.moment + exchange_lifetime) g
 
-    by : (n : Note) → e.note ≡ n → AdmitsInOrder n e before → PairsByRecursion Follows (admission_by n e ++ filter (λ a. not (is_failure_of a.place n)) whole)
-    by (note.Admitted p m) is ordered = rw (all_of whole) (first p m is ordered, known.pairs)
+    by : (n : Note) → e.note ≡ n → AdmitsInOrder n e before → PairsByRecursion Follows (admission_noted n e ++ filter (λ a. not (is_failure_of a.place n)) whole)
+    by (note.Admitted p m) is ordered = rw (filter_true whole) (first p m is ordered, known.pairs)
     by (note.Failed q) is ordered = pairs_filter Follows (λ a. not (q == a.place)) whole known.pairs
-    by _ is ordered = rw (all_of whole) known.pairs
+    by _ is ordered = rw (filter_true whole) known.pairs
 
 -- what is known of events in order
 pub known : (events : List Event) → IsOrderly events → Known events

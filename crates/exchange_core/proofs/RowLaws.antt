@@ -6,13 +6,13 @@ use Rattle.std.proofs.lemmas.List.Quantifiers.{position-Some}
 use Rattle.rd_base.specs.declared.peers.Peer.{Peer}
 use Rattle.rd_base.proofs.lemmas.Filters.{length-filter-le}
 use Rattle.event_model.specs.Events.{is_young}
-use Rattle.exchange_core.specs.declared.answers.Keyed.{Keyed}
-use Rattle.exchange_core.specs.declared.rows.Exchange.{Exchange}
-use Rattle.exchange_core.specs.Rows.{is_with, young, InOrder, repeating, repeating_young, repeat_among, answered, answered_first, without_first}
+use Rattle.exchange_core.specs.declared.writes.Keyed.{Keyed}
+use Rattle.exchange_core.specs.declared.writes.Exchange.{Exchange}
+use Rattle.exchange_core.specs.Table.{is_with, young, InOrder, repeating, repeating_young, repeat_among, answered, answered_first, without_first}
 
 -- ---- the first that passes a test
 
--- it is at a place
+-- it is at an index
 answered_at : (test : Exchange → Bool) (reply : List ℕ) (xs : List Exchange) (i : ℕ) (d : Exchange) → i < length xs → test (get_or xs i d) ≡ true → ((k : ℕ) → k < i → test (get_or xs k d) ≡ false)
     → set xs i (answered reply (get_or xs i d)) ≡ answered_first test reply xs
 unfolding answered_first
@@ -43,10 +43,10 @@ without_first-at test (x ∷ xs) i there =
     let found = position-Some test (x ∷ xs) i x there in
     without_at test (x ∷ xs) i x found.0 found.1 found.2
 
--- it is at a place within
-pub place_within : (test : Exchange → Bool) (xs : List Exchange) (i : ℕ) → position test xs ≡ Some i → i < length xs
-place_within test [] i there = absurd cc
-place_within test (x ∷ xs) i there = (position-Some test (x ∷ xs) i x there).0
+-- its index is within
+pub index_within : (test : Exchange → Bool) (xs : List Exchange) (i : ℕ) → position test xs ≡ Some i → i < length xs
+index_within test [] i there = absurd cc
+index_within test (x ∷ xs) i there = (position-Some test (x ∷ xs) i x there).0
 
 -- it is nowhere
 nowhere : (test : Exchange → Bool) (xs : List Exchange) → position test xs ≡ None → length xs ≤ position_or_len test xs
@@ -141,9 +141,9 @@ pub young-popped : (now : ℕ) (xs : List Exchange) (x : Exchange) → is_young 
 young-popped now [] x old = rw old refl
 young-popped now (y ∷ ys) x old = ap (λ rest. cond (is_young now y.admitted.0) (y ∷ rest) rest) (young-popped now ys x old)
 
--- the oldest, behind the others
-pub oldest_behind : (xs : List Exchange) (n : ℕ) (x : Exchange) → n ≡ length xs → 0 < n → x ≡ get_or xs (n - 1) x → xs ≡ take (n - 1) xs ++ x ∷ []
-oldest_behind xs n x e some is =
+-- the oldest, after the others
+pub oldest_last : (xs : List Exchange) (n : ℕ) (x : Exchange) → n ≡ length xs → 0 < n → x ≡ get_or xs (n - 1) x → xs ≡ take (n - 1) xs ++ x ∷ []
+oldest_last xs n x e some is =
     let more : take (n - 1 + 1) xs ≡ take (n - 1) xs ++ get_or xs (n - 1) x ∷ [] = take_more xs (n - 1) x (omega (arith, e, some)) in
     let whole : n - 1 + 1 ≡ length xs = omega (arith, e, some) in
     sym (take_all (n - 1 + 1) xs (omega (arith, whole))) ∙ (more ∙ ap (λ y. take (n - 1) xs ++ y ∷ []) (sym is))

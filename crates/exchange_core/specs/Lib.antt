@@ -1,3 +1,3 @@
-pub mod Rows
-pub mod Standing
-pub mod Resending
+pub mod Table
+pub mod ExchangeEvents
+pub mod Retransmissions

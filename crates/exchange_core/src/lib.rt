@@ -1,20 +1,15 @@
-//! Exchanges: how a write that comes again is told and answered by the same octets (RFC 7252 section 4.5), and when a message is sent again (section 4.2).
+//! Exchanges: how a write that comes again is recognized and gets the same octets as its answer (RFC 7252 section 4.5), and when a message is sent again (section 4.2).
 #![tactic(auto)]
 
-mod answers;
-mod flights;
-mod held;
 mod octets;
-mod resending;
-mod rows;
+mod resends;
 mod table;
+mod writes;
 
-pub use answers::Keyed;
-pub use flights::Flight;
 pub use octets::{Octets, Reply, Token};
-pub use resending::{Again, Resend};
-pub use rows::Exchange;
+pub use resends::{Again, Flight, Resend};
 pub use table::Exchanges;
+pub use writes::{Exchange, Keyed};
 
 #[cfg(test)]
 mod tests;

@@ -1,4 +1,4 @@
-// Octets that are kept in a room of their own and take no memory: tokens, and what writes were answered by.
+//! Octets that are kept in a room of their own and take no memory: tokens, and the answers to writes.
 ghost use Rattle.std.specs.Prelude.{◌≡◌, ◌≤◌, length, nat_eq};
 ghost use Rattle.std.proofs.Common.{rules};
 ghost use Rattle.std.specs.Cmp.Rules.{comparing, hashing};
@@ -13,13 +13,14 @@ use std::marker::Model;
 /// At most so many octets, seen by contracts as their list.
 #[derive(Debug, Drop)]
 pub struct Octets<const N: usize> {
+    /// The octets.
     octets: ArrayVec<u8, N>,
 }
 
-/// A token, by which a response is told to belong to a request: at most 8 octets (RFC 7252 section 5.3.1).
+/// A token, by which a response is matched with its request: at most 8 octets (RFC 7252 section 5.3.1).
 pub type Token = Octets<8>;
 
-/// The octets that a write was answered by, at most 64.
+/// The octets of the answer to a write, at most 64.
 pub type Reply = Octets<64>;
 
 impl<const N: usize> Model for Octets<N> {

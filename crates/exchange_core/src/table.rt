@@ -1,12 +1,13 @@
-// The table of exchanges.
-ghost use Rattle.std.specs.Prelude.{◌≡◌, ◌≢◌, ℕ, ◌≤◌, [], ◌∷◌, List, IfOk};
+//! The table of exchanges.
+ghost use Rattle.std.specs.Prelude.{◌≡◌, ◌≢◌, ℕ, ◌≤◌, [], ◌∷◌, List, IfOk, find, option_map};
+ghost use Rattle.std.specs.List.{position};
+ghost use Rattle.std.specs.VecDeque.{deque_capacity};
 ghost use Rattle.rd_base.specs.declared.peers.Peer.{Peer};
 ghost use Rattle.event_model.specs.declared.notes.Note.TheVariants as note;
 ghost use Rattle.event_model.specs.Events.{Event};
-ghost use Rattle.exchange_core.specs.Rows.{is_admitted_at, young, answered_first, without_first};
-ghost use Rattle.exchange_core.specs.Standing.{ExchangesStandFor, IsOrderly, NoneAfter, IsNewPlace, HasAdmission, keyed_by};
+ghost use Rattle.exchange_core.specs.Table.{is_with, is_admitted_at, InOrder, young, repeat_among, answered_first, without_first};
+ghost use Rattle.exchange_core.specs.ExchangeEvents.{ExchangesStandFor, IsOrderly, NoneAfter, IsNewPlace, HasAdmission, keyed_after};
 
-use crate::held::{answer_first, drop_first, drop_old, repeat_in};
 use crate::{Exchange, Keyed, Reply};
 use rd_base::{Moment, Peer, Starved};
 use std::alloc::Global;
@@ -16,17 +17,19 @@ use std::marker::Model;
 /// How many exchanges are kept at most.
 const MAX_EXCHANGES: usize = 4_096;
 
-/// The writes that were admitted and how they were answered, by which a repeat is told (RFC 7252 section 4.5).
+/// The writes that were admitted and how they were answered, by which a repeat is recognized (RFC 7252 section 4.5).
 #[derive(Drop)]
 pub struct Exchanges {
+    /// The greatest moment that was handed to a call which changed it.
     moment: Moment,
+    /// The exchanges, the latest first.
     rows: VecDeque<Exchange>,
 }
 
 impl Model for Exchanges {
     ghost use Rattle.std.specs.Prelude.{◌≤◌};
     ghost use Rattle.std.specs.VecDeque.{deque_len, deque_capacity};
-    ghost use Rattle.exchange_core.specs.Rows.{Table, InOrder};
+    ghost use Rattle.exchange_core.specs.Table.{Table, InOrder};
 
     ghost Value = { Table };
 
@@ -36,7 +39,7 @@ impl Model for Exchanges {
 }
 
 impl Exchanges {
-    /// No exchanges, with room for as many as are kept at most.
+    /// No exchanges, with room for as many as are kept at most, 4,096. `Starved` where memory ran out, and then nothing is kept.
     pub fn make(alloc: Global) -> Result<Exchanges, Starved>
         ensures moment { IfOk result (λ t. t.moment ≡ 0) }
         ensures stands { IfOk result (λ t. ExchangesStandFor 0 [] t) }
@@ -48,11 +51,11 @@ impl Exchanges {
         })
     }
 
-    /// How a write of a peer under a Message ID is answered. One that is new is admitted now, in flight, if there is room.
+    /// How a write of a peer under a Message ID is answered (RFC 7252 section 4.5). One that is new is admitted now, in flight, if there is room.
     /// Now is not before the moments that the table was changed at. Takes no memory.
     pub fn admit_key(&mut self, now: Moment, peer: Peer, mid: u16) -> Keyed
         requires { self.old.moment ≤ now.0 }
-        ensures answer { (at : ℕ) (events : List Event) → at ≤ now.0 → IsOrderly events → NoneAfter now.0 events → ExchangesStandFor at events self.old → result ≡ keyed_by now.0 peer mid events }
+        ensures answer { (at : ℕ) (events : List Event) → at ≤ now.0 → IsOrderly events → NoneAfter now.0 events → ExchangesStandFor at events self.old → result ≡ keyed_after now.0 peer mid events }
         ensures stands { (at : ℕ) (events : List Event) → at ≤ now.0 → result ≢ Keyed.Fresh → ExchangesStandFor at events self.old → ExchangesStandFor now.0 events self.new }
         ensures admitted { (at : ℕ) (events : List Event) (e : Event) → at ≤ now.0 → result ≡ Keyed.Fresh → e.note ≡ note.Admitted peer mid → e.moment ≡ now.0 → IsNewPlace e.place events → ExchangesStandFor at events self.old → ExchangesStandFor now.0 (e ∷ events) self.new }
         ensures repeat { result ≢ Keyed.Fresh → result ≢ Keyed.FullExchanges → self.new ≡ self.old }
@@ -101,5 +104,68 @@ impl Exchanges {
     {
         drop_old(&mut self.rows, now);
         self.moment = now;
+    }
+}
+
+/// The latest exchange with this peer and Message ID.
+fn last_with(rows: &VecDeque<Exchange>, peer: Peer, mid: u16) -> Option<&Exchange>
+    ensures { option_map (λ x. x.now) result ≡ find (is_with peer mid) rows.now.items }
+{
+    rows.iter().find(|exchange| exchange.is_with(peer, mid))
+}
+
+/// How a write is answered that repeats one of the exchanges; none where it repeats none.
+#[tactic(auto, unfolding(crate::specs::Table::repeat_among))]
+fn repeat_in(rows: &VecDeque<Exchange>, now: Moment, peer: Peer, mid: u16) -> Option<Keyed>
+    ensures { result ≡ repeat_among now.0 peer mid rows.now.items }
+{
+    let Some(last) = last_with(rows, peer, mid) else {
+        return None;
+    };
+    if !last.is_young(now) {
+        return None;
+    }
+    Some(last.repeated())
+}
+
+/// Drops the exchanges that are older than an exchange lives, from the oldest on.
+fn drop_old(rows: &mut VecDeque<Exchange>, now: Moment)
+    requires { InOrder now.0 rows.old.items }
+    ensures items { rows.new.items ≡ young now.0 rows.old.items }
+    ensures capacity { deque_capacity rows.new ≡ deque_capacity rows.old }
+{
+    'oldest: while let Some(oldest) = rows.back() {
+        if oldest.is_young(now) {
+            return;
+        }
+        let _ = rows.pop_back();
+    }
+}
+
+/// The index of the write that was admitted at a moment.
+fn index_of(rows: &VecDeque<Exchange>, peer: Peer, mid: u16, admitted: Moment) -> Option<usize>
+    ensures { result ≡ position (is_admitted_at peer mid admitted.0) rows.now.items }
+{
+    rows.iter()
+        .position(|exchange| exchange.is_admitted_at(peer, mid, admitted))
+}
+
+/// Keeps the reply of the write that was admitted at a moment.
+fn answer_first(rows: &mut VecDeque<Exchange>, peer: Peer, mid: u16, admitted: Moment, reply: Reply)
+    ensures items { rows.new.items ≡ answered_first (is_admitted_at peer mid admitted.0) reply rows.old.items }
+    ensures capacity { deque_capacity rows.new ≡ deque_capacity rows.old }
+{
+    if let Some(index) = index_of(rows, peer, mid, admitted) {
+        rows[index].reply = Some(reply);
+    }
+}
+
+/// Drops the write that was admitted at a moment.
+fn drop_first(rows: &mut VecDeque<Exchange>, peer: Peer, mid: u16, admitted: Moment)
+    ensures items { rows.new.items ≡ without_first (is_admitted_at peer mid admitted.0) rows.old.items }
+    ensures capacity { deque_capacity rows.new ≡ deque_capacity rows.old }
+{
+    if let Some(index) = index_of(rows, peer, mid, admitted) {
+        let _ = rows.remove(index);
     }
 }

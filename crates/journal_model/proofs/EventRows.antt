@@ -5,7 +5,7 @@ use Rattle.std.specs.List.{list_any}
 use Rattle.std.proofs.lemmas.Bool.{false≢true, ne_eqb}
 use Rattle.event_model.specs.declared.notes.Note.{Note}
 use Rattle.event_model.specs.Events.{Event, noted, last_event, or_else, last_said}
-use Rattle.event_model.proofs.Noting.{event_at, last_event-before}
+use Rattle.event_model.proofs.NotedLaws.{event_at, last_event-before}
 use Rattle.journal_model.specs.declared.rows.Row.{Row}
 use Rattle.journal_model.specs.Journal.{events, row_at}
 use Rattle.journal_model.specs.Headline.{Within, Placed, last_row}
@@ -61,8 +61,8 @@ unfolding events row_at last_row
 row_of test [] e found = absurd (let no : None ≡ Some e = found in cc)
 row_of test (r ∷ before) e found = by (list_any test r.notes) refl (λ h. row_of test before e h)
   where
-    behind : list_any test r.notes ≡ false → RowOf test before e → RowOf test (r ∷ before) e
-    behind none it = record {
+    after : list_any test r.notes ≡ false → RowOf test before e → RowOf test (r ∷ before) e
+    after none it = record {
       placed = it.placed;
       within = record { later = r ∷ it.within.later; whole = ap (λ (rows : List Row). r ∷ rows) it.within.whole };
       place = it.place;
@@ -86,15 +86,15 @@ row_of test (r ∷ before) e found = by (list_any test r.notes) refl (λ h. row_
           kind = it.2;
           last = rw some refl;
         }
-    by false none more = behind none (more (sym (last_event-before test (length before) r.moment.0 r.step.word r.notes (events before) none) ∙ found))
+    by false none more = after none (more (sym (last_event-before test (length before) r.moment.0 r.step.word r.notes (events before) none) ∙ found))
 
 -- what holds of all rows holds of one
 pub row_within : (P : List Row → Row → Type 0) (rows before : List Row) (r : Row) → AllRows P rows → Within rows before r → P before r
-row_within P rows before r all within = behind within.later (subst (AllRows P) within.whole all)
+row_within P rows before r all within = after within.later (subst (AllRows P) within.whole all)
   where
-    behind : (later : List Row) → AllRows P (later ++ r ∷ before) → P before r
-    behind [] h = h.0
-    behind (x ∷ later) h = behind later h.1
+    after : (later : List Row) → AllRows P (later ++ r ∷ before) → P before r
+    after [] h = h.0
+    after (x ∷ later) h = after later h.1
 
 -- what the last note says is said by the last event that says something
 pub said_by : {A : Type 0} (says : Note → Option A) (past : List Event) (x : A) → last_said says past ≡ Some x

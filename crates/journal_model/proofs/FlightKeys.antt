@@ -11,7 +11,7 @@ use Rattle.event_model.specs.Events.{Event, noted, last_event, has_event, events
 use Rattle.event_model.specs.Observers.{name_of}
 use Rattle.event_model.specs.Flights.{is_forming_for, notice_mid, is_landing_of, is_again_of, Flight, flight_after, flight}
 use Rattle.event_model.proofs.SameLaws.{is_same_request-refl}
-use Rattle.event_model.proofs.Noting.{event_at}
+use Rattle.event_model.proofs.NotedLaws.{event_at}
 use Rattle.std.proofs.lemmas.Bool.{or_parts}
 
 -- the Message ID of a notice in flight, and the place of the row that formed it
@@ -22,7 +22,7 @@ key_of f = (f.mid, f.formed.place)
 abbrev pub flight_key : Observer → List Event → Option (ℕ × ℕ)
 flight_key o events = option_map key_of (flight o events)
 
--- a flight that is had behind a note which forms nothing for the observer was had before it
+-- a flight that is had after a note which forms nothing for the observer was had before it
 pub key_before : (o : Observer) (e : Event) (before : List Event) (k : ℕ × ℕ) → is_forming_for (name_of o) e.note ≡ false → flight_key o (e ∷ before) ≡ Some k → flight_key o before ≡ Some k
 unfolding flight events_since
 key_before o e before k quiet found = formed (last_event (is_forming_for (name_of o)) before) (subst (λ b. Behind b (last_event (is_forming_for (name_of o)) before)) quiet found)

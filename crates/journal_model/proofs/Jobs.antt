@@ -60,10 +60,11 @@ job_not_heard worker (r ∷ before) job e = by (r.step.worker == worker) e (λ h
     by false h more = more h
 
 -- so what is heard is heard as its datagram says
-pub heard_by_hearing : (rows : List Row) (s : Step) → MayBegin rows s → is_heard s.kind ≡ true → s.kind ≡ hearing s.datagram
-heard_by_hearing rows s (hears none heard) e = heard
-heard_by_hearing rows s (goes holds) e = absurd (false≢true (sym (job_not_heard s.worker rows (record { kind = s.kind; peer = s.peer; datagram = s.datagram }) holds) ∙ e))
-heard_by_hearing rows s (ticks tick) e = absurd (false≢true (sym (ap is_heard tick) ∙ e))
+-- An end theorem: nothing here cites it.
+pub heard_as_hearing : (rows : List Row) (s : Step) → MayBegin rows s → is_heard s.kind ≡ true → s.kind ≡ hearing s.datagram
+heard_as_hearing rows s (hears none heard) e = heard
+heard_as_hearing rows s (goes holds) e = absurd (false≢true (sym (job_not_heard s.worker rows (record { kind = s.kind; peer = s.peer; datagram = s.datagram }) holds) ∙ e))
+heard_as_hearing rows s (ticks tick) e = absurd (false≢true (sym (ap is_heard tick) ∙ e))
 
 -- one that is admitted is no look
 pub heard_no_look : (datagram : List ℕ) → step.Admit ≡ hearing datagram → is_look_datagram datagram ≡ false
@@ -97,8 +98,8 @@ unfolding job_of last_row
 keeps_of worker [] job body tag e keep = absurd (let h : None ≡ Some job = e in cc)
 keeps_of worker (r ∷ before) job body tag e keep = by (r.step.worker == worker) refl e (λ h. keeps_of worker before job body tag h keep)
   where
-    behind : (is_look r.step.kind && r.step.worker == worker) ≡ false → KeepsOf before worker job → KeepsOf (r ∷ before) worker job
-    behind other it = record {
+    after : (is_look r.step.kind && r.step.worker == worker) ≡ false → KeepsOf before worker job → KeepsOf (r ∷ before) worker job
+    after other it = record {
       look = it.look;
       found = rw other it.found;
       within = record { later = r ∷ it.within.later; whole = ap (λ (rows : List Row). r ∷ rows) it.within.whole };
@@ -122,9 +123,9 @@ keeps_of worker (r ∷ before) job body tag e keep = by (r.step.worker == worker
     }
     own (step.Commit place) is same h more = absurd (let no : None ≡ Some job = h in cc)
     own (step.Keep others current) is same h more = absurd (let no : None ≡ Some job = h in cc)
-    own step.Tick is same h more = behind (rw is refl) (more h)
+    own step.Tick is same h more = after (rw is refl) (more h)
 
     by : (b : Bool) → (r.step.worker == worker) ≡ b → cond b (job_after r.step.kind r before (job_of worker before)) (job_of worker before) ≡ Some job
         → (job_of worker before ≡ Some job → KeepsOf before worker job) → KeepsOf (r ∷ before) worker job
     by true same h more = own r.step.kind refl same h more
-    by false other h more = behind (rw other (and_false (is_look r.step.kind))) (more h)
+    by false other h more = after (rw other (and_false (is_look r.step.kind))) (more h)

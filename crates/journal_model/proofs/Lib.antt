@@ -1,3 +1,6 @@
+-- What notes hold and steps note: EntriesNoted, NoteKinds, StepNotes.
+-- Rows: RowEquations (their parts), EventRows (the row of an event), Jobs (the jobs of workers), FlightKeys (notices in flight).
+-- OnLiterals unfolds the definitions, so that examples compute.
 pub mod OnLiterals
 pub mod EntriesNoted
 pub mod NoteKinds

@@ -111,14 +111,14 @@ none_of kind test never (n ∷ notes) h =
     let both = and_parts (kind n) (are kind notes) h in
     rw (never n both.0) (none_of kind test never notes both.1)
 
--- where no note of a kind is an entry, none is entries_in
+-- where no note of a kind is an entry, notes of the kind hold none
 pub entries_in-none : (kind : Note → Bool) → ((n : Note) → kind n ≡ true → entry_noted n ≡ None) → (notes : List Note) → are kind notes ≡ true → entries_in notes ≡ []
 entries_in-none kind never [] h = refl
 entries_in-none kind never (n ∷ notes) h =
     let both = and_parts (kind n) (are kind notes) h in
     rw (never n both.0) (entries_in-none kind never notes both.1)
 
--- lookups, writes as they are heard, empty messages and ticks tell no entry
+-- lookups, writes as they are heard, empty messages and ticks note no entry
 pub lookup-entries_in : (notes : List Note) → are of_lookup notes ≡ true → entries_in notes ≡ []
 lookup-entries_in notes h = entries_in-none of_lookup never notes h
   where

@@ -1,4 +1,5 @@
 -- The parts of a row, and what a journal shows with one row more.
+-- End theorems, for what keeps the events of a journal: nothing here cites them.
 use Rattle.std.proofs.Common.{◌≡◌, ℕ, Bool, cond, max, List, [], ◌∷◌, length, fold, refl}
 use Rattle.message_model.specs.Reading.{reading}
 use Rattle.event_model.specs.Events.{noted}
@@ -10,7 +11,7 @@ use Rattle.journal_model.specs.Ticks.{tick_effects}
 use Rattle.journal_model.specs.Rows.{heard, looked, done, kept_body, effects, row_moment, row}
 use Rattle.journal_model.specs.Machine.{MayRun, IsJournal, begun, made, run}
 
--- a row has its step, whether it met want of memory, and what the step does at its moment
+-- a row has its step, whether memory ran out, and what the step does at its moment
 pub row-step : (rows : List Row) (s : Step) (starved : Bool) → (row rows s starved).step ≡ s
 unfolding row
 row-step rows s starved = refl
@@ -72,8 +73,8 @@ transitions-row rows r = refl
 -- what comes of steps that may be made one after the other is a journal of the machine
 pub run-IsJournal : (steps : List (Step × Bool)) → MayRun steps [] → IsJournal (run steps)
 unfolding run
-run-IsJournal steps may = behind steps [] may begun
+run-IsJournal steps may = after steps [] may begun
   where
-    behind : (more : List (Step × Bool)) (rows : List Row) → MayRun more rows → IsJournal rows → IsJournal (fold (λ before next. row before next.0 next.1 ∷ before) rows more)
-    behind [] rows may journal = journal
-    behind (next ∷ more) rows may journal = behind more (row rows next.0 next.1 ∷ rows) may.1 (made next.1 journal may.0)
+    after : (more : List (Step × Bool)) (rows : List Row) → MayRun more rows → IsJournal rows → IsJournal (fold (λ before next. row before next.0 next.1 ∷ before) rows more)
+    after [] rows may journal = journal
+    after (next ∷ more) rows may journal = after more (row rows next.0 next.1 ∷ rows) may.1 (made next.1 journal may.0)

@@ -1,4 +1,4 @@
--- What looks, keeps, lookups, writes as they are heard, empty messages, and ticks note; so none of them tells an entry.
+-- What looks, keeps, lookups, writes as they are heard, empty messages, and ticks note; so none of them notes an entry.
 use Rattle.std.proofs.Common.{◌≡◌, ℕ, Bool, true, false, cond, List, [], ◌∷◌, ◌++◌, map, fold, Option, Some, None, refl, ◌==◌}
 use Rattle.message_model.specs.Message.{Message}
 use Rattle.history_model.specs.declared.entries.Entry.{Entry}
@@ -13,7 +13,7 @@ use Rattle.event_model.specs.Flights.{Flight}
 use Rattle.event_model.specs.Fetches.{Request}
 use Rattle.journal_model.specs.declared.steps.Step.{Step}
 use Rattle.journal_model.specs.declared.rows.Row.{Row}
-use Rattle.journal_model.specs.Sending.{Effects, answering}
+use Rattle.journal_model.specs.Effects.{Effects, answering}
 use Rattle.message_model.specs.Request.{observe_in}
 use Rattle.message_model.specs.RequestKey.{key_in}
 use Rattle.event_model.specs.Observers.{has_room_for, name_of, observers, is_observer, last_body_formed}
@@ -23,10 +23,10 @@ use Rattle.journal_model.specs.Journal.{events, entries}
 use Rattle.journal_model.specs.Requests.{asked_block, query_of, register, deregister}
 use Rattle.journal_model.specs.Bodies.{is_long}
 use Rattle.journal_model.specs.Looks.{unless_held, unless_valid, looked_at, look_effects, keep_effects}
-use Rattle.journal_model.specs.Lookups.{without, listing_now, addition, observer_of, block_now, block_of_kept, later_block, removal, keeping, observed_if, observed, unobserved, observed_by, by_observe, by_block, lookup_effects}
+use Rattle.journal_model.specs.Lookups.{without, listing_now, addition, observer_of, block_now, block_of_kept, later_block, removal, keeping, observed_if, observed, unobserved, observation_effects, first_block_effects, block_effects, lookup_effects}
 use Rattle.journal_model.specs.Writes.{again_answered, admitted_unless, write_unless, write_effects}
-use Rattle.journal_model.specs.Empties.{waited_for, is_last_request, acknowledged, reset}
-use Rattle.journal_model.specs.Ticks.{first_block, is_given, listing_for, is_looked_at, events_with, ticking, sent_again, each_of, notice_again, flight_again, notices_again, Ticking, noticed_unless, noticed_if, notice_next, notices, request_again, fetch_again, requests_again, tick_effects}
+use Rattle.journal_model.specs.EmptyMessages.{waited_for, is_last_request, acknowledged, reset}
+use Rattle.journal_model.specs.Ticks.{first_block, is_unchanged, listing_for, is_looked_at, events_with, ticking, sent_again, each_of, notice_again, flight_again, notices_again, Ticking, noticed_unless, noticed_if, notice_next, notices, request_again, fetch_again, requests_again, tick_effects}
 use Rattle.std.proofs.lemmas.Bool.{and_from}
 use Rattle.journal_model.proofs.NoteKinds.{of_lookup, of_write, of_empty, of_again, of_resent, of_tick, are, are-append, again_tick, resent_tick}
 
@@ -94,16 +94,16 @@ pub lookup_effects-notes : (rows : List Row) (moment : ℕ) (s : Step) (m : Mess
 unfolding lookup_effects observed unobserved
 lookup_effects-notes rows moment s m = by _
   where
-    value : (b c : Bool) → are of_lookup (observed_by b c rows moment s m).notes ≡ true
+    value : (b c : Bool) → are of_lookup (observation_effects b c rows moment s m).notes ≡ true
     value true c = observed_if-notes (has_room_for (query_of m) (without (s.peer, m.token) (observers (events rows)))) rows s m (listing_now rows moment m)
     value false true = observed_if-notes false rows s m (listing_now rows moment m)
     value false false = rw (look_effects-notes (entries rows) moment s m) refl
 
-    observe : (o : Option ℕ) → are of_lookup (by_observe o rows moment s m).notes ≡ true
+    observe : (o : Option ℕ) → are of_lookup (first_block_effects o rows moment s m).notes ≡ true
     observe None = rw (look_effects-notes (entries rows) moment s m) refl
     observe (Some n) = value (n == register) (n == deregister)
 
-    by : (b : Bool) → are of_lookup (by_block b rows moment s m).notes ≡ true
+    by : (b : Bool) → are of_lookup (block_effects b rows moment s m).notes ≡ true
     by true = later_block-notes rows moment s m
     by false = observe (observe_in m)
 
@@ -190,7 +190,7 @@ notices-notes t done quiet = folded (observers (events_with t done)) done quiet
 
     looked : (b : Bool) (so_far : Effects) (o : Observer) → are of_tick (noticed_if b t so_far o).notes ≡ true
     looked false so_far o = refl
-    looked true so_far o = unless (is_given (last_body_formed (name_of o) (events_with t so_far)) (listing_for t o).body) so_far o (listing_for t o)
+    looked true so_far o = unless (is_unchanged (last_body_formed (name_of o) (events_with t so_far)) (listing_for t o).body) so_far o (listing_for t o)
 
     folded : (standing : List Observer) (so_far : Effects) → are of_tick so_far.notes ≡ true → are of_tick (fold (notice_next t) so_far standing).notes ≡ true
     folded [] so_far h = h

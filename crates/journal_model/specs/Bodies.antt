@@ -7,28 +7,30 @@ use Rattle.message_model.specs.Codes as codes_of
 use Rattle.message_model.specs.OptionTable as table
 use Rattle.message_model.specs.Blocks.{block_size, block_value, block_of}
 use Rattle.message_model.specs.Refusals.{link_format}
-use Rattle.journal_model.specs.Sending.{Reply, diagnostic}
+use Rattle.journal_model.specs.Effects.{Reply, diagnostic}
 use Rattle.journal_model.specs.Requests.{number_of, szx_of}
 
--- the options of an entity tag, an Observe value and a block, where there are such
+-- the option of an entity tag, where there is one
 abbrev pub tag_option : Option (List ℕ) → List Opt
 tag_option None = []
 tag_option (Some tag) = (table.etag, tag) ∷ []
 
+-- the option of an Observe value, where there is one
 abbrev pub observe_option : Option ℕ → List Opt
 observe_option None = []
 observe_option (Some value) = (table.observe, uint_bytes value) ∷ []
 
+-- the option of a block of the answer, where there is one
 abbrev pub block2_option : Option Block → List Opt
 block2_option None = []
 block2_option (Some b) = (table.block2, block_value b) ∷ []
 
--- the block is told where one was asked for, or where more follow
+-- the block is named in the answer where one was asked for, or where more follow
 abbrev pub answered_block : Option Block → Bool → Option Block
 answered_block None more = if more then Some (record { num = 0; more = true; szx = szx_of None }) else None
 answered_block (Some b) more = Some (record { num = b.num; more = more; szx = b.szx })
 
--- 2.05 with a part of a body, which more may follow; 4.00 where the block that was asked for lies behind the end
+-- 2.05 with a part of a body, which more may follow; 4.00 where the block that was asked for lies after the end
 abbrev pub part_reply : Option (List ℕ) → Option ℕ → Option Block → Option (List ℕ × Bool) → Reply
 part_reply tag observe asked None = diagnostic codes_of.bad_request (codes "block")
 part_reply tag observe asked (Some part) = record {

@@ -18,7 +18,7 @@ use Rattle.history_model.specs.Replay.{replay, number_named}
 use Rattle.event_model.specs.declared.notes.Note.{Note}
 use Rattle.event_model.specs.declared.notes.Note.TheVariants as note
 use Rattle.journal_model.specs.declared.steps.Step.{Step}
-use Rattle.journal_model.specs.Sending.{Reply, diagnostic}
+use Rattle.journal_model.specs.Effects.{Reply, diagnostic}
 
 -- what comes of a write: its answer, and what is noted beside that
 pub record Outcome : Type 0 where
@@ -37,15 +37,15 @@ refused_as refusal.Text = refused codes_of.service_unavailable (codes "text")
 refused_as refusal.Entries = refused codes_of.service_unavailable (codes "entries")
 
 -- a change with the moment, the worker and the peer of a step
-abbrev pub entry_by : ℕ → Step → Change → Entry
-entry_by moment s what = record { moment = record { 0 = moment }; worker = s.worker; peer = s.peer; change = what }
+abbrev pub entry_of_step : ℕ → Step → Change → Entry
+entry_of_step moment s what = record { moment = record { 0 = moment }; worker = s.worker; peer = s.peer; change = what }
 
 -- the change is refused, or it is entered and answered
 abbrev pub entered_unless : Option Refusal → Entry → Outcome → Outcome
 entered_unless (Some why) entry done = refused_as why
 entered_unless None entry done = record { reply = done.reply; notes = note.Entered entry ∷ done.notes }
 
--- a change behind a history, and what comes of it where nothing refuses it
+-- a change after a history, and what comes of it where nothing refuses it
 abbrev pub change_made : List Entry → Entry → Outcome → Outcome
 change_made history entry done = entered_unless (change_refusal 0 history entry) entry done
 
@@ -54,10 +54,12 @@ pub data BodyRead : Type 0 where
   bad_body : List ℕ → BodyRead
   good_body : List SubmittedLink → BodyRead
 
+-- the links, where they are in the Limited Link Format
 abbrev pub limited_links : Bool → List SubmittedLink → BodyRead
 limited_links true links = bad_body (codes "limited")
 limited_links false links = good_body links
 
+-- the links, where the body is a document of references
 abbrev pub links_or_bad : Option (List SubmittedLink) → BodyRead
 links_or_bad None = bad_body (codes "links")
 links_or_bad (Some links) = limited_links (is_some (first_unlimited links)) links
@@ -66,9 +68,9 @@ links_or_bad (Some links) = limited_links (is_some (first_unlimited links)) link
 unfoldable pub body_read : List ℕ → BodyRead
 body_read body = links_or_bad (linked_references body)
 
--- the number that the registration of a name has behind a history
-abbrev pub number_behind : Name → ℕ → List Entry → ℕ
-number_behind name moment history = unwrap_or (number_named name moment (replay history).records) 0
+-- the number that the registration of a name has after a history
+abbrev pub number_after : Name → ℕ → List Entry → ℕ
+number_after name moment history = unwrap_or (number_named name moment (replay history).records) 0
 
 -- the location of a registration (RFC 9176 section 5)
 abbrev pub location_options : ℕ → List Opt
@@ -78,16 +80,16 @@ location_options number = (table.location_path, codes "rd") ∷ (table.location_
 abbrev pub created_at : ℕ → List Opt → Reply
 created_at number further = record { code = codes_of.created; options = location_options number ++ further; payload = [] }
 
--- a registration of links behind a history, answered with further options; where it is accepted, this is noted beside its entry
+-- a registration of links after a history, answered with further options; where it is accepted, this is noted beside its entry
 abbrev pub registration_made : List Entry → ℕ → Entry → Name → List Opt → List Note → Outcome
 registration_made history moment entry name further notes =
-    change_made history entry (record { reply = created_at (number_behind name moment (history ++ entry ∷ [])) further; notes = notes })
+    change_made history entry (record { reply = created_at (number_after name moment (history ++ entry ∷ [])) further; notes = notes })
 
 -- the registration of what was read of a body
 abbrev pub registered_links : List Entry → ℕ → Step → RegParams → List Opt → List Note → BodyRead → Outcome
 registered_links history moment s params further notes (bad_body word) = refused codes_of.bad_request word
 registered_links history moment s params further notes (good_body links) =
-    registration_made history moment (entry_by moment s (change.Register params links)) params.name further notes
+    registration_made history moment (entry_of_step moment s (change.Register params links)) params.name further notes
 
 -- the registration of a whole body: refused for its links, refused as a change, or entered
 unfoldable pub registration : List Entry → ℕ → Step → RegParams → List ℕ → List Opt → List Note → Outcome

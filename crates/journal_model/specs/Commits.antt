@@ -19,9 +19,9 @@ use Rattle.event_model.specs.Fetches.{max_fetches, fetches, is_fetching, next_to
 use Rattle.journal_model.specs.declared.steps.Step.{Step}
 use Rattle.journal_model.specs.declared.rows.Row.{Row}
 use Rattle.journal_model.specs.Journal.{events, entries}
-use Rattle.journal_model.specs.Sending.{Effects, nothing, joined, bare, mid_of, drawn_for, answer, answering}
-use Rattle.journal_model.specs.Changes.{Outcome, refused, entry_by, change_made}
-use Rattle.journal_model.specs.Uploading.{registering}
+use Rattle.journal_model.specs.Effects.{Effects, nothing, joined, bare, mid_of, drawn_for, answer, answering}
+use Rattle.journal_model.specs.Changes.{Outcome, refused, entry_of_step, change_made}
+use Rattle.journal_model.specs.Registrations.{registering}
 
 -- the answer is sent and settled, and what came of the write is noted
 abbrev pub settling : ℕ → Step → Message → Outcome → Effects
@@ -30,11 +30,11 @@ settling place s m done = answering s m done.reply (done.notes ++ note.Settled p
 -- an update (RFC 9176 section 5.3.1)
 abbrev pub updating : List Row → ℕ → Step → Message → ℕ → Outcome
 updating rows moment s m number =
-    change_made (entries rows) (entry_by moment s (change.Update number (update_values (queries_in m)))) (record { reply = bare codes_of.changed; notes = [] })
+    change_made (entries rows) (entry_of_step moment s (change.Update number (update_values (queries_in m)))) (record { reply = bare codes_of.changed; notes = [] })
 
 -- a removal (RFC 9176 section 5.3.2)
 abbrev pub removing : List Row → ℕ → Step → ℕ → Outcome
-removing rows moment s number = change_made (entries rows) (entry_by moment s (change.Remove number)) (record { reply = bare codes_of.deleted; notes = [] })
+removing rows moment s number = change_made (entries rows) (entry_of_step moment s (change.Remove number)) (record { reply = bare codes_of.deleted; notes = [] })
 
 -- the block that a fetch asks for, where it is not the first
 abbrev pub fetched_block : Option Block → List Opt
@@ -52,7 +52,7 @@ fetch_request mid token b = record {
   payload = [];
 }
 
--- a fetch asks its peer for a block, with a Message ID that is drawn behind so many others
+-- a fetch asks its peer for a block, with the Message ID that is drawn after so many others
 abbrev pub asking : Step → ℕ → List ℕ → RegParams → ℕ → Option Block → Effects
 asking s drawn token params number b = record {
   sent = (s.peer, spelling (fetch_request (mid_of s.worker drawn) token b)) ∷ [];
@@ -61,7 +61,7 @@ asking s drawn token params number b = record {
 }
 
 -- a simple registration is refused while a fetch with its peer runs, or while as many run as may; else its 2.04 is sent,
--- and a fetch starts behind it (RFC 9176 section 5.1)
+-- and a fetch starts after it (RFC 9176 section 5.1)
 abbrev pub simple_unless : Bool → Bool → List Event → ℕ → Step → Message → Effects
 simple_unless true too_many events place s m = settling place s m (refused codes_of.service_unavailable (codes "fetching"))
 simple_unless false true events place s m = settling place s m (refused codes_of.service_unavailable (codes "fetches"))
@@ -69,6 +69,7 @@ simple_unless false false events place s m =
     joined (settling place s m (record { reply = bare codes_of.changed; notes = [] }))
     (asking s (s.drawn + drawn_for m.kind) (next_token events) (registration_values (queries_in m)) 0 None)
 
+-- a simple registration
 abbrev pub registering_simply : List Event → ℕ → Step → Message → Effects
 registering_simply events place s m = simple_unless (is_fetching s.peer events) (nat_le max_fetches (length (fetches events))) events place s m
 

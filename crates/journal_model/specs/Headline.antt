@@ -30,7 +30,7 @@ use Rattle.journal_model.specs.Requests.{is_lookup, is_look_request, query_of}
 use Rattle.journal_model.specs.Looks.{names_tag}
 use Rattle.journal_model.specs.Meantime.{is_location}
 
--- a row stands in a journal behind the rows before it
+-- a row stands in a journal after the rows before it
 pub record Within (rows before : List Row) (r : Row) : Type 0 where
   pub later : List Row
   pub whole : rows ≡ later ++ r ∷ before
@@ -67,25 +67,25 @@ abbrev pub names_location : Result Message Unread → Bool
 names_location (Err fault) = false
 names_location (Ok m) = is_location (path_in m)
 
--- the code tells of a change: 2.01, 2.02, or 2.04 of an update
-abbrev pub is_telling : ℕ → Bool → Bool
-is_telling code of_location = code == codes_of.created || code == codes_of.deleted || (code == codes_of.changed && of_location)
+-- the code says that a change was made: 2.01, 2.02, or 2.04 of an update
+abbrev pub is_code_of_change : ℕ → Bool → Bool
+is_code_of_change code of_location = code == codes_of.created || code == codes_of.deleted || (code == codes_of.changed && of_location)
 
--- the answer that a row sent tells of a change
-abbrev pub tells_change : Row → Bool
-tells_change r = is_telling (code_sent r.sent) (names_location (reading r.step.datagram))
+-- the answer that a row sent says that a change was made
+abbrev pub answers_change : Row → Bool
+answers_change r = is_code_of_change (code_sent r.sent) (names_location (reading r.step.datagram))
 
 -- Registrations are the replay of one legal history that holds each accepted request once, despite repeats:
 -- a row has at most one entry; an entry stands in the row of a commit, or of a response that completed a fetch;
--- a commit whose answer tells of a change has exactly one, and any other has none; each admission is committed at most once;
+-- a commit whose answer says that a change was made has exactly one, and any other has none; each admission is committed at most once;
 -- and of two admissions with one peer and Message ID that are less than the lifetime of an exchange apart, the earlier ended in 5.00.
 pub record HoldsEachOnce (rows : List Row) : Type 0 where
   pub legal : IsLegal (entries rows)
   pub single : (before : List Row) (r : Row) → Within rows before r → length (entries_of r) ≤ 1
   pub origin : (before : List Row) (r : Row) → Within rows before r → 0 < length (entries_of r)
       → ((place : ℕ) × Commits r place) ⊎ IsCompletion r
-  pub answered : (before : List Row) (r : Row) (place : ℕ) → Within rows before r → Commits r place → tells_change r ≡ true → length (entries_of r) ≡ 1
-  pub untold : (before : List Row) (r : Row) (place : ℕ) → Within rows before r → Commits r place → tells_change r ≡ false → entries_of r ≡ []
+  pub answered : (before : List Row) (r : Row) (place : ℕ) → Within rows before r → Commits r place → answers_change r ≡ true → length (entries_of r) ≡ 1
+  pub enters_none : (before : List Row) (r : Row) (place : ℕ) → Within rows before r → Commits r place → answers_change r ≡ false → entries_of r ≡ []
   pub once : (before earlier : List Row) (r other : Row) (place : ℕ) → Within rows before r → Within before earlier other → Commits r place → Commits other place → ⊥
   pub failed : (before earlier : List Row) (r other : Row) (peer : Peer) (mid : ℕ) → Within rows before r → Within before earlier other
       → admits peer mid r ≡ true → admits peer mid other ≡ true → r.moment.0 < other.moment.0 + exchange_lifetime
@@ -106,14 +106,14 @@ abbrev pub look_of : ℕ → List Row → Option Placed
 look_of worker rows = last_row (λ r. is_look r.step.kind && r.step.worker == worker) rows
 
 -- the row that formed the body which a row kept: that row, or the look whose job it ends
-abbrev pub former_by : StepKind → Placed → Option Placed
-former_by (step.Keep body tag) p = look_of p.row.step.worker p.before
-former_by _ p = Some p
+abbrev pub former_of_body : StepKind → Placed → Option Placed
+former_of_body (step.Keep body tag) p = look_of p.row.step.worker p.before
+former_of_body _ p = Some p
 
 -- the row that formed the kept answer of a name
 abbrev pub former_of_kept : RequestName → List Row → Option Placed
 former_of_kept name rows =
-    option_and_then (λ p. former_by p.row.step.kind p) (last_row (λ r. list_any (λ n. is_some (answer_kept name n)) r.notes) rows)
+    option_and_then (λ p. former_of_body p.row.step.kind p) (last_row (λ r. list_any (λ n. is_some (answer_kept name n)) r.notes) rows)
 
 -- the notice of a peer and a Message ID is formed by the note
 abbrev pub forms_notice : Peer → ℕ → Note → Bool
@@ -124,7 +124,7 @@ forms_notice peer mid _ = false
 abbrev pub former_of_notice : Peer → ℕ → List Row → Option Placed
 former_of_notice peer mid rows = last_row (λ r. list_any (forms_notice peer mid) r.notes) rows
 
--- the row that formed the body of a message which a row sends to a peer, by the first of its notes that tells of an earlier one:
+-- the row that formed the body of a message which a row sends to a peer, by the first of its notes that names an earlier one:
 -- the reading of a kept answer, or a notice that is sent again under this Message ID
 abbrev pub former_noted : Peer → ℕ → List Note → Placed → Option Placed
 former_noted peer mid [] here = Some here
@@ -179,7 +179,7 @@ looks_with_tag current (Ok m) = is_look_request m && is_lookup (path_in m) && na
 
 -- Each lookup answers the listing of the history at the row that formed it: every 2.05 to a lookup and every notice carries a block of
 -- the listing and the tag of the entries up to the row that formed its body, at the moment of that row;
--- and 2.03 is given exactly where a look names the tag at its own row.
+-- and 2.03 is sent exactly where a look names the tag at its own row.
 pub record AnswersAsFormed (rows : List Row) : Type 0 where
   pub carried : (before : List Row) (r : Row) (peer : Peer) (octets : List ℕ) (m : Message) → Within rows before r → IsAmong r.sent (peer, octets)
       → reading octets ≡ Ok m → has_listing m ≡ true → FormedAs (record { row = r; before = before }) peer m
@@ -187,7 +187,7 @@ pub record AnswersAsFormed (rows : List Row) : Type 0 where
       → (code_sent r.sent == codes_of.valid) ≡ (is_look r.step.kind && looks_with_tag (tag (entries before) r.moment.0) (reading r.step.datagram))
 
 -- Equally tagged blocks come from one state: where the tags at two rows are equal, so are the histories and the live registrations.
-pub record TagsTellStates (rows : List Row) : Type 0 where
+pub record TagsDecideStates (rows : List Row) : Type 0 where
   pub histories : (before other_before : List Row) (r other : Row) → Within rows before r → Within rows other_before other
       → tag (entries (r ∷ before)) r.moment.0 ≡ tag (entries (other ∷ other_before)) other.moment.0
       → entries (r ∷ before) ≡ entries (other ∷ other_before)
@@ -195,14 +195,14 @@ pub record TagsTellStates (rows : List Row) : Type 0 where
       → tag (entries (r ∷ before)) r.moment.0 ≡ tag (entries (other ∷ other_before)) other.moment.0
       → live (entries (r ∷ before)) r.moment.0 ≡ live (entries (other ∷ other_before)) other.moment.0
 
--- An observer with no notice due was last given the listing now.
+-- Where no notice is due to an observer, the body that was last formed for it is the listing now.
 pub record ObserversKnow (rows : List Row) : Type 0 where
-  pub given : (o : Observer) → IsAmong (observers (events rows)) o → is_due o (events rows) (transitions rows) ≡ false
+  pub last_formed : (o : Observer) → IsAmong (observers (events rows)) o → is_due o (events rows) (transitions rows) ≡ false
       → last_body_formed (name_of o) (events rows) ≡ Some (listing o.query (entries rows) (now rows))
 
 -- What holds of every journal of the machine.
 pub record Headline (rows : List Row) : Type 0 where
   pub changes : HoldsEachOnce rows
   pub answers : AnswersAsFormed rows
-  pub tags : TagsTellStates rows
+  pub tags : TagsDecideStates rows
   pub observers : ObserversKnow rows

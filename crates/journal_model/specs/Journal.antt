@@ -14,7 +14,7 @@ abbrev pub is_look : StepKind → Bool
 is_look step.Look = true
 is_look _ = false
 
--- the row is none of a look
+-- the step of the row is no look
 abbrev pub is_desk_row : Row → Bool
 is_desk_row r = not (is_look r.step.kind)
 
@@ -23,12 +23,12 @@ unfoldable pub events : List Row → List Event
 events [] = []
 events (r ∷ before) = noted (length before) r.moment.0 r.step.word r.notes (events before)
 
--- the entry that a note tells
+-- the entry that a note holds
 abbrev pub entry_noted : Note → Option Entry
 entry_noted (note.Entered entry) = Some entry
 entry_noted _ = None
 
--- the entries that a row tells, in order
+-- the entries that a row notes, in order
 abbrev pub entries_of : Row → List Entry
 entries_of r = filter_map entry_noted r.notes
 

@@ -10,7 +10,7 @@ use Rattle.history_model.specs.declared.entries.Entry.{Entry}
 use Rattle.history_model.specs.Listing.{listing, tag}
 use Rattle.event_model.specs.declared.notes.Note.TheVariants as note
 use Rattle.journal_model.specs.declared.steps.Step.{Step}
-use Rattle.journal_model.specs.Sending.{Effects, Reply, nothing, answering}
+use Rattle.journal_model.specs.Effects.{Effects, Reply, nothing, answering}
 use Rattle.journal_model.specs.Requests.{query_of, asked_block, is_discovery}
 use Rattle.journal_model.specs.Bodies.{tag_option, body_reply, is_long}
 

@@ -14,7 +14,7 @@ use Rattle.event_model.specs.Observers.{name_of, observers, is_observer, has_roo
 use Rattle.journal_model.specs.declared.steps.Step.{Step}
 use Rattle.journal_model.specs.declared.rows.Row.{Row}
 use Rattle.journal_model.specs.Journal.{events, entries}
-use Rattle.journal_model.specs.Sending.{Effects, answering}
+use Rattle.journal_model.specs.Effects.{Effects, answering}
 use Rattle.journal_model.specs.Requests.{query_of, asked_block, number_of, szx_of, is_later_block, register, deregister}
 use Rattle.journal_model.specs.Bodies.{body_reply, part_reply, is_long}
 use Rattle.journal_model.specs.Looks.{look_effects}
@@ -29,7 +29,7 @@ block_now s m answer None = answering s m (part_reply (Some answer.tag) None (as
 block_now s m answer (Some part) =
     answering s m (part_reply (Some answer.tag) None (asked_block m) (Some part)) (note.Kept s.peer (key_in m) answer.body answer.tag ∷ [])
 
--- a further block: of the kept answer, which is a use of it also behind its end, and else of the listing now
+-- a further block: of the kept answer, which is a use of it also after its end, and else of the listing now
 abbrev pub block_of_kept : Step → Message → Answer → Option Answer → Effects
 block_of_kept s m fresh (Some answer) = answering s m (body_reply (Some answer.tag) None (asked_block m) answer.body) (note.Used s.peer (key_in m) ∷ [])
 block_of_kept s m fresh None = block_now s m fresh (block_of fresh.body (number_of (asked_block m)) (szx_of (asked_block m)))
@@ -77,21 +77,21 @@ unfoldable pub unobserved : List Row → ℕ → Step → Message → Effects
 unobserved rows moment s m = observed_if false rows s m (listing_now rows moment m)
 
 -- a lookup that asks to begin an observation, to end it, or neither
-abbrev pub observed_by : Bool → Bool → List Row → ℕ → Step → Message → Effects
-observed_by true _ rows moment s m = observed rows moment s m
-observed_by false true rows moment s m = unobserved rows moment s m
-observed_by false false rows moment s m = look_effects (entries rows) moment s m
+abbrev pub observation_effects : Bool → Bool → List Row → ℕ → Step → Message → Effects
+observation_effects true _ rows moment s m = observed rows moment s m
+observation_effects false true rows moment s m = unobserved rows moment s m
+observation_effects false false rows moment s m = look_effects (entries rows) moment s m
 
 -- a lookup of a first block, by its Observe value
-abbrev pub by_observe : Option ℕ → List Row → ℕ → Step → Message → Effects
-by_observe None rows moment s m = look_effects (entries rows) moment s m
-by_observe (Some value) rows moment s m = observed_by (value == register) (value == deregister) rows moment s m
+abbrev pub first_block_effects : Option ℕ → List Row → ℕ → Step → Message → Effects
+first_block_effects None rows moment s m = look_effects (entries rows) moment s m
+first_block_effects (Some value) rows moment s m = observation_effects (value == register) (value == deregister) rows moment s m
 
--- a lookup of a further block, beside which Observe is not heeded, or of a first one
-abbrev pub by_block : Bool → List Row → ℕ → Step → Message → Effects
-by_block true rows moment s m = later_block rows moment s m
-by_block false rows moment s m = by_observe (observe_in m) rows moment s m
+-- a lookup of a further block, beside which Observe is ignored, or of a first one
+abbrev pub block_effects : Bool → List Row → ℕ → Step → Message → Effects
+block_effects true rows moment s m = later_block rows moment s m
+block_effects false rows moment s m = first_block_effects (observe_in m) rows moment s m
 
 -- what a lookup does that the journal takes part in
 unfoldable pub lookup_effects : List Row → ℕ → Step → Message → Effects
-lookup_effects rows moment s m = by_block (is_later_block m) rows moment s m
+lookup_effects rows moment s m = block_effects (is_later_block m) rows moment s m

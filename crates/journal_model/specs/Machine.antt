@@ -17,15 +17,17 @@ use Rattle.journal_model.specs.Journal.{entries}
 use Rattle.journal_model.specs.Requests.{is_look_request, query_of}
 use Rattle.journal_model.specs.Rows.{row}
 
--- the datagram is a request that is answered by a look
+-- a message is a request that is answered by a look
 abbrev pub is_look_message : Role → Message → Bool
 is_look_message role.Request m = is_look_request m
 is_look_message _ m = false
 
+-- what is read of a datagram is such a request
 abbrev pub is_look_reading : Result Message Unread → Bool
 is_look_reading (Err fault) = false
 is_look_reading (Ok m) = is_look_message (role_of m.kind m.code) m
 
+-- the datagram is such a request
 unfoldable pub is_look_datagram : List ℕ → Bool
 is_look_datagram datagram = is_look_reading (reading datagram)
 
@@ -40,12 +42,12 @@ pub record Job : Type 0 where
   pub datagram : List ℕ
 
 -- a job that goes on with the datagram of a row
-abbrev pub job_behind : StepKind → Row → Option Job
-job_behind what r = Some (record { kind = what; peer = r.step.peer; datagram = r.step.datagram })
+abbrev pub job_from_row : StepKind → Row → Option Job
+job_from_row what r = Some (record { kind = what; peer = r.step.peer; datagram = r.step.datagram })
 
 -- an admitted write is a job
 abbrev pub write_job : List Note → Row → List Row → Option Job
-write_job (note.Admitted peer mid ∷ notes) r before = job_behind (step.Commit (length before)) r
+write_job (note.Admitted peer mid ∷ notes) r before = job_from_row (step.Commit (length before)) r
 write_job _ r before = None
 
 -- the body that a look formed, under its tag
@@ -55,7 +57,7 @@ keep_kind (Ok m) before moment = step.Keep (listing (query_of m) (entries before
 
 -- a look that sent nothing leaves the job to keep its body
 abbrev pub keep_job : List (Peer × List ℕ) → Row → List Row → Option Job
-keep_job [] r before = job_behind (keep_kind (reading r.step.datagram) before r.moment.0) r
+keep_job [] r before = job_from_row (keep_kind (reading r.step.datagram) before r.moment.0) r
 keep_job (d ∷ sent) r before = None
 
 -- the job that a row of a worker leaves it with, where it had another before
@@ -72,9 +74,9 @@ job_of worker [] = None
 job_of worker (r ∷ before) = if r.step.worker == worker then job_after r.step.kind r before (job_of worker before) else job_of worker before
 
 -- how many Message IDs a worker drew
-unfoldable pub drawn_by : ℕ → List Row → ℕ
-drawn_by worker [] = 0
-drawn_by worker (r ∷ before) = if r.step.worker == worker then (drawn_by worker before + r.drew) % 2 ^ 64 else drawn_by worker before
+unfoldable pub mids_drawn : ℕ → List Row → ℕ
+mids_drawn worker [] = 0
+mids_drawn worker (r ∷ before) = if r.step.worker == worker then (mids_drawn worker before + r.drew) % 2 ^ 64 else mids_drawn worker before
 
 -- a step that a worker may make: a tick at any time, a datagram where it holds no job, or the job that it holds
 pub data MayBegin (rows : List Row) : Step → Type 0 where
@@ -85,18 +87,18 @@ pub data MayBegin (rows : List Row) : Step → Type 0 where
 -- and it names how many Message IDs its worker drew before
 pub record MayMake (rows : List Row) (s : Step) : Type 0 where
   pub begin : MayBegin rows s
-  pub drawn : s.drawn ≡ drawn_by s.worker rows
+  pub drawn : s.drawn ≡ mids_drawn s.worker rows
 
--- a journal of the machine: each row is that of a step that might be made behind the rows before it
+-- a journal of the machine: each row is that of a step that might be made after the rows before it
 pub data IsJournal : List Row → Type 0 where
   begun : IsJournal []
   made : {rows : List Row} {s : Step} → (starved : Bool) → IsJournal rows → MayMake rows s → IsJournal (row rows s starved ∷ rows)
 
--- the journal of steps, each with whether it met want of memory
+-- the journal of steps, each with whether memory ran out in it
 unfoldable pub run : List (Step × Bool) → List Row
 run steps = fold (λ rows next. row rows next.0 next.1 ∷ rows) [] steps
 
--- steps that may be made one after the other, behind a journal
+-- steps that may be made one after the other, after a journal
 abbrev pub MayRun : List (Step × Bool) → List Row → Type 0
 MayRun [] rows = ⊤
 MayRun (next ∷ steps) rows = MayMake rows next.0 × MayRun steps (row rows next.0 next.1 ∷ rows)

@@ -17,7 +17,7 @@ use Rattle.journal_model.specs.declared.steps.StepKind.{StepKind}
 use Rattle.journal_model.specs.declared.steps.StepKind.TheVariants as step
 use Rattle.journal_model.specs.declared.rows.Row.{Row}
 use Rattle.journal_model.specs.Journal.{entries}
-use Rattle.journal_model.specs.Sending.{Effects, bare, answering}
+use Rattle.journal_model.specs.Effects.{Effects, bare, answering}
 use Rattle.journal_model.specs.Requests.{is_lookup, is_discovery, is_heeded, query_of}
 use Rattle.journal_model.specs.Rows.{row, row_with, row_moment}
 

@@ -16,7 +16,7 @@ use Rattle.record_model.specs.declared.readings.Reading.{Reading}
 use Rattle.record_model.specs.declared.readings.Reading.TheVariants as reading
 use Rattle.link_model.specs.Characters.{is_empty}
 use Rattle.record_model.specs.Criteria.{fault_of, lookup_values}
-use Rattle.journal_model.specs.Sending.{Reply, diagnostic}
+use Rattle.journal_model.specs.Effects.{Reply, diagnostic}
 
 -- as what the query options of a request are read; those of a removal are not read
 abbrev pub reading_of : Path → ℕ → Option Reading
@@ -38,6 +38,7 @@ takes_no_payload path.SimpleRd code = true
 takes_no_payload (path.Location number) code = code == codes_of.post
 takes_no_payload _ code = false
 
+-- the request has a payload, and its path takes none
 abbrev pub has_bad_payload : Message → Bool
 has_bad_payload m = takes_no_payload (path_in m) m.code && not (is_empty m.payload)
 
@@ -54,15 +55,16 @@ refusal_or_next (Some refusal) m = Some (diagnostic (refusal_code refusal) (refu
 refusal_or_next None m = refusal_of_query_or_payload m
 
 -- the first refusal that a request alone decides: option, proxy, path, method, block, accept, format, query, payload
-unfoldable pub refusal_by_request : Message → Option Reply
-refusal_by_request m = refusal_or_next (refusal_of m) m
+unfoldable pub refusal_of_request : Message → Option Reply
+refusal_of_request m = refusal_or_next (refusal_of m) m
 
--- a lookup of resources or of endpoints, and discovery
+-- a lookup of resources or of endpoints
 abbrev pub is_lookup : Path → Bool
 is_lookup path.Res = true
 is_lookup path.Ep = true
 is_lookup _ = false
 
+-- discovery (RFC 9176 section 4.1)
 abbrev pub is_discovery : Path → Bool
 is_discovery path.Core = true
 is_discovery _ = false
@@ -89,26 +91,29 @@ sent_block m = option_and_then block_read (block1_in m)
 abbrev pub greatest_szx : ℕ
 greatest_szx = 6
 
--- the number and the exponent of a block that is asked for
+-- the number of a block that is asked for
 abbrev pub number_of : Option Block → ℕ
 number_of None = 0
 number_of (Some b) = b.num
 
+-- the exponent of the size of a block that is asked for
 abbrev pub szx_of : Option Block → ℕ
 szx_of None = greatest_szx
 szx_of (Some b) = b.szx
 
--- a block behind the first is asked for
+-- a block after the first is asked for
 abbrev pub is_later_block : Message → Bool
 is_later_block m = nat_lt 0 (number_of (asked_block m))
 
--- the values of Observe that are heeded: register and deregister (RFC 7641 section 2)
+-- the value of Observe that begins an observation (RFC 7641 section 2)
 abbrev pub register : ℕ
 register = 0
 
+-- the value of Observe that ends an observation (RFC 7641 section 2)
 abbrev pub deregister : ℕ
 deregister = 1
 
+-- the value of Observe begins or ends an observation
 abbrev pub is_heeded : Option ℕ → Bool
 is_heeded None = false
 is_heeded (Some value) = value == register || value == deregister
@@ -119,4 +124,4 @@ only_looks m = is_discovery (path_in m) || (is_lookup (path_in m) && not (is_lat
 
 -- such a request that meets no refusal
 unfoldable pub is_look_request : Message → Bool
-is_look_request m = is_none (refusal_by_request m) && only_looks m
+is_look_request m = is_none (refusal_of_request m) && only_looks m

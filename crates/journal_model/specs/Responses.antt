@@ -16,7 +16,7 @@ use Rattle.event_model.specs.Fetches.{Request, is_fetching, last_request, reques
 use Rattle.journal_model.specs.declared.steps.Step.{Step}
 use Rattle.journal_model.specs.declared.rows.Row.{Row}
 use Rattle.journal_model.specs.Journal.{events, entries}
-use Rattle.journal_model.specs.Sending.{Effects, nothing, joined, noting, acknowledging, resetting}
+use Rattle.journal_model.specs.Effects.{Effects, nothing, joined, noting, acknowledging, resetting}
 use Rattle.journal_model.specs.Changes.{registration}
 use Rattle.journal_model.specs.Commits.{asking}
 
@@ -61,22 +61,23 @@ block_in m = answered_block (block2_in m)
     answered_block None = None
     answered_block (Some value) = block_read value
 
--- a block that does not begin where what is collected ends is passed over
+-- the block does not begin where what is collected ends, and is passed over
 abbrev pub is_elsewhere : Option Block → ℕ → Bool
 is_elsewhere None size = false
 is_elsewhere (Some b) size = not (b.num * block_size b.szx == size)
 
--- a block that more follow has not the block size
+-- more blocks follow this one, and it has not the block size
 abbrev pub is_cut_short : Option Block → ℕ → Bool
 is_cut_short None size = false
 is_cut_short (Some b) size = b.more && not (size == block_size b.szx)
 
--- the tag differs from that of the first block; to have none counts as a value
+-- two tags are the same; to have none counts as a value
 abbrev pub is_same_tag : Option (List ℕ) → Option (List ℕ) → Bool
 is_same_tag None None = true
 is_same_tag (Some tag) (Some other) = bytes_eq tag other
 is_same_tag _ _ = false
 
+-- the tag differs from that of the first block, where one came
 abbrev pub is_other_tag : Option (Option (List ℕ)) → Option (List ℕ) → Bool
 is_other_tag None tag = false
 is_other_tag (Some first) tag = not (is_same_tag first tag)
@@ -86,7 +87,7 @@ abbrev pub tag_in : Message → Option (List ℕ)
 tag_in m = first_of (etags_in m)
 
 -- the response ends the fetch without a registration: it is no 2.05, has another format, says no block or one that is cut short,
--- is no block behind a first one, has another tag than that, or the body would be too long
+-- is no block after a first one, has another tag than that, or the body would be too long
 abbrev pub ends_fetch : Message → List (List ℕ × Option (List ℕ)) → ℕ → Bool
 ends_fetch m blocks size =
     not (m.code == codes_of.content)
@@ -124,16 +125,17 @@ response_taken true ends rows moment s m request = nothing
 response_taken false true rows moment s m request = noting (note.Ceased s.peer ∷ [])
 response_taken false false rows moment s m request = gathering (more_follow (block_in m)) (block_in m) rows moment s m request
 
+-- a response to this request of a fetch
 abbrev pub response_to : List Row → ℕ → Step → Message → Request → Effects
 response_to rows moment s m request =
     response_taken (is_elsewhere (block_in m) (length (collected s.peer (events rows))))
     (ends_fetch m (gathered s.peer (events rows)) (length (collected s.peer (events rows)))) rows moment s m request
 
 -- a response, by the request that it answers
-abbrev pub response_by : Option Request → List Row → ℕ → Step → Message → Effects
-response_by None rows moment s m = strange s m m.kind
-response_by (Some request) rows moment s m = joined (acknowledgement s m m.kind) (response_to rows moment s m request)
+abbrev pub response_to_request : Option Request → List Row → ℕ → Step → Message → Effects
+response_to_request None rows moment s m = strange s m m.kind
+response_to_request (Some request) rows moment s m = joined (acknowledgement s m m.kind) (response_to rows moment s m request)
 
 -- what a response does
 unfoldable pub response_effects : List Row → ℕ → Step → Message → Effects
-response_effects rows moment s m = response_by (fetch_of s m (events rows)) rows moment s m
+response_effects rows moment s m = response_to_request (fetch_of s m (events rows)) rows moment s m

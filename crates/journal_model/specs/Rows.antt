@@ -1,4 +1,4 @@
--- The row of a step: what each kind of step sends and notes behind a journal.
+-- The row of a step: what each kind of step sends and notes after a journal.
 use Rattle.std.specs.Prelude.{ℕ, Bool, true, false, max, List, [], ◌∷◌, Option, Some, None, Result, Ok, Err}
 use Rattle.message_model.specs.declared.messages.Kind4.{Kind4}
 use Rattle.message_model.specs.declared.messages.Kind4.TheVariants.{Con, Non}
@@ -19,13 +19,13 @@ use Rattle.journal_model.specs.declared.steps.StepKind.{StepKind}
 use Rattle.journal_model.specs.declared.steps.StepKind.TheVariants as step
 use Rattle.journal_model.specs.declared.rows.Row.{Row}
 use Rattle.journal_model.specs.Journal.{events, entries, latest}
-use Rattle.journal_model.specs.Sending.{Effects, Reply, nothing, bare, answering, resetting}
-use Rattle.journal_model.specs.Requests.{refusal_by_request}
+use Rattle.journal_model.specs.Effects.{Effects, Reply, nothing, bare, answering, resetting}
+use Rattle.journal_model.specs.Requests.{refusal_of_request}
 use Rattle.journal_model.specs.Looks.{look_effects, keep_effects}
 use Rattle.journal_model.specs.Lookups.{lookup_effects}
 use Rattle.journal_model.specs.Writes.{write_effects}
 use Rattle.journal_model.specs.Commits.{commit_effects}
-use Rattle.journal_model.specs.Empties.{acknowledged, reset}
+use Rattle.journal_model.specs.EmptyMessages.{acknowledged, reset}
 use Rattle.journal_model.specs.Responses.{response_effects}
 use Rattle.journal_model.specs.Ticks.{tick_effects}
 
@@ -45,24 +45,24 @@ refusal_answered Non (Some number) s m refusal = nothing
 refusal_answered _ _ s m refusal = answering s m refusal []
 
 -- a request: refused, or served
-abbrev pub request_by : Option Reply → List Row → ℕ → Step → Message → Effects
-request_by (Some refusal) rows moment s m = refusal_answered m.kind (first_bad_option m.options) s m refusal
-request_by None rows moment s m = served (path_in m) rows moment s m
+abbrev pub request_answered : Option Reply → List Row → ℕ → Step → Message → Effects
+request_answered (Some refusal) rows moment s m = refusal_answered m.kind (first_bad_option m.options) s m refusal
+request_answered None rows moment s m = served (path_in m) rows moment s m
 
--- want of memory: a request is answered 5.00, and a response by nothing
+-- out of memory: a request is answered 5.00, and a response by nothing
 abbrev pub without_memory : Step → Message → Effects
 without_memory s m = answering s m (bare codes_of.internal_server_error) []
 
--- a message, by what it is for (RFC 7252 section 4)
-abbrev pub by_role : Role → Bool → List Row → ℕ → Step → Message → Effects
-by_role role.Ping starved rows moment s m = resetting s m.mid
-by_role role.Acknowledgement starved rows moment s m = acknowledged s.peer m.mid (events rows)
-by_role role.Reset starved rows moment s m = reset s.peer m.mid (events rows)
-by_role role.Request true rows moment s m = without_memory s m
-by_role role.Request false rows moment s m = request_by (refusal_by_request m) rows moment s m
-by_role role.Response true rows moment s m = nothing
-by_role role.Response false rows moment s m = response_effects rows moment s m
-by_role role.Ignored starved rows moment s m = nothing
+-- what a message does, by what it is for (RFC 7252 section 4)
+abbrev pub message_effects : Role → Bool → List Row → ℕ → Step → Message → Effects
+message_effects role.Ping starved rows moment s m = resetting s m.mid
+message_effects role.Acknowledgement starved rows moment s m = acknowledged s.peer m.mid (events rows)
+message_effects role.Reset starved rows moment s m = reset s.peer m.mid (events rows)
+message_effects role.Request true rows moment s m = without_memory s m
+message_effects role.Request false rows moment s m = request_answered (refusal_of_request m) rows moment s m
+message_effects role.Response true rows moment s m = nothing
+message_effects role.Response false rows moment s m = response_effects rows moment s m
+message_effects role.Ignored starved rows moment s m = nothing
 
 -- a confirmable message with a format error is rejected, and what else is no message is ignored (RFC 7252 section 4.2)
 abbrev pub unread_answered : Step → Unread → Effects
@@ -72,7 +72,7 @@ unread_answered s _ = nothing
 -- a datagram that is heard
 abbrev pub heard : Bool → List Row → ℕ → Step → Result Message Unread → Effects
 heard starved rows moment s (Err fault) = unread_answered s fault
-heard starved rows moment s (Ok m) = by_role (role_of m.kind m.code) starved rows moment s m
+heard starved rows moment s (Ok m) = message_effects (role_of m.kind m.code) starved rows moment s m
 
 -- a request that is looked up
 abbrev pub looked : Bool → List Row → ℕ → Step → Result Message Unread → Effects
@@ -80,7 +80,7 @@ looked starved rows moment s (Err fault) = nothing
 looked true rows moment s (Ok m) = without_memory s m
 looked false rows moment s (Ok m) = look_effects (entries rows) moment s m
 
--- a write that is done; for want of memory it ends in 5.00, and its admission with it
+-- a write that is done; where memory ran out it ends in 5.00, and its admission with it
 abbrev pub done : Bool → List Row → ℕ → ℕ → Step → Result Message Unread → Effects
 done starved rows moment place s (Err fault) = nothing
 done true rows moment place s (Ok m) = answering s m (bare codes_of.internal_server_error) (note.Failed place ∷ [])
@@ -92,7 +92,7 @@ kept_body starved s (Err fault) body tag = nothing
 kept_body true s (Ok m) body tag = without_memory s m
 kept_body false s (Ok m) body tag = keep_effects s m body tag
 
--- what a step does, by its kind, behind a journal at a moment
+-- what a step does, by its kind, after a journal at a moment
 unfoldable pub effects : StepKind → Bool → List Row → ℕ → Step → Effects
 effects step.Admit starved rows moment s = heard starved rows moment s (reading s.datagram)
 effects step.Look starved rows moment s = looked starved rows moment s (reading s.datagram)
@@ -115,6 +115,6 @@ row_with s moment starved e = record {
   drew = e.drew;
 }
 
--- the row of a step behind a journal, where it met want of memory or did not
+-- the row of a step after a journal, in which memory ran out or did not
 unfoldable pub row : List Row → Step → Bool → Row
 row rows s starved = row_with s (row_moment rows s) starved (effects s.kind starved rows (row_moment rows s) s)

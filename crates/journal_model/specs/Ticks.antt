@@ -20,7 +20,7 @@ use Rattle.event_model.specs.Fetches.{Request, fetches, last_request, request_no
 use Rattle.journal_model.specs.declared.steps.Step.{Step}
 use Rattle.journal_model.specs.declared.rows.Row.{Row}
 use Rattle.journal_model.specs.Journal.{events, entries, now, row_at, transitions}
-use Rattle.journal_model.specs.Sending.{Effects, Reply, nothing, joined, noting, mid_of}
+use Rattle.journal_model.specs.Effects.{Effects, Reply, nothing, joined, noting, mid_of}
 use Rattle.journal_model.specs.Bodies.{body_reply, is_long}
 
 -- the most notices that one tick forms
@@ -33,9 +33,9 @@ is_confirmable_with mid (first ∷ code ∷ high ∷ low ∷ others) = first / 1
 is_confirmable_with mid _ = false
 
 -- the confirmable message with this Message ID that a row sent to a peer
-abbrev pub sent_by : Option Row → Peer → ℕ → Option (Peer × List ℕ)
-sent_by None peer mid = None
-sent_by (Some r) peer mid = find (λ d. is_same_peer d.0 peer && is_confirmable_with mid d.1) r.sent
+abbrev pub confirmable_sent : Option Row → Peer → ℕ → Option (Peer × List ℕ)
+confirmable_sent None peer mid = None
+confirmable_sent (Some r) peer mid = find (λ d. is_same_peer d.0 peer && is_confirmable_with mid d.1) r.sent
 
 -- the same octets are sent once more, and this is noted
 abbrev pub sent_again : Option (Peer × List ℕ) → Note → Effects
@@ -44,7 +44,7 @@ sent_again (Some d) n = record { sent = d ∷ []; notes = n ∷ []; drew = 0 }
 
 -- the message that the row at a place sent to a peer with this Message ID is sent once more
 abbrev pub repeating : List Row → ℕ → Peer → ℕ → Note → Effects
-repeating rows place peer mid n = sent_again (sent_by (row_at place rows) peer mid) n
+repeating rows place peer mid n = sent_again (confirmable_sent (row_at place rows) peer mid) n
 
 -- one after the other, for each of some things
 abbrev pub each_of : {A : Type 0} → (A → Effects) → List A → Effects
@@ -67,16 +67,16 @@ flight_again rows moment o (Some f) =
 unfoldable pub notices_again : List Row → ℕ → Effects
 notices_again rows moment = each_of (λ o. flight_again rows moment o (flight o (events rows))) (observers (events rows))
 
--- what a tick goes by: the moment, the step, the events before it, and the rows with it that are none of a look
+-- what the notices of a tick are made from: the rows before it, its moment and step, and the transitions up to its own
 pub record Ticking : Type 0 where
   pub rows : List Row
   pub moment : ℕ
   pub step : Step
   pub transitions : List Transition
 
--- the tick itself is such a row: time passes in it
-abbrev pub turn_of_tick : List Row → ℕ → Transition
-turn_of_tick rows moment = record {
+-- the tick itself is a transition: time passes in it
+abbrev pub transition_of_tick : List Row → ℕ → Transition
+transition_of_tick rows moment = record {
   place = length rows;
   before = entries rows;
   moment_before = now rows;
@@ -84,20 +84,21 @@ turn_of_tick rows moment = record {
   moment_after = moment;
 }
 
+-- what the notices of a tick are made from, by its step and moment
 abbrev pub ticking : List Row → ℕ → Step → Ticking
-ticking rows moment s = record { rows = rows; moment = moment; step = s; transitions = turn_of_tick rows moment ∷ transitions rows }
+ticking rows moment s = record { rows = rows; moment = moment; step = s; transitions = transition_of_tick rows moment ∷ transitions rows }
 
 -- the events with what the tick noted so far
 abbrev pub events_with : Ticking → Effects → List Event
 events_with t done = noted (length t.rows) t.moment t.step.word done.notes (events t.rows)
 
--- the block that an observer is given: the first, of the size that it asked for
+-- the block that an observer gets: the first, of the size that it asked for
 abbrev pub first_block : Observer → Option Block
 first_block o = Some (record { num = 0; more = false; szx = o.szx })
 
--- a notice tells its block only where the body is longer than that
-abbrev pub block_told : Observer → List ℕ → Option Block
-block_told o body = if is_long (first_block o) body then first_block o else None
+-- a notice has a Block2 option only where the body is longer than that
+abbrev pub block_shown : Observer → List ℕ → Option Block
+block_shown o body = if is_long (first_block o) body then first_block o else None
 
 -- a confirmable 2.05 with the listing, its tag and the next Observe value (RFC 7641 section 4.2)
 abbrev pub notice_of : Observer → ℕ → Reply → Message
@@ -113,18 +114,18 @@ notice_of o mid reply = record {
 -- a notice of a new listing, which is kept where it is longer than the block size
 abbrev pub noticed : Ticking → Effects → Observer → Answer → ℕ → Effects
 noticed t done o answer mid = record {
-  sent = (o.peer, spelling (notice_of o mid (body_reply (Some answer.tag) (Some (observe_value (events_with t done))) (block_told o answer.body) answer.body))) ∷ [];
+  sent = (o.peer, spelling (notice_of o mid (body_reply (Some answer.tag) (Some (observe_value (events_with t done))) (block_shown o answer.body) answer.body))) ∷ [];
   notes = note.Formed o.peer o.token answer.body (Some mid)
       ∷ (if is_long (first_block o) answer.body then note.Kept o.peer o.key answer.body answer.tag ∷ [] else []);
   drew = 1;
 }
 
 -- the listing equals the body that was last formed
-abbrev pub is_given : Option (List ℕ) → List ℕ → Bool
-is_given None body = false
-is_given (Some given) body = bytes_eq given body
+abbrev pub is_unchanged : Option (List ℕ) → List ℕ → Bool
+is_unchanged None body = false
+is_unchanged (Some last) body = bytes_eq last body
 
--- the observer is given the listing where that is new, and else it is noted that the listing is unchanged
+-- the observer gets the listing where that is new, and else it is noted that the listing is unchanged
 abbrev pub noticed_unless : Bool → Ticking → Effects → Observer → Answer → Effects
 noticed_unless true t done o answer = noting (note.Unchanged o.peer o.token ∷ [])
 noticed_unless false t done o answer = noticed t done o answer (mid_of t.step.worker (t.step.drawn + done.drew))
@@ -133,21 +134,22 @@ noticed_unless false t done o answer = noticed t done o answer (mid_of t.step.wo
 abbrev pub listing_for : Ticking → Observer → Answer
 listing_for t o = record { body = listing o.query (entries t.rows) t.moment; tag = tag (entries t.rows) t.moment }
 
+-- an observer that is not looked at gets nothing
 abbrev pub noticed_if : Bool → Ticking → Effects → Observer → Effects
 noticed_if false t done o = nothing
 noticed_if true t done o =
-    noticed_unless (is_given (last_body_formed (name_of o) (events_with t done)) (listing_for t o).body) t done o (listing_for t o)
+    noticed_unless (is_unchanged (last_body_formed (name_of o) (events_with t done)) (listing_for t o).body) t done o (listing_for t o)
 
 -- an observer is looked at where it is due, no notice is in flight to its peer, and the tick has not formed as many as it may
 abbrev pub is_looked_at : Ticking → Effects → Observer → Bool
 is_looked_at t done o =
     not (nat_le max_notices done.drew) && is_due o (events_with t done) t.transitions && not (is_waited_for o.peer (events_with t done))
 
--- one observer behind others, with what the tick did for those
+-- one observer after others, with what the tick did for those
 abbrev pub notice_next : Ticking → Effects → Observer → Effects
 notice_next t done o = joined done (noticed_if (is_looked_at t done o) t done o)
 
--- the second thing that a tick does, behind the first: due observers get a notice, one after the other
+-- the second thing that a tick does, after the first: due observers get a notice, one after the other
 unfoldable pub notices : Ticking → Effects → Effects
 notices t done = fold (notice_next t) done (observers (events_with t done))
 
@@ -169,7 +171,7 @@ fetch_again rows moment peer (Some e) =
 unfoldable pub requests_again : List Row → ℕ → Effects
 requests_again rows moment = each_of (λ peer. fetch_again rows moment peer (last_request peer (events rows))) (fetches (events rows))
 
--- what a tick does: one thing strictly behind the other. Want of memory leaves out the new notices
+-- what a tick does: one thing strictly after the other. Where memory ran out, the new notices are left out
 unfoldable pub tick_effects : Bool → List Row → ℕ → Step → Effects
 tick_effects true rows moment s = joined (notices_again rows moment) (requests_again rows moment)
 tick_effects false rows moment s = joined (notices (ticking rows moment s) (notices_again rows moment)) (requests_again rows moment)

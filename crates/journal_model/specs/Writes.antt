@@ -1,4 +1,4 @@
--- Writes as they are heard: repeats are told, and a new write leaves the worker with a job (RFC 7252 sections 4.2 and 4.5).
+-- Writes as they are heard: repeats are recognized, and a new write leaves the worker with a job (RFC 7252 sections 4.2 and 4.5).
 use Rattle.std.specs.Prelude.{ℕ, Bool, true, false, List, [], ◌∷◌, codes, Option, Some, None}
 use Rattle.message_model.specs.Message.{Message}
 use Rattle.message_model.specs.Codes as codes_of
@@ -6,7 +6,7 @@ use Rattle.event_model.specs.declared.notes.Note.TheVariants as note
 use Rattle.event_model.specs.Events.{Event}
 use Rattle.event_model.specs.Repeats.{repeated, settled, is_full_of_exchanges}
 use Rattle.journal_model.specs.declared.steps.Step.{Step}
-use Rattle.journal_model.specs.Sending.{Effects, nothing, noting, sending, diagnostic, answering}
+use Rattle.journal_model.specs.Effects.{Effects, nothing, noting, sending, diagnostic, answering}
 
 -- a repeat gets the same octets as before, and nothing while the first is in flight
 abbrev pub again_answered : Step → Option (List ℕ) → Effects

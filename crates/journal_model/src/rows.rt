@@ -1,4 +1,4 @@
-// The rows of the journal. No value of these types is made.
+//! The rows of the journal. No value of this type is made at run time: see the notes of event_model.
 use crate::Step;
 use event_model::Note;
 use rd_base::{Moment, Peer};
@@ -10,7 +10,7 @@ pub struct Row {
     pub step: Step,
     /// Its moment.
     pub moment: Moment,
-    /// Whether it met want of memory.
+    /// Whether memory ran out in it.
     pub starved: bool,
     /// The datagrams that were sent, in order.
     pub sent: LinkedList<(Peer, LinkedList<u8>)>,

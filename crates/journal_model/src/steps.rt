@@ -1,4 +1,4 @@
-// The steps of the machine. No value of these types is made.
+//! The steps of the machine. No value of these types is made at run time: see the notes of event_model.
 use rd_base::{Moment, Peer};
 use std::collections::LinkedList;
 
@@ -26,7 +26,7 @@ pub struct Step {
     pub handed: Moment,
     /// The word that is handed in, from which waits are made.
     pub word: u32,
-    /// Where the datagram comes from. A tick has none, and what stands here is not heeded.
+    /// Where the datagram comes from. A tick has none, and what stands here is ignored.
     pub peer: Peer,
     /// The datagram: the one that is heard, or the one that the job began with.
     pub datagram: LinkedList<u8>,

@@ -15,13 +15,13 @@ use Rattle.rd_server.specs.Fields.{cut}
 use Rattle.line_model.specs.Lines.{line_of, max_line, said_by, fields}
 use Rattle.line_model.specs.Texts.{lines_of}
 use Rattle.rd_server.specs.Journal.{Row, Journal, journal, goes_on, after_line, text}
-use Rattle.rd_server.specs.Standing.{DeskKeeps}
+use Rattle.rd_server.specs.Desks.{DeskKeeps}
 use Rattle.rd_server.specs.Endings.{IsFrontOf, whole_text}
-use Rattle.rd_server.specs.Going.{Place, IsAt, Leads, Halts, Goes, Feeds, DoesLine, WritesMore, CountsUnwritten, journal_from}
+use Rattle.rd_server.specs.Sessions.{Place, IsAt, Leads, Halts, Goes, Feeds, DoesLine, WritesMore, CountsUnwritten, journal_from}
 use Rattle.rd_server.proofs.LineFeeds.{cut-append, lines_first, lines_begin}
 use Rattle.rd_server.proofs.Fronts.{front_take, front_behind, front_nothing, front_trans, journal_front, whole_front}
 
--- what stops behind a place, seen from the place before it
+-- what stops after a place, seen from the place before it
 pub halts_before : (j : Journal) (before after written : List ℕ) (old mid new : Option (List ℕ)) (halt : Stop) → after ≡ before ++ written → Appends old mid written
     → Halts j after mid new halt → Halts j before old new halt
 halts_before j before after written old mid new (stop.Bad bad) e a h =
@@ -35,7 +35,7 @@ halts_before j before after written old mid new stop.Starved e a h =
 joined : (place next : Place) (fed more written rest : List ℕ) → Leads place fed next written → journal_from place ((fed ++ more) ++ rest) ≡ journal_from next (more ++ rest)
 joined place next fed more written rest leads = ap (journal_from place) (append_assoc fed more rest) ∙ leads.same (more ++ rest)
 
--- what was fed behind a place was fed from the place before it
+-- what was fed after a place was fed from the place before it
 pub feeds_after : (place next : Place) (fed more written : List ℕ) (session : Session) (old mid new : Option (List ℕ)) (result : Option Stop) →
     Leads place fed next written → Appends old mid written → Feeds next more session mid new result → Feeds place (fed ++ more) session old new result
 feeds_after place next fed more written session old mid new None leads a h = record {
@@ -79,7 +79,7 @@ unwritten_halts rows more j old new h p =
       h.2.1,
     )
 
--- nothing was written for want of memory
+-- nothing was written because memory ran out
 pub starved_halts : (rows : List Row) (j : Journal) (old new : Option (List ℕ)) → Appends old new [] → IsFrontOf (text rows) (text j.rows) → Halts j (text rows) old new stop.Starved
 starved_halts rows j old new a p = ([], front_nothing _ _ (whole_front _ j p), a)
 
@@ -151,7 +151,7 @@ too_long place rest held session o e h = begun (place.pending ++ rest) refl wher
       ∙ ap (λ (o : Result Line Reason). goes_on (after_line place.rows o) place.rows place.number (λ rows. journal rows (place.number + 1) l.others)) bad in
       subst (λ (j : Journal). Halts j (text place.rows) held held (stop.Bad (record { line = place.number; why = reason.Long }))) (sym eq) (refl, [], sym (append-nil (text place.rows)), Appends-nil held)
 
--- want of memory while a line is kept
+-- memory runs out while a line is kept
 pub unkept : (place : Place) (rest : List ℕ) (held : Option (List ℕ)) (session : Session) → Feeds place rest session held held (Some stop.Starved)
 unkept place rest held session = λ more. starved_halts place.rows (journal_from place (rest ++ more)) held held (Appends-nil held) (journal_front place.rows place.number (lines_of (place.pending ++ (rest ++ more))))
 
@@ -170,16 +170,6 @@ pub too_long_at : (place : Place) (rest : List ℕ) (held : Option (List ℕ)) (
 too_long_at place rest held before session at e long =
     subst (λ (n : ℕ). Feeds place rest session held held (Some (stop.Bad (record { line = n; why = reason.Long })))) (sym at.line)
     (too_long place rest held session at.«open» e (omega (arith, ap length at.pending)))
-
--- nothing was fed yet
-pub goes_nowhere : (place : Place) (session : Session) (held : Option (List ℕ)) → IsAt place session → Goes place [] session held held
-goes_nowhere place session held at = record {
-  next = place;
-  at = at;
-  written = [];
-  leads = record { texts = sym (append-nil (text place.rows)); same = λ rest. refl };
-  appends = Appends-nil held;
-}
 
 -- what was fed after what had been fed
 pub feeds_more : (place : Place) (fed more whole : List ℕ) (before session : Session) (old mid new : Option (List ℕ)) (result : Option Stop) → (go : Goes place fed before old mid)

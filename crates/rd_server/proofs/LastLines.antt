@@ -11,14 +11,14 @@ use Rattle.rd_server.specs.Fields.{cut}
 use Rattle.line_model.specs.Lines.{line_of}
 use Rattle.line_model.specs.Texts.{lines_of}
 use Rattle.rd_server.specs.Journal.{Row, Journal, journal, goes_on, after_line, text, end_line}
-use Rattle.rd_server.specs.Standing.{DeskKeeps}
+use Rattle.rd_server.specs.Desks.{DeskKeeps}
 use Rattle.rd_server.specs.Endings.{IsFrontOf, whole_text}
-use Rattle.rd_server.specs.Going.{Place, IsAt, Halts, DoesLine, EndsLines, Finishes, Writes, WritesMore, journal_from}
+use Rattle.rd_server.specs.Sessions.{Place, IsAt, Halts, DoesLine, EndsLines, Finishes, Writes, WritesMore, journal_from}
 use Rattle.rd_server.proofs.LineFeeds.{lines_last, one_line}
 use Rattle.rd_server.proofs.Fronts.{front_take, front_behind, front_nothing, journal_front}
 use Rattle.rd_server.proofs.Journeys.{ok_and, err_and, unwritten_halts, starved_halts}
 
--- the journal when the trace has ended behind a line that lacks its line feed
+-- the journal when the trace has ended after a line that lacks its line feed
 ends_after : (place : Place) → cut 10 place.pending ≡ None → (place.pending ≡ [] → ⊥) →
     journal_from place [] ≡ goes_on (after_line place.rows (line_of place.pending)) place.rows place.number (λ more. record { rows = more; bad = None })
 ends_after place o some =

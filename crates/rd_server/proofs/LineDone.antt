@@ -9,8 +9,8 @@ use Rattle.rd_server.specs.declared.endings.Stop.{Stop}
 use Rattle.rd_server.specs.declared.endings.Stop.TheVariants as stop
 use Rattle.line_model.specs.Lines.{line_of}
 use Rattle.rd_server.specs.Journal.{Row, after_line, text}
-use Rattle.rd_server.specs.Standing.{DeskKeeps}
-use Rattle.rd_server.specs.Going.{Performs, DoesLine, Writes, WritesMore, sent_text}
+use Rattle.rd_server.specs.Desks.{DeskKeeps}
+use Rattle.rd_server.specs.Sessions.{Performs, DoesLine, Writes, WritesMore, sent_text}
 
 -- the rows that a line that was done led to
 performed : (rows : List Row) (r : Result (List Row) Reason) (desk : Desk) (answer : Option (Peer × List ℕ)) → Performs rows r desk (Ok answer)

@@ -55,7 +55,7 @@ pub cut_pieces : (c : ℕ) (text line rest : List ℕ) → cut c text ≡ Some (
 cut_pieces c [] line rest e = cc
 cut_pieces c (b ∷ bs) line rest e = some_pieces (b == c) c b bs line rest refl (eqb-true b c) (cut_pieces c bs) e
 
--- the first line of a text, and the lines behind its line feed
+-- the first line of a text, and the lines after its line feed
 pub lines_first : (line rest : List ℕ) → cut 10 line ≡ None → lines_of (line ++ 10 ∷ rest) ≡ line ∷ lines_of rest
 unfolding lines_of
 lines_first [] rest e = refl

@@ -29,7 +29,7 @@ parts_are c (b ∷ bs) =
 pub parts_last : (c : ℕ) (text : List ℕ) → None ≡ cut c text → parts_of c text ≡ text ∷ []
 parts_last c text e = parts_are c text ∙ ap (parts_by c text) (sym e)
 
--- the first part, and the parts of what stands behind the first separator
+-- the first part, and the parts of what stands after the first separator
 pub parts_more : (c : ℕ) (text part rest : List ℕ) → Some (part, rest) ≡ cut c text → parts_of c text ≡ part ∷ parts_of c rest
 parts_more c text part rest e = parts_are c text ∙ ap (parts_by c text) (sym e)
 
@@ -37,7 +37,7 @@ and_true : (b : Bool) → b ≡ b && true
 and_true true = refl
 and_true false = refl
 
--- where the first part passes, all pass where those behind it do
+-- where the first part passes, all pass where those after it do
 pub all_more : (p : List ℕ → Bool) (c : ℕ) (text part rest : List ℕ) → Some (part, rest) ≡ cut c text → p part ≡ true → list_all p (parts_of c rest) ≡ list_all p (parts_of c text)
 all_more p c text part rest e h = sym (ap (list_all p) (parts_more c text part rest e) ∙ ap (λ b. b && list_all p (parts_of c rest)) h)
 

@@ -15,7 +15,7 @@ use Rattle.rd_server.specs.Journal.{Journal, text, end_line}
 abbrev pub IsFrontOf : List ℕ → List ℕ → Type 0
 IsFrontOf front whole = (rest : List ℕ) × (whole ≡ front ++ rest)
 
--- the last line stands only behind a journal without a bad line
+-- the last line stands only after a journal without a bad line
 abbrev pub ending : Journal → List ℕ
 ending journal = elim journal.bad as (λ _. List ℕ) [ None ↦ end_line journal.rows | Some bad ↦ [] ]
 
@@ -69,14 +69,14 @@ status_text status.Usage = codes "usage: rd_replay [--workers N] [--make N]\n"
 status_text (status.Line bad) = line_text bad
 status_text status.Memory = codes "memory\n"
 
--- a text was said, or a front of it where a fault was counted
+-- a text was said, or a prefix of it where a fault was counted
 pub record Says (before now : Option (List ℕ)) (counted counts : ℕ) (text : List ℕ) : Type 0 where
   pub said : List ℕ
   pub front : IsFrontOf said text
   pub stands : Appends before now said
   pub whole : (said ≡ text) ⊎ Rose counted counts
 
--- what is said of the status stands on the error sink, or a front of it where a fault was counted
+-- what is said of the status stands on the error sink, or a prefix of it where a fault was counted
 abbrev pub IsReported : Option (List ℕ) → Option (List ℕ) → ℕ → ℕ → Status → Type 0
 IsReported before now counted counts status = Says before now counted counts (status_text status)
 

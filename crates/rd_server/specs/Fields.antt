@@ -15,6 +15,6 @@ abbrev pub cut : ℕ → List ℕ → Option (List ℕ × List ℕ)
 cut separator [] = None
 cut separator (b ∷ bs) = if b == separator then Some ([], bs) else option_map (onto_first b) (cut separator bs)
 
--- what stands behind a prefix
+-- what stands after a prefix
 abbrev pub behind : List ℕ → List ℕ → Option (List ℕ)
 behind prefix text = if bytes_eq (take (length prefix) text) prefix then Some (drop (length prefix) text) else None

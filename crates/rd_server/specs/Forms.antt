@@ -1,4 +1,5 @@
 -- What the directory reads of a datagram so far (RFC 7252 section 3), and what it answers.
+-- A scaffold: it goes when the desk serves every request.
 use Rattle.std.specs.Prelude.{ℕ, ◌+◌, ◌-◌, ◌==◌, ◌&&◌, ◌||◌, Bool, false, not, nat_lt, nat_le, List, [], ◌∷◌, ◌++◌, length, take, drop, codes, decimal, Option, Some, None, if◌then◌else◌}
 use Rattle.std.specs.List.{list_all}
 use Rattle.rd_server.specs.Fields.{◌>>=◌, cut, behind}

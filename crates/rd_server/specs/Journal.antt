@@ -1,4 +1,5 @@
 -- What happens: the lines that are steps, the rows that they make, and the entries of registrations.
+-- A scaffold: it goes when the desk serves every request.
 use Rattle.std.specs.Prelude.{◌≡◌, ℕ, ◌+◌, ◌==◌, ◌&&◌, Bool, true, false, nat_lt, max, List, [], ◌∷◌, ◌++◌, codes, decimal, slice_index, bytes_eq, Option, Some, None, is_some, unwrap_or, Result, Ok, Err, if◌then◌else◌}
 use Rattle.std.specs.List.{flat_map, list_any}
 use Rattle.rd_base.specs.declared.moments.Moment.{Moment}

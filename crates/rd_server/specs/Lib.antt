@@ -2,7 +2,7 @@ pub mod Fields
 pub mod Forms
 pub mod Views
 pub mod Journal
-pub mod Standing
+pub mod Desks
 pub mod Endings
-pub mod Going
+pub mod Sessions
 pub mod Faults

@@ -1,9 +1,10 @@
-// The registrations, and the job that the worker holds.
+//! The registrations, and the job that the worker holds.
+//! A scaffold: it goes when the desk serves every request.
 ghost use Rattle.std.specs.Prelude.{◌≡◌, ℕ, List, [], ◌∷◌, IfOk, is_some, None};
 ghost use Rattle.rd_base.specs.declared.moments.Moment.{Moment};
 ghost use Rattle.rd_server.specs.Journal as journal;
 ghost use Rattle.rd_server.specs.Journal.{Row};
-ghost use Rattle.rd_server.specs.Standing.{DeskKeeps, Answers, Went};
+ghost use Rattle.rd_server.specs.Desks.{DeskKeeps, Answers, Went};
 
 use crate::forms::{
     CREATED, NOT_IMPLEMENTED, acknowledgement, append_location, asking_of, registering_of,
@@ -63,8 +64,11 @@ fn heard_of(alloc: Global, peer: Peer, datagram: &[u8]) -> Result<Heard, Starved
 /// The registrations, and the job that the worker holds.
 #[derive(Drop)]
 pub struct Desk {
+    /// The numbers of the names.
     registry: Registry,
+    /// How many entries there are.
     entries: u64,
+    /// The job that the worker holds.
     job: Option<Job>,
 }
 
@@ -110,7 +114,7 @@ impl Desk {
     }
 
     /// The worker ends its job: the name gets its number, and 2.01 is answered with the location.
-    /// Without a job nothing happens. Where memory is wanted, the desk is not to be used any more.
+    /// Without a job nothing happens. After memory ran out, the desk is not to be used any more.
     pub fn go(&mut self, alloc: Global) -> Result<Option<(Peer, Bytes)>, Starved>
         ensures { IfOk result (λ answer. (rows : List Row) (worker : ℕ) (moment : Moment) → DeskKeeps rows self.old
             → Went rows worker moment (journal.held rows) self.new answer) }

@@ -1,4 +1,4 @@
-// How a replay ends.
+//! How a replay ends.
 ghost use Rattle.std.specs.Prelude.{◌≡◌};
 
 use trace_text::LineBad;
@@ -10,7 +10,7 @@ pub enum Stop {
     Bad(LineBad),
     /// The output failed.
     Unwritten,
-    /// Memory was wanted.
+    /// Memory ran out.
     Starved,
 }
 
@@ -38,7 +38,7 @@ pub enum Status {
     Usage,
     /// 4: a line is bad.
     Line(LineBad),
-    /// 5: memory was wanted.
+    /// 5: memory ran out.
     Memory,
 }
 

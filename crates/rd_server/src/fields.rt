@@ -1,4 +1,4 @@
-// Texts between separators.
+//! Texts between separators.
 ghost use Rattle.std.specs.Prelude.{◌≡◌, ◌<◌, ◌==◌, option_map, IfSome, length, position};
 ghost use Rattle.rd_server.specs.Fields as fields;
 
@@ -21,7 +21,7 @@ fn place_of(separator: u8, text: &[u8]) -> Option<usize>
     text.iter().position(|b| *b == separator)
 }
 
-/// What stands behind a prefix.
+/// What stands after a prefix.
 pub fn behind<'a>(prefix: &[u8], text: &'a [u8]) -> Option<&'a [u8]>
     ensures { option_map (λ rest. rest.now) result ≡ fields.behind prefix.now text.now }
 {

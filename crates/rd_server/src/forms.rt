@@ -1,4 +1,5 @@
-// What the directory reads of a datagram so far (RFC 7252 section 3), and what it answers.
+//! What the directory reads of a datagram so far (RFC 7252 section 3), and what it answers.
+//! A scaffold: it goes when the desk serves every request.
 ghost use Rattle.std.specs.Prelude.{◌≡◌, ◌≤◌, ◌<◌, ◌^◌, ◌++◌, option_map, IfSome, IfOk, length};
 ghost use Rattle.std.specs.List.{list_all};
 ghost use Rattle.rd_server.specs.Forms as forms;

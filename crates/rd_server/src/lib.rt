@@ -6,11 +6,11 @@ mod endings;
 mod fields;
 mod forms;
 mod registry;
-mod replaying;
+mod replays;
 mod sessions;
 
 pub use endings::Status;
-pub use replaying::{replay, report};
+pub use replays::{replay, report};
 pub use trace_text::{LineBad, Reason};
 
 #[cfg(test)]

@@ -1,7 +1,8 @@
-// The numbers of registrations.
+//! The numbers of registrations.
+//! A scaffold: it goes when the desk serves every request.
 ghost use Rattle.std.specs.Prelude.{◌≡◌, ◌^◌, ◌<◌, List, [], IfOk};
 ghost use Rattle.rd_server.specs.Journal.{Row};
-ghost use Rattle.rd_server.specs.Standing.{KeepsNumbers, GivesNumber};
+ghost use Rattle.rd_server.specs.Desks.{KeepsNumbers, GivesNumber};
 
 use rd_base::{Bytes, Starved};
 use std::alloc::Global;
@@ -13,7 +14,9 @@ const NUMBERS: u64 = 1_000_000_000_000;
 /// The numbers of the names that are registered.
 #[derive(Drop)]
 pub struct Registry {
+    /// The number of each name.
     numbers: HashMap<Bytes, u64>,
+    /// The greatest of them.
     drawn: u64,
 }
 

@@ -1,12 +1,12 @@
-// A replay in the middle of a trace.
+//! A replay in the middle of a trace.
 ghost use Rattle.std.specs.Prelude.{◌≡◌, ℕ, List, [], ◌∷◌, ◌++◌, IfOk, take, true, None, Option, length};
 ghost use Rattle.std.specs.Io.KnownBytes.{Appends};
 ghost use Rattle.rd_server.specs.Fields as fields;
 ghost use Rattle.line_model.specs.Lines as trace;
 ghost use Rattle.rd_server.specs.Journal as journals;
 ghost use Rattle.rd_server.specs.Journal.{Row, after_line, end_line, text};
-ghost use Rattle.rd_server.specs.Standing.{DeskKeeps};
-ghost use Rattle.rd_server.specs.Going.{Performs, CountsAll, CountsUnwritten, Writes, DoesLine, Feeds, EndsLines, Finishes, IsAt, Place, journal_from, start, sent_text};
+ghost use Rattle.rd_server.specs.Desks.{DeskKeeps};
+ghost use Rattle.rd_server.specs.Sessions.{Performs, CountsAll, CountsUnwritten, Writes, DoesLine, Feeds, EndsLines, Finishes, IsAt, Place, journal_from, start, sent_text};
 
 use crate::desk::Desk;
 use crate::endings::Stop;
@@ -21,7 +21,7 @@ use trace_text::{Line, LineBad, LineFault, Reason, line_read, out_print};
 pub enum Trouble {
     /// The line is bad.
     Bad(Reason),
-    /// Memory was wanted.
+    /// Memory ran out.
     Starved,
 }
 
@@ -51,11 +51,14 @@ impl From<LineFault> for Trouble {
     }
 }
 
-/// A replay in the middle of a trace.
+///! A replay in the middle of a trace.
 #[derive(Drop)]
 pub struct Session {
+    /// The registrations, and the job that the worker holds.
     desk: Desk,
+    /// The number of the next line.
     line: u64,
+    /// What has come of that line.
     pending: Bytes,
 }
 
@@ -86,7 +89,7 @@ fn out_line(alloc: Global, peer: &Peer, datagram: &[u8]) -> Result<Bytes, Starve
     Ok(text)
 }
 
-/// Does what a line says. Where a line is bad the desk is as before, and after want of memory it is not to be used.
+/// Does what a line says. Where a line is bad the desk is as before, and after memory ran out it is not to be used.
 fn perform(alloc: Global, desk: &mut Desk, line: &[u8]) -> Result<Option<(Peer, Bytes)>, Trouble>
     ensures { (rows : List Row) → DeskKeeps rows desk.old → Performs rows (after_line rows (trace.line_of line.now)) desk.new result }
 {

@@ -1,4 +1,4 @@
-// Traces replayed from memory, with ample memory: what no contract can tell is that they end otherwise than for want of it.
+//! Traces replayed from memory, with ample memory: no contract says that they end otherwise than because memory ran out.
 use crate::{LineBad, Reason, Status, replay};
 use rd_base::{Bytes, MemSink, MemSource, Starved, SureSink, SureSource};
 use std::alloc::Global;
@@ -6,15 +6,21 @@ use std::test::Fail;
 
 /// A trace, what is written for it, how it ends, and what is said of that.
 struct Case {
+    /// The trace.
     trace: &'static [u8],
+    /// What is written for it.
     output: &'static [u8],
+    /// How it ends.
     status: Status,
+    /// What is said of that on the error sink.
     said: &'static [u8],
 }
 
+/// A trace in which a device registers.
 const REGISTRATION: &[u8] =
     b"in 0 5 192.0.2.10:5683 41020001a1b2726411283865703d6e6f646531ff3c2f74656d703e\ngo 0 6\n";
 
+/// Traces that are empty, short, whole, or have a bad line.
 static CASES: [Case; 7] = [
     Case {
         trace: b"",
@@ -72,7 +78,7 @@ static CASES: [Case; 7] = [
     },
 ];
 
-/// Whether a trace gives what is wanted.
+/// Whether a trace gives what its case says.
 fn gives(alloc: Global, case: &Case) -> Result<bool, Starved> {
     let mut source = MemSource::of(Bytes::copy_of(alloc, case.trace)?, Bytes::new(alloc));
     let mut out = MemSink::of(alloc, Bytes::new(alloc));
@@ -118,7 +124,7 @@ fn status_with(alloc: Global, word: &str, length: usize) -> Result<Status, Starv
 }
 
 #[test]
-fn words_and_long_lines_are_told(rt: HostRuntime) -> Result<(), Fail> {
+fn words_and_long_lines_are_reported(rt: HostRuntime) -> Result<(), Fail> {
     assert_eq!(rt; status_with(rt.alloc(), "--workers=1", 0)?, Status::Done);
     assert_eq!(rt; status_with(rt.alloc(), "--workers=2", 0)?, Status::Usage);
     let long = Status::Line(LineBad {

@@ -19,7 +19,7 @@ use Rattle.journal_model.specs.declared.rows.Row.{Row}
 use Rattle.journal_model.specs.Rows.{row, row_moment}
 use Rattle.journal_model.specs.Meantime.{is_never, is_left_out, is_left_out_of, is_too_long, is_heard, row_unless, row_where}
 use Rattle.journal_model.specs.Machine.{is_look_datagram, hearing, Job, job_of, hears, goes, ticks, MayMake, IsJournal, begun, made}
-use Rattle.trace_model.specs.Steps.{hearing_where, come_step, go_step, step_of_worker, worker_of, if_worker, step_of_line, Traced, untraced, traced_step, traced_unless, traced_line, traced}
+use Rattle.trace_model.specs.Steps.{hearing_where, come_step, go_step, step_of_worker, worker_of, if_worker, step_of_line, Traced, nothing_traced, traced_step, traced_unless, traced_line, traced}
 
 -- where every request is served, none is left out
 none_left_out : (read : Result Message Unread) → is_left_out_of is_never read ≡ false
@@ -85,10 +85,10 @@ step_of_line-MayGive workers rows (Ok l) = by (nat_lt (worker_of l) workers)
     by false = bad
 
 -- a journal stays one with one line more
-told_line-IsJournal : (workers : ℕ) (t : Traced) (text : List ℕ) → IsJournal t.journal → IsJournal (traced_line is_never workers t text).journal
-told_line-IsJournal workers t text journal = by t.bad
+traced_line-IsJournal : (workers : ℕ) (t : Traced) (text : List ℕ) → IsJournal t.journal → IsJournal (traced_line is_never workers t text).journal
+traced_line-IsJournal workers t text journal = by t.bad
   where
-    stepped : (given : Result (Option Step) Reason) → MayGive t.journal given → IsJournal (traced_step is_never t given).journal
+    stepped : (said : Result (Option Step) Reason) → MayGive t.journal said → IsJournal (traced_step is_never t said).journal
     stepped (Err why) bad = journal
     stepped (Ok None) no_step = journal
     stepped (Ok (Some s)) (gives may) = subst (λ (r : Row). IsJournal (r ∷ t.journal)) (sym (row_where_never t.journal s false)) (made false journal may)
@@ -100,8 +100,8 @@ told_line-IsJournal workers t text journal = by t.bad
 -- what a trace gives is a journal of the machine
 pub traced-IsJournal : (workers : ℕ) (bytes : List ℕ) → IsJournal (traced is_never workers bytes).journal
 unfolding traced
-traced-IsJournal workers bytes = folded (lines_of bytes) untraced begun
+traced-IsJournal workers bytes = folded (lines_of bytes) nothing_traced begun
   where
     folded : (texts : List (List ℕ)) (t : Traced) → IsJournal t.journal → IsJournal (fold (traced_line is_never workers) t texts).journal
     folded [] t journal = journal
-    folded (text ∷ texts) t journal = folded texts (traced_line is_never workers t text) (told_line-IsJournal workers t text journal)
+    folded (text ∷ texts) t journal = folded texts (traced_line is_never workers t text) (traced_line-IsJournal workers t text journal)

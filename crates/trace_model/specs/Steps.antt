@@ -17,7 +17,7 @@ use Rattle.journal_model.specs.declared.steps.StepKind.TheVariants as step
 use Rattle.journal_model.specs.declared.rows.Row.{Row}
 use Rattle.journal_model.specs.Journal.{latest}
 use Rattle.journal_model.specs.Meantime.{is_left_out_of, row_where}
-use Rattle.journal_model.specs.Machine.{Job, is_look_datagram, job_of, drawn_by}
+use Rattle.journal_model.specs.Machine.{Job, is_look_datagram, job_of, mids_drawn}
 
 -- which requests are not served yet, by the request and the length of its listing
 abbrev pub NotServed : Type 0
@@ -32,27 +32,27 @@ abbrev pub hearing_where : NotServed → List ℕ → StepKind
 hearing_where not_served datagram =
     if is_look_datagram datagram && not (is_left_out_of not_served (reading datagram)) then step.Look else step.Admit
 
--- a step of a worker behind a journal: the moment handed in is the greatest of that of its line and of those handed in before
-abbrev pub step_behind : List Row → StepKind → ℕ → ℕ → ℕ → Peer → List ℕ → Step
-step_behind rows kind worker moment word peer datagram = record {
+-- a step of a worker after a journal: the moment handed in is the greatest of that of its line and of those handed in before
+abbrev pub step_after : List Row → StepKind → ℕ → ℕ → ℕ → Peer → List ℕ → Step
+step_after rows kind worker moment word peer datagram = record {
   kind = kind;
   worker = worker;
   handed = record { 0 = max moment (latest rows) };
   word = word;
   peer = peer;
   datagram = datagram;
-  drawn = drawn_by worker rows;
+  drawn = mids_drawn worker rows;
 }
 
 -- a worker that holds a job can hear nothing
 abbrev pub come_step : Option Job → NotServed → List Row → ℕ → ℕ → Peer → List ℕ → Result (Option Step) Reason
 come_step (Some job) not_served rows worker moment peer datagram = Err reason.Busy
 come_step None not_served rows worker moment peer datagram =
-    Ok (Some (step_behind rows (hearing_where not_served datagram) worker moment 0 peer datagram))
+    Ok (Some (step_after rows (hearing_where not_served datagram) worker moment 0 peer datagram))
 
 -- a worker ends the job that it holds, and makes no step where it holds none
 abbrev pub go_step : Option Job → List Row → ℕ → ℕ → Result (Option Step) Reason
-go_step (Some job) rows worker moment = Ok (Some (step_behind rows job.kind worker moment 0 job.peer job.datagram))
+go_step (Some job) rows worker moment = Ok (Some (step_after rows job.kind worker moment 0 job.peer job.datagram))
 go_step None rows worker moment = Ok None
 
 -- the step of a line for a worker that there is
@@ -60,7 +60,7 @@ abbrev pub step_of_worker : NotServed → List Row → Line → Result (Option S
 step_of_worker not_served rows (line.Come worker moment peer datagram) =
     come_step (job_of worker rows) not_served rows worker moment.0 peer datagram
 step_of_worker not_served rows (line.Go worker moment) = go_step (job_of worker rows) rows worker moment.0
-step_of_worker not_served rows (line.Tick worker moment word) = Ok (Some (step_behind rows step.Tick worker moment.0 word nobody []))
+step_of_worker not_served rows (line.Tick worker moment word) = Ok (Some (step_after rows step.Tick worker moment.0 word nobody []))
 
 -- the worker of a line
 abbrev pub worker_of : Line → ℕ
@@ -68,6 +68,7 @@ worker_of (line.Come worker moment peer datagram) = worker
 worker_of (line.Go worker moment) = worker
 worker_of (line.Tick worker moment word) = worker
 
+-- the step of a line, where there is its worker
 abbrev pub if_worker : Bool → NotServed → List Row → Line → Result (Option Step) Reason
 if_worker true not_served rows l = step_of_worker not_served rows l
 if_worker false not_served rows l = Err reason.Worker
@@ -84,8 +85,8 @@ pub record Traced : Type 0 where
   pub bad : Option LineBad
 
 -- before the first line
-abbrev pub untraced : Traced
-untraced = record { journal = []; number = 0; bad = None }
+abbrev pub nothing_traced : Traced
+nothing_traced = record { journal = []; number = 0; bad = None }
 
 -- a step adds its row
 abbrev pub traced_step : NotServed → Traced → Result (Option Step) Reason → Traced
@@ -93,7 +94,7 @@ traced_step not_served t (Err why) = record t { bad = Some (record { line = t.nu
 traced_step not_served t (Ok None) = record t { number = t.number + 1 }
 traced_step not_served t (Ok (Some s)) = record t { journal = row_where not_served t.journal s false ∷ t.journal; number = t.number + 1 }
 
--- nothing comes behind a bad line
+-- nothing comes after a bad line
 abbrev pub traced_unless : Option LineBad → NotServed → ℕ → Traced → List ℕ → Traced
 traced_unless (Some bad) not_served workers t text = t
 traced_unless None not_served workers t text = traced_step not_served t (step_of_line not_served workers t.journal (line_of text))
@@ -104,4 +105,4 @@ traced_line not_served workers t text = traced_unless t.bad not_served workers t
 
 -- what a trace gives for a number of workers
 unfoldable pub traced : NotServed → ℕ → List ℕ → Traced
-traced not_served workers bytes = fold (traced_line not_served workers) untraced (lines_of bytes)
+traced not_served workers bytes = fold (traced_line not_served workers) nothing_traced (lines_of bytes)

@@ -8,7 +8,7 @@ use Rattle.event_model.specs.Events.{Event}
 use Rattle.event_model.specs.KeptAnswers.{kept_answer}
 use Rattle.event_model.specs.Observers.{has_room_for}
 use Rattle.event_model.proofs.OnLiterals.{events_on_literals}
-use Rattle.event_model.proofs.ManyObservers.{peer, page_query, observers_by}
+use Rattle.event_model.proofs.ManyObservers.{peer, page_query, observers_of_queries}
 
 -- an event at the moment 0
 abbrev at_first : Note → Event
@@ -51,7 +51,7 @@ young_answer = refl
 
 -- as many observers of one query as there may be
 abbrev observers_of_one : ℕ → List Observer
-observers_of_one n = observers_by (λ k. page_query 0) n
+observers_of_one n = observers_of_queries (λ k. page_query 0) n
 
 full_of_observers : has_room_for (page_query 0) (observers_of_one 1024) ≡ false
 unfolding events_on_literals
@@ -63,7 +63,7 @@ room_for_one = refl
 
 -- observers of so many queries
 abbrev observers_of_many : ℕ → List Observer
-observers_of_many n = observers_by page_query n
+observers_of_many n = observers_of_queries page_query n
 
 full_of_queries : has_room_for (page_query 256) (observers_of_many 256) ≡ false
 unfolding events_on_literals

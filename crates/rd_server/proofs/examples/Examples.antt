@@ -26,7 +26,7 @@ not_implemented : output (codes "in 0 5 192.0.2.10:5683 40011234") ≡ codes "ou
 unfolding replay_on_literals
 not_implemented = refl
 
--- a device registers, and is told its location
+-- a device registers, and the answer has its location
 registered : output (codes "in 0 5 192.0.2.10:5683 41020001a1b2726411283865703d6e6f646531ff3c2f74656d703e\ngo 0 6\n")
     ≡ codes "out 0 192.0.2.10:5683 61410001a18272640131\nend 1 1 0\n"
 unfolding replay_on_literals

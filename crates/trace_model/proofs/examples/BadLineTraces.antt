@@ -3,7 +3,7 @@ use Rattle.std.proofs.Common.{◌≡◌, [], ◌∷◌, codes, refl}
 use Rattle.line_model.specs.declared.lines.Reason.TheVariants as reason
 use Rattle.trace_model.specs.Output.{output}
 use Rattle.trace_model.proofs.OnLiterals.{output_on_literals}
-use Rattle.trace_model.proofs.Writing.{lines, stops_at}
+use Rattle.trace_model.proofs.OutputLines.{lines, stops_at}
 
 -- a line of no form
 bad_form : output 1 (lines (

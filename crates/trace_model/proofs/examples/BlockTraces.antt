@@ -1,8 +1,8 @@
--- Traces of bodies in blocks. Beside each the datagrams are told: type, code, Message ID, token, options, payload.
+-- Traces of bodies in blocks. Beside each the datagrams are shown: type, code, Message ID, token, options, payload.
 use Rattle.std.proofs.Common.{◌≡◌, [], ◌∷◌, ◌++◌, codes, refl}
 use Rattle.trace_model.specs.Output.{output}
 use Rattle.trace_model.proofs.OnLiterals.{output_on_literals}
-use Rattle.trace_model.proofs.Writing.{lines, writes, many}
+use Rattle.trace_model.proofs.OutputLines.{lines, writes, many}
 
 -- the second block of a listing comes from the state of the first
 --     in 0 1000 192.0.2.10:5683: CON 0.02 m=0001 t=a1 [11 rd][15 ep=n][15 base=coap://h] | </x{2039}>

@@ -1,7 +1,7 @@
 -- Who is due, computed: a change makes an observer due, also where it is changed back, and a look alone makes nobody due.
 use Rattle.std.proofs.Common.{◌≡◌, ℕ, true, false, List, [], ◌∷◌, ◌++◌, codes, refl}
 use Rattle.trace_model.proofs.OnLiterals.{output_on_literals}
-use Rattle.trace_model.proofs.Writing.{due_behind}
+use Rattle.trace_model.proofs.OutputLines.{due_after}
 
 -- an observer asks at 1000: CON 0.01 m=0010 t=c1 [6 x][11 rd-lookup][11 res][15 rt=light-lux]
 abbrev observing : List (List ℕ)
@@ -23,30 +23,30 @@ removing = codes "in 0 1400 192.0.2.10:5683 41040002a2b272640131" ∷ codes "go 
 abbrev looking : List (List ℕ)
 looking = codes "in 0 91301000 192.0.2.30:40000 41010011c1b972642d6c6f6f6b7570037265734c72743d6c696768742d6c7578" ∷ []
 
-not_due : due_behind observing ≡ false ∷ []
+not_due : due_after observing ≡ false ∷ []
 unfolding output_on_literals
 not_due = refl
 
-due_by_change : due_behind (observing ++ registering) ≡ true ∷ []
+due_by_change : due_after (observing ++ registering) ≡ true ∷ []
 unfolding output_on_literals
 due_by_change = refl
 
-due_though_changed_back : due_behind (observing ++ (registering ++ removing)) ≡ true ∷ []
+due_though_changed_back : due_after (observing ++ (registering ++ removing)) ≡ true ∷ []
 unfolding output_on_literals
 due_though_changed_back = refl
 
-not_due_by_other_change : due_behind (observing ++ registering_other) ≡ false ∷ []
+not_due_by_other_change : due_after (observing ++ registering_other) ≡ false ∷ []
 unfolding output_on_literals
 not_due_by_other_change = refl
 
--- the notice is sent at 1350; then a look comes long behind the lapse, and a tick
+-- the notice is sent at 1350; then a look comes long after the lapse, and a tick
 abbrev noticed : List (List ℕ)
 noticed = observing ++ (registering ++ codes "tick 0 1350" ∷ [])
 
-not_due_by_look : due_behind (noticed ++ looking) ≡ false ∷ []
+not_due_by_look : due_after (noticed ++ looking) ≡ false ∷ []
 unfolding output_on_literals
 not_due_by_look = refl
 
-due_by_time : due_behind (noticed ++ (looking ++ codes "in 0 91301000 192.0.2.10:5683 70000009" ∷ [])) ≡ true ∷ []
+due_by_time : due_after (noticed ++ (looking ++ codes "in 0 91301000 192.0.2.10:5683 70000009" ∷ [])) ≡ true ∷ []
 unfolding output_on_literals
 due_by_time = refl

@@ -1,8 +1,8 @@
--- Traces of simple registrations. Beside each the datagrams are told: type, code, Message ID, token, options, payload.
+-- Traces of simple registrations. Beside each the datagrams are shown: type, code, Message ID, token, options, payload.
 use Rattle.std.proofs.Common.{◌≡◌, [], ◌∷◌, codes, refl}
 use Rattle.trace_model.specs.Output.{output}
 use Rattle.trace_model.proofs.OnLiterals.{output_on_literals}
-use Rattle.trace_model.proofs.Writing.{lines, writes}
+use Rattle.trace_model.proofs.OutputLines.{lines, writes}
 
 -- a device has its list fetched in two blocks
 --     in 0 1000 192.0.2.10:5683: CON 0.02 m=0005 t=e1 [11 .well-known][11 rd][15 ep=s1]
@@ -128,7 +128,7 @@ never_answered : output 1 (lines (
 unfolding output_on_literals
 never_answered = refl
 
--- behind the end of a fetch without an answer the device is fetched from anew
+-- after the end of a fetch without an answer the device is fetched from anew
 --     in 0 1000 192.0.2.10:5683: CON 0.02 m=0005 t=e1 [11 .well-known][11 rd][15 ep=s1]
 --     go 0 1000
 --     tick 0 3000

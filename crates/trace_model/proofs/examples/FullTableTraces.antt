@@ -9,7 +9,7 @@ use Rattle.message_model.specs.Spelling.{spelling}
 use Rattle.line_model.specs.Datagrams.{datagram_text}
 use Rattle.trace_model.specs.Output.{output}
 use Rattle.trace_model.proofs.OnLiterals.{output_on_literals}
-use Rattle.trace_model.proofs.Writing.{lines, writes}
+use Rattle.trace_model.proofs.OutputLines.{lines, writes}
 
 -- the peers 192.0.3.1 to 192.0.3.64, by their last number
 abbrev peers : List ℕ

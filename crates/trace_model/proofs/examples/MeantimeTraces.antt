@@ -1,8 +1,8 @@
--- Traces while only registrations are served. Beside each the datagrams are told: type, code, Message ID, token, options, payload.
+-- Traces while only registrations are served. Beside each the datagrams are shown: type, code, Message ID, token, options, payload.
 use Rattle.std.proofs.Common.{◌≡◌, [], ◌∷◌, codes, refl}
 use Rattle.trace_model.specs.Output.{output_in_the_meantime}
 use Rattle.trace_model.proofs.OnLiterals.{output_on_literals}
-use Rattle.trace_model.proofs.Writing.{lines, writes}
+use Rattle.trace_model.proofs.OutputLines.{lines, writes}
 
 -- requests that are not served are answered 5.01
 --     in 0 1 192.0.2.10:5683: NON 0.01 m=0001 [11 rd-lookup][11 res]

@@ -1,8 +1,8 @@
--- Traces of observers. Beside each the datagrams are told: type, code, Message ID, token, options, payload.
+-- Traces of observers. Beside each the datagrams are shown: type, code, Message ID, token, options, payload.
 use Rattle.std.proofs.Common.{◌≡◌, [], ◌∷◌, codes, refl}
 use Rattle.trace_model.specs.Output.{output}
 use Rattle.trace_model.proofs.OnLiterals.{output_on_literals}
-use Rattle.trace_model.proofs.Writing.{lines, writes}
+use Rattle.trace_model.proofs.OutputLines.{lines, writes}
 
 -- an observer gets a notice of a change and of a lapse, and none where the listing changed and changed back
 --     in 0 1000 192.0.2.30:40000: CON 0.01 m=0010 t=c1 [6 x][11 rd-lookup][11 res][15 rt=light-lux]

@@ -1,8 +1,8 @@
--- Traces of registrations, updates and removals. Beside each the datagrams are told: type, code, Message ID, token, options, payload.
+-- Traces of registrations, updates and removals. Beside each the datagrams are shown: type, code, Message ID, token, options, payload.
 use Rattle.std.proofs.Common.{◌≡◌, [], ◌∷◌, codes, refl}
 use Rattle.trace_model.specs.Output.{output}
 use Rattle.trace_model.proofs.OnLiterals.{output_on_literals}
-use Rattle.trace_model.proofs.Writing.{lines, writes}
+use Rattle.trace_model.proofs.OutputLines.{lines, writes}
 
 -- a device registers two links
 --     in 0 1000 192.0.2.10:5683: CON 0.02 m=0001 t=a1 [11 rd][12 x28][15 ep=node1][15 lt=600] | </temp>;rt="temperature";ct=0,</light>;rt="light-lux";if="sensor"
@@ -149,7 +149,7 @@ edge_of_a_lease : output 1 (lines (
 unfolding output_on_literals
 edge_of_a_lease = refl
 
--- a registration behind a lapse has a new number
+-- a registration after a lapse has a new number
 --     in 0 1000 192.0.2.10:5683: CON 0.02 m=0001 t=a1 [11 rd][12 x28][15 ep=node1][15 lt=600] | </temp>;rt="temperature";ct=0,</light>;rt="light-lux";if="sensor"
 --     go 0 1000
 --     in 0 601000 192.0.2.10:5683: CON 0.02 m=0001 t=a1 [11 rd][12 x28][15 ep=node1][15 lt=600] | </temp>;rt="temperature";ct=0,</light>;rt="light-lux";if="sensor"

@@ -1,8 +1,8 @@
--- Traces told step by step: what each step writes, and which observers are due behind it.
--- Beside each the datagrams are told, and what a step writes stands below its line.
+-- Traces shown step by step: what each step writes, and which observers are due after it.
+-- Beside each the datagrams are shown, and what a step writes stands below its line.
 use Rattle.std.proofs.Common.{◌≡◌, true, false, List, ℕ, [], ◌∷◌, ◌++◌, map, codes, refl}
 use Rattle.trace_model.proofs.OnLiterals.{output_on_literals}
-use Rattle.trace_model.proofs.Writing.{lines, by_steps, due_behind}
+use Rattle.trace_model.proofs.OutputLines.{lines, step_by_step, due_after}
 
 -- a repeat at another worker; the last line makes no step
 --     in 0 1000 192.0.2.10:5683: CON 0.02 m=0001 t=a1 [11 rd][12 x28][15 ep=node1][15 lt=600] | </temp>;rt="temperature";ct=0,</light>;rt="light-lux";if="sensor"
@@ -13,7 +13,7 @@ use Rattle.trace_model.proofs.Writing.{lines, by_steps, due_behind}
 --         out 1 192.0.2.10:5683: ACK 2.01 m=0001 t=a1 [8 rd][8 1]
 --     go 1 1011
 --     end 1 1 0
-repeated_by_steps : by_steps 2 (
+repeated_by_steps : step_by_step 2 (
     codes "in 0 1000 192.0.2.10:5683 41020001a1b2726411283865703d6e6f646531066c743d363030ff3c2f74656d703e3b72743d2274656d7065726174757265223b63743d302c3c2f6c696768743e3b72743d226c696768742d6c7578223b69663d2273656e736f7222"
     ∷ codes "in 1 1001 192.0.2.10:5683 41020001a1b2726411283865703d6e6f646531066c743d363030ff3c2f74656d703e3b72743d2274656d7065726174757265223b63743d302c3c2f6c696768743e3b72743d226c696768742d6c7578223b69663d2273656e736f7222"
     ∷ codes "go 0 1005"
@@ -38,7 +38,7 @@ repeated_by_steps = refl
 --     go 0 248000
 --         out 0 192.0.2.10:5683: ACK 2.01 m=0001 t=a1 [8 rd][8 1]
 --     end 2 1 0
-exchange_by_steps : by_steps 1 (
+exchange_by_steps : step_by_step 1 (
     codes "in 0 1000 192.0.2.10:5683 41020001a1b2726411283865703d6e6f646531066c743d363030ff3c2f74656d703e3b72743d2274656d7065726174757265223b63743d302c3c2f6c696768743e3b72743d226c696768742d6c7578223b69663d2273656e736f7222"
     ∷ codes "go 0 1000"
     ∷ codes "in 0 247999 192.0.2.10:5683 41020001a1b2726411283865703d6e6f646531066c743d363030ff3c2f74656d703e3b72743d2274656d7065726174757265223b63743d302c3c2f6c696768743e3b72743d226c696768742d6c7578223b69663d2273656e736f7222"
@@ -61,7 +61,7 @@ exchange_by_steps = refl
 --     in 1 3 192.0.2.10:5683: NON 0.02 m=0042 t=a9 [11 rd][15 ep=z]
 --         out 1 192.0.2.10:5683: NON 2.01 m=1000 t=a9 [8 rd][8 1]
 --     end 1 1 0
-not_confirmable_by_steps : by_steps 2 (
+not_confirmable_by_steps : step_by_step 2 (
     codes "in 1 1 192.0.2.10:5683 51020042a9b272644465703d7a"
     ∷ codes "go 1 2"
     ∷ codes "in 1 3 192.0.2.10:5683 51020042a9b272644465703d7a" ∷ [])
@@ -138,22 +138,22 @@ changed_back_writes =
     ∷ []
     ∷ (codes "out 0 192.0.2.10:5683 61420009a3" ∷ []) ∷ []
 
--- the tick behind it writes nothing
+-- the tick after it writes nothing
 --     tick 0 700020
 --     end 4 1 1
-observed_by_steps : by_steps 1 (noticed ++ (changed_back ++ codes "tick 0 700020" ∷ []))
+observed_by_steps : step_by_step 1 (noticed ++ (changed_back ++ codes "tick 0 700020" ∷ []))
     ≡ map lines (noticed_writes ++ (changed_back_writes ++ [] ∷ (codes "end 4 1 1" ∷ []) ∷ []))
 unfolding output_on_literals
 observed_by_steps = refl
 
--- though the listing is the same again, the observer is due before that tick, and no more behind it
-due_by_a_change_back : due_behind (noticed ++ changed_back) ≡ true ∷ []
+-- though the listing is the same again, the observer is due before that tick, and no more after it
+due_by_a_change_back : due_after (noticed ++ changed_back) ≡ true ∷ []
 unfolding output_on_literals
 due_by_a_change_back = refl
 
-not_due_behind_the_tick : due_behind (noticed ++ (changed_back ++ codes "tick 0 700020" ∷ [])) ≡ false ∷ []
+not_due_after_the_tick : due_after (noticed ++ (changed_back ++ codes "tick 0 700020" ∷ [])) ≡ false ∷ []
 unfolding output_on_literals
-not_due_behind_the_tick = refl
+not_due_after_the_tick = refl
 
 -- the notice is never acknowledged: it is sent again four times, and then the observer is removed
 --     tick 0 3400
@@ -166,7 +166,7 @@ not_due_behind_the_tick = refl
 --         out 0 192.0.2.30:40000: CON 2.05 m=0000 t=c1 [4 x0000000000020000][6 x02][12 x28] | <coap://192.0.2.10/light>;rt="light-lux";if="sensor"
 --     tick 0 63400
 --     end 2 2 0
-never_acknowledged_by_steps : by_steps 1 (noticed ++ (
+never_acknowledged_by_steps : step_by_step 1 (noticed ++ (
     codes "tick 0 3400"
     ∷ codes "tick 0 7400"
     ∷ codes "tick 0 15400"
@@ -182,7 +182,7 @@ never_acknowledged_by_steps : by_steps 1 (noticed ++ (
 unfolding output_on_literals
 never_acknowledged_by_steps = refl
 
--- a page of one line is observed; a second line comes behind it
+-- a page of one line is observed; a second line comes after it
 --     in 0 1000 192.0.2.30:40000: CON 0.01 m=0010 t=c1 [6 x][11 rd-lookup][11 res][15 rt=light-lux][15 count=1]
 --         out 0 192.0.2.30:40000: ACK 2.05 m=0010 t=c1 [4 x0000000000000000][6 x01][12 x28]
 --     in 0 1001 192.0.2.10:5683: CON 0.02 m=0001 t=a1 [11 rd][12 x28][15 ep=node1][15 lt=600] | </temp>;rt="temperature";ct=0,</light>;rt="light-lux";if="sensor"
@@ -215,20 +215,20 @@ second_line_writes =
     ∷ []
     ∷ (codes "out 0 192.0.2.20:61616 61410001a18272640132" ∷ []) ∷ []
 
--- the tick behind it finds the page unchanged, and writes nothing
+-- the tick after it finds the page unchanged, and writes nothing
 --     tick 0 1005
 --     end 2 2 1
-page_unchanged_by_steps : by_steps 1 (second_line ++ codes "tick 0 1005" ∷ [])
+page_unchanged_by_steps : step_by_step 1 (second_line ++ codes "tick 0 1005" ∷ [])
     ≡ map lines (second_line_writes ++ [] ∷ (codes "end 2 2 1" ∷ []) ∷ [])
 unfolding output_on_literals
 page_unchanged_by_steps = refl
 
--- the second line makes the observer due, and behind the tick it is due no more
-due_by_the_second_line : due_behind second_line ≡ true ∷ []
+-- the second line makes the observer due, and after the tick it is due no more
+due_by_the_second_line : due_after second_line ≡ true ∷ []
 unfolding output_on_literals
 due_by_the_second_line = refl
 
-not_due_on_the_same_page : due_behind (second_line ++ codes "tick 0 1005" ∷ []) ≡ false ∷ []
+not_due_on_the_same_page : due_after (second_line ++ codes "tick 0 1005" ∷ []) ≡ false ∷ []
 unfolding output_on_literals
 not_due_on_the_same_page = refl
 
@@ -256,18 +256,18 @@ both_change_writes =
     ∷ (codes "out 0 192.0.2.10:5683 61410001a18272640131" ∷ []) ∷ []
 
 -- both observers are due
-both_due : due_behind both_change ≡ true ∷ true ∷ []
+both_due : due_after both_change ≡ true ∷ true ∷ []
 unfolding output_on_literals
 both_due = refl
 
--- one tick sends one notice, and the tick behind its acknowledgement the other
+-- one tick sends one notice, and the tick after its acknowledgement the other
 --     tick 0 1002
 --         out 0 192.0.2.30:40000: CON 2.05 m=0000 t=c1 [4 x0000000000010000][6 x03][12 x28] | <coap://192.0.2.10/light>;rt="light-lux";if="sensor"
 --     in 0 1003 192.0.2.30:40000: ACK 0.00 m=0000
 --     tick 0 1004
 --         out 0 192.0.2.30:40000: CON 2.05 m=0001 t=c2 [4 x0000000000010000][6 x04][12 x28] | <coap://192.0.2.10/temp>;rt="temperature";ct=0
 --     end 1 1 2
-one_flight_by_steps : by_steps 1 (both_change ++ (
+one_flight_by_steps : step_by_step 1 (both_change ++ (
     codes "tick 0 1002"
     ∷ codes "in 0 1003 192.0.2.30:40000 60000000"
     ∷ codes "tick 0 1004" ∷ []))
@@ -314,7 +314,7 @@ half_fetched_writes =
 -- the last block completes the registration
 --     in 0 1003 192.0.2.10:5683: ACK 2.05 m=0001 t=0000000000000001 [4 xaa][12 x28][23 x10] | "
 --     end 1 1 0
-fetched_by_steps : by_steps 1 (asked ++ (half_fetched ++ (
+fetched_by_steps : step_by_step 1 (asked ++ (half_fetched ++ (
     codes "in 0 1003 192.0.2.10:5683 68450001000000000000000141aa8128b110ff22" ∷ [])))
     ≡ map lines (asked_writes ++ (half_fetched_writes ++ (
     []
@@ -333,7 +333,7 @@ fetched_by_steps = refl
 --         out 0 192.0.2.10:5683: CON 0.01 m=0000 t=0000000000000001 [11 .well-known][11 core]
 --     tick 0 63000
 --     end 0 0 0
-never_answered_by_steps : by_steps 1 (asked ++ (
+never_answered_by_steps : step_by_step 1 (asked ++ (
     codes "tick 0 3000"
     ∷ codes "tick 0 7000"
     ∷ codes "tick 0 15000"
@@ -358,7 +358,7 @@ never_answered_by_steps = refl
 --         out 0 192.0.2.10:5683: ACK 2.04 m=0006 t=e1
 --         out 0 192.0.2.10:5683: CON 0.01 m=0001 t=0000000000000002 [11 .well-known][11 core]
 --     end 0 0 0
-answered_by_an_error_by_steps : by_steps 1 (asked ++ (
+answered_by_an_error_by_steps : step_by_step 1 (asked ++ (
     codes "in 0 1001 192.0.2.10:5683 60000000"
     ∷ codes "in 0 1002 192.0.2.10:5683 48840777000000000000000141aa8128b108ff3c2f613e3b72743d2230313233343536"
     ∷ codes "in 0 1003 192.0.2.10:5683 41020006e1bb2e77656c6c2d6b6e6f776e0272644565703d7331"

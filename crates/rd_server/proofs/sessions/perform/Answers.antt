@@ -1,7 +1,7 @@
 use Rattle.std.proofs.Common.{ap, Ok, subst, ◌<◌, ◌∙◌, arith}
 use Rattle.line_model.specs.declared.lines.Line.{Line}
 use Rattle.rd_server.specs.Journal.{worker_in, workers}
-use Rattle.rd_server.proofs.Performing.{performs_come, performs_go, free}
+use Rattle.rd_server.proofs.StepLaws.{performs_come, performs_go, free}
 use Rattle.rd_server.proofs.sessions.perform.Goals as goal
 
 pub returns-in_ok-come-in-Come : goal.returns-in_ok-come-in-Come

@@ -1,5 +1,5 @@
 use Rattle.std.proofs.Common.{◌∙◌, arith}
-use Rattle.rd_server.proofs.Writing.{more_written}
+use Rattle.rd_server.proofs.WrittenPieces.{more_written}
 use Rattle.rd_server.proofs.sessions.write_all.Goals as goal
 
 pub pieces-preserved : goal.pieces-preserved

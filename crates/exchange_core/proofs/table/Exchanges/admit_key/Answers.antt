@@ -1,7 +1,7 @@
 use Rattle.std.proofs.Common.{◌≡◌, ap, subst, sym, ◌∙◌, arith}
-use Rattle.exchange_core.specs.Rows.{Table, young}
-use Rattle.exchange_core.specs.Standing.{ExchangesStandFor}
-use Rattle.exchange_core.proofs.StandingLaws.{ExchangesStandFor-later, ExchangesStandFor-admitted, repeat_answers, full_answers, fresh_answers, repeat-not_fresh}
+use Rattle.exchange_core.specs.Table.{Table, young}
+use Rattle.exchange_core.specs.ExchangeEvents.{ExchangesStandFor}
+use Rattle.exchange_core.proofs.TableLaws.{ExchangesStandFor-later, ExchangesStandFor-admitted, repeat_answers, full_answers, fresh_answers, repeat-not_fresh}
 use Rattle.exchange_core.proofs.table.Exchanges.admit_key.Goals as goal
 
 pub returns-in-Some-clause-answer : goal.returns-in-Some-clause-answer

@@ -1,7 +1,7 @@
 use Rattle.std.proofs.Common.{◌≤◌, ap, subst, sym, ◌∙◌, length, arith}
-use Rattle.exchange_core.specs.Rows.{Table, InOrder, young}
+use Rattle.exchange_core.specs.Table.{Table, InOrder, young}
 use Rattle.exchange_core.proofs.RowLaws.{InOrder-later, InOrder-young, length-young}
-use Rattle.exchange_core.proofs.StandingLaws.{ExchangesStandFor-aged}
+use Rattle.exchange_core.proofs.TableLaws.{ExchangesStandFor-aged}
 use Rattle.exchange_core.proofs.table.Exchanges.age.Goals as goal
 
 pub drop_old-requires : goal.drop_old-requires

@@ -1,4 +1,4 @@
-use Rattle.exchange_core.proofs.StandingLaws.{ExchangesStandFor-none}
+use Rattle.exchange_core.proofs.TableLaws.{ExchangesStandFor-none}
 use Rattle.exchange_core.proofs.table.Exchanges.make.Goals as goal
 
 pub returns-clause-stands : goal.returns-clause-stands

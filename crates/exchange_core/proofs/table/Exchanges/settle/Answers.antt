@@ -1,8 +1,8 @@
 use Rattle.std.proofs.Common.{◌≡◌, ap, subst, sym, ◌∙◌, length, arith}
-use Rattle.exchange_core.specs.Rows.{Table, InOrder, is_admitted_at, answered_first}
-use Rattle.exchange_core.specs.Standing.{ExchangesStandFor}
+use Rattle.exchange_core.specs.Table.{Table, InOrder, is_admitted_at, answered_first}
+use Rattle.exchange_core.specs.ExchangeEvents.{ExchangesStandFor}
 use Rattle.exchange_core.proofs.RowLaws.{InOrder-answered, length-answered}
-use Rattle.exchange_core.proofs.StandingLaws.{ExchangesStandFor-settled}
+use Rattle.exchange_core.proofs.TableLaws.{ExchangesStandFor-settled}
 use Rattle.exchange_core.proofs.table.Exchanges.settle.Goals as goal
 
 pub invariant_of-self : goal.invariant_of-self

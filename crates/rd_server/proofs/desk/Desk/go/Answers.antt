@@ -1,5 +1,5 @@
 use Rattle.std.proofs.Common.{sym, ◌∙◌}
-use Rattle.rd_server.proofs.Registering.{went, some_value}
+use Rattle.rd_server.proofs.NumberLaws.{went, some_value}
 use Rattle.rd_server.proofs.desk.Desk.go.Goals as goal
 
 pub returns : goal.returns

@@ -1,5 +1,5 @@
 use Rattle.std.proofs.Common.{sym}
-use Rattle.rd_server.proofs.Registering.{gives_again}
+use Rattle.rd_server.proofs.NumberLaws.{gives_again}
 use Rattle.rd_server.proofs.registry.Registry.number_for.Goals as goal
 
 pub returns-in-Some-clause-numbers : goal.returns-in-Some-clause-numbers

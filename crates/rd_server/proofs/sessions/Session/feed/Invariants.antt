@@ -1,5 +1,5 @@
 use Rattle.std.proofs.Common.{◌≡◌, List, ℕ, ◌++◌, length}
-use Rattle.rd_server.specs.Going.{Place, IsAt, Goes}
+use Rattle.rd_server.specs.Sessions.{Place, IsAt, Goes}
 use Rattle.rd_server.proofs.sessions.Session.feed.Given as goal
 
 -- no call failed, and what was fed so far led to where the session is

@@ -1,0 +1,57 @@
+-- The exchanges of the table, the latest first: which is found, and what changes.
+use Rattle.std.specs.Prelude.{ℕ, ◌≤◌, Bool, ◌&&◌, ◌==◌, List, [], ◌∷◌, find, filter, Option, Some, None, option_and_then, if◌then◌else◌}
+use Rattle.rd_base.specs.declared.peers.Peer.{Peer}
+use Rattle.event_model.specs.Same.{is_same_peer}
+use Rattle.event_model.specs.Events.{is_young}
+use Rattle.exchange_core.specs.declared.writes.Keyed.{Keyed}
+use Rattle.exchange_core.specs.declared.writes.Keyed.TheVariants as keyed
+use Rattle.exchange_core.specs.declared.writes.Exchange.{Exchange}
+
+-- what a table of exchanges shows: the greatest moment that was handed to a call that changed it, and its exchanges, the latest first
+pub record Table : Type 0 where
+  pub moment : ℕ
+  pub exchanges : List Exchange
+
+-- a write of a peer under a Message ID
+abbrev pub is_with : Peer → ℕ → Exchange → Bool
+is_with peer mid x = is_same_peer x.peer peer && x.mid == mid
+
+-- that write, admitted at a moment
+abbrev pub is_admitted_at : Peer → ℕ → ℕ → Exchange → Bool
+is_admitted_at peer mid moment x = is_with peer mid x && x.admitted.0 == moment
+
+-- the exchanges that are young at a moment
+abbrev pub young : ℕ → List Exchange → List Exchange
+young now xs = filter (λ x. is_young now x.admitted.0) xs
+
+-- no exchange was admitted after this moment, and each no later than those before it
+abbrev pub InOrder : ℕ → List Exchange → Type 0
+InOrder last [] = Unit {0}
+InOrder last (x ∷ xs) = (x.admitted.0 ≤ last) × InOrder x.admitted.0 xs
+
+-- how a write is answered that repeats one with this answer, or one in flight
+abbrev pub repeating : Option (List ℕ) → Keyed
+repeating None = keyed.InFlight
+repeating (Some reply) = keyed.Kept reply
+
+-- the same where it repeats a write that is young, and none else
+abbrev pub repeating_young : ℕ → Exchange → Option Keyed
+repeating_young now x = if is_young now x.admitted.0 then Some (repeating x.reply) else None
+
+-- the latest with this peer and Message ID decides
+unfoldable pub repeat_among : ℕ → Peer → ℕ → List Exchange → Option Keyed
+repeat_among now peer mid xs = option_and_then (repeating_young now) (find (is_with peer mid) xs)
+
+-- an exchange with its reply
+abbrev pub answered : List ℕ → Exchange → Exchange
+answered reply x = record { peer = x.peer; mid = x.mid; admitted = x.admitted; reply = Some reply }
+
+-- the first that passes a test gets this reply
+unfoldable pub answered_first : (Exchange → Bool) → List ℕ → List Exchange → List Exchange
+answered_first test reply [] = []
+answered_first test reply (x ∷ xs) = if test x then answered reply x ∷ xs else x ∷ answered_first test reply xs
+
+-- the first that passes a test is gone
+unfoldable pub without_first : (Exchange → Bool) → List Exchange → List Exchange
+without_first test [] = []
+without_first test (x ∷ xs) = if test x then xs else x ∷ without_first test xs

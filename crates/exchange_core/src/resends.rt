@@ -1,0 +1,91 @@
+//! Messages that wait for their acknowledgement, and when they are sent again.
+ghost use Rattle.std.specs.Prelude.{◌≡◌, ◌≢◌, [], ◌∷◌, List};
+ghost use Rattle.event_model.specs.Events.{Event};
+ghost use Rattle.exchange_core.specs.Retransmissions.{Resends, due_at};
+
+use rd_base::{Bytes, Moment};
+use std::marker::Model;
+
+/// The first wait is at least so long, in milliseconds (RFC 7252 section 4.8, ACK_TIMEOUT).
+const LEAST_WAIT: u32 = 2_000;
+
+/// So many first waits there are, one millisecond apart (RFC 7252 section 4.8, ACK_RANDOM_FACTOR).
+const WAITS: u32 = 1_001;
+
+/// How often a message is sent again (RFC 7252 section 4.8, MAX_RETRANSMIT).
+const MAX_AGAIN: u8 = 4;
+
+/// What is due of a message that waits for its acknowledgement.
+#[derive(Clone, Copy, Debug, PartialEq, Eq)]
+pub enum Again {
+    /// Its wait has not ended.
+    Wait,
+    /// It is sent again now.
+    Send,
+    /// It was sent again as often as it may be, and its last wait has ended.
+    GaveUp,
+}
+
+/// When a message is sent again: after a first wait, and then after waits that are each twice as long (RFC 7252 section 4.2).
+#[derive(Debug, Drop)]
+pub struct Resend {
+    /// When it was last sent.
+    sent: Moment,
+    /// How long it waits from then on, in milliseconds.
+    wait: u32,
+    /// How often it was sent again.
+    again: u8,
+}
+
+impl Model for Resend {
+    ghost use Rattle.std.specs.Prelude.{ℕ, ◌<◌, ◌≤◌, ◌*◌, ◌^◌};
+    ghost use Rattle.exchange_core.specs.Retransmissions.{Retransmission};
+
+    ghost Value = { Retransmission };
+
+    ghost view = { λ r. record { sent = r.sent.0; wait = r.wait; again = r.again } };
+
+    ghost invariant = { λ r. (0 < r.wait) × (r.again ≤ 4) × (r.wait ≤ 3_000 * 2 ^ r.again) };
+}
+
+impl Resend {
+    /// Of a message that is sent first now, with the word that its first wait is made from.
+    pub fn start(now: Moment, word: u32) -> Resend
+        ensures { (first : Event) → first.moment ≡ now.0 → first.word ≡ word → Resends first [] result }
+    {
+        Resend {
+            sent: now,
+            wait: LEAST_WAIT + word % WAITS,
+            again: 0,
+        }
+    }
+
+    /// What is due now (RFC 7252 section 4.2). A retransmission counts as made now.
+    pub fn at_tick(&mut self, now: Moment) -> Again
+        ensures answer { (first : Event) (others : List Event) → Resends first others self.old → result ≡ due_at now.0 first others }
+        ensures sent { (first : Event) (others : List Event) (again : Event) → again.moment ≡ now.0 → result ≡ Again.Send → Resends first others self.old → Resends first (again ∷ others) self.new }
+        ensures unsent { result ≢ Again.Send → self.new ≡ self.old }
+    {
+        if now.0.saturating_sub(self.sent.0) < u64::from(self.wait) {
+            return Again::Wait;
+        }
+        if self.again == MAX_AGAIN {
+            return Again::GaveUp;
+        }
+        self.sent = now;
+        self.wait *= 2;
+        self.again += 1;
+        Again::Send
+    }
+}
+
+/// A message in flight: its Message ID, its octets, and when it is sent again.
+#[derive(Debug, Drop)]
+pub struct Flight {
+    /// The Message ID, by which it is acknowledged.
+    pub mid: u16,
+    /// The message, as it was sent and is sent again.
+    pub bytes: Bytes,
+    /// When it is sent again, and when it is given up.
+    pub resend: Resend,
+}

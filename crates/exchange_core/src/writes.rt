@@ -1,0 +1,69 @@
+//! A write that was admitted, and how one that repeats it is answered.
+ghost use Rattle.std.specs.Prelude.{◌≡◌, Option};
+ghost use Rattle.event_model.specs.Events.{is_young};
+ghost use Rattle.exchange_core.specs.Table.{is_with, is_admitted_at, repeating};
+
+use crate::Reply;
+use rd_base::{Moment, Peer};
+
+/// How long an exchange lives, in milliseconds (RFC 7252 section 4.8.2, EXCHANGE_LIFETIME).
+const EXCHANGE_LIFETIME: u64 = 247_000;
+
+/// What a write is, by the exchanges that are kept (RFC 7252 section 4.5).
+#[derive(Debug, Drop, PartialEq, Eq)]
+pub enum Keyed {
+    /// It is new, and it was admitted.
+    Fresh,
+    /// It repeats a write that is still in flight: there is no answer yet.
+    InFlight,
+    /// It repeats a write that was answered by these octets.
+    Kept(Reply),
+    /// It is new, and as many exchanges are kept as there is room for.
+    FullExchanges,
+}
+
+/// A write that was admitted, and its answer.
+#[derive(Debug, Drop)]
+pub struct Exchange {
+    /// Who wrote.
+    pub peer: Peer,
+    /// The Message ID of the write.
+    pub mid: u16,
+    /// When it was admitted.
+    pub admitted: Moment,
+    /// The octets that it was answered by; none while it is in flight.
+    pub reply: Option<Reply>,
+}
+
+impl Exchange {
+    /// Whether it is a write of this peer under this Message ID.
+    pub(crate) fn is_with(&self, peer: Peer, mid: u16) -> bool
+        ensures { result ≡ is_with peer mid self.now }
+    {
+        self.peer == peer && self.mid == mid
+    }
+
+    /// Whether it is the write of this peer under this Message ID that was admitted at this moment.
+    pub(crate) fn is_admitted_at(&self, peer: Peer, mid: u16, admitted: Moment) -> bool
+        ensures { result ≡ is_admitted_at peer mid admitted.0 self.now }
+    {
+        self.is_with(peer, mid) && self.admitted == admitted
+    }
+
+    /// Whether it is not older than an exchange lives.
+    pub(crate) fn is_young(&self, now: Moment) -> bool
+        ensures { result ≡ is_young now.0 self.now.admitted.0 }
+    {
+        now.0.saturating_sub(self.admitted.0) < EXCHANGE_LIFETIME
+    }
+
+    /// How a write that repeats it is answered.
+    pub(crate) fn repeated(&self) -> Keyed
+        ensures { result ≡ repeating self.now.reply }
+    {
+        match &self.reply {
+            None => Keyed::InFlight,
+            Some(reply) => Keyed::Kept(reply.copy()),
+        }
+    }
+}
