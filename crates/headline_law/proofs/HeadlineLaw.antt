@@ -1,10 +1,10 @@
 -- The headline: of each journal of the machine, and so of each trace, its registrations, its answers, its tags and its observers are as promised.
 use Rattle.std.proofs.Common.{ℕ, List}
 use Rattle.journal_model.specs.Meantime.{is_never}
-use Rattle.journal_model.specs.Headline.{HoldsEachOnce, AnswersAsFormed, TagsTellStates, ObserversKnow, Headline}
+use Rattle.journal_model.specs.Headline.{HoldsEachOnce, AnswersAsFormed, TagsDecideStates, ObserversKnow, Headline}
 use Rattle.headline_law.proofs.entries.HoldsEachOnce.{journal-HoldsEachOnce}
 use Rattle.headline_law.proofs.rows.AnswersAsFormed.{answers_as_formed}
-use Rattle.headline_law.proofs.entries.TagStates.{journal-TagsTellStates}
+use Rattle.headline_law.proofs.entries.TagStates.{journal-TagsDecideStates}
 use Rattle.headline_law.proofs.observers.ObserversKnow.{journal-ObserversKnow}
 use Rattle.trace_model.specs.Steps.{traced}
 use Rattle.trace_model.proofs.JournalLaw.{traced-IsJournal}
@@ -16,7 +16,7 @@ pub journal-Headline : (rows : List Row) → IsJournal rows → Headline rows
 journal-Headline rows journal = record {
   changes = journal-HoldsEachOnce rows journal;
   answers = answers_as_formed rows journal;
-  tags = journal-TagsTellStates rows journal;
+  tags = journal-TagsDecideStates rows journal;
   observers = journal-ObserversKnow rows journal;
 }
 
@@ -34,8 +34,8 @@ trace-AnswersAsFormed workers bytes = answers_as_formed (traced is_never workers
 
 -- equal tags mean one state
 -- An end theorem: nothing here cites it.
-pub trace-TagsTellStates : (workers : ℕ) (bytes : List ℕ) → TagsTellStates (traced is_never workers bytes).journal
-trace-TagsTellStates workers bytes = journal-TagsTellStates (traced is_never workers bytes).journal (traced-IsJournal workers bytes)
+pub trace-TagsDecideStates : (workers : ℕ) (bytes : List ℕ) → TagsDecideStates (traced is_never workers bytes).journal
+trace-TagsDecideStates workers bytes = journal-TagsDecideStates (traced is_never workers bytes).journal (traced-IsJournal workers bytes)
 
 -- an observer that is not due knows the listing
 -- An end theorem: nothing here cites it.

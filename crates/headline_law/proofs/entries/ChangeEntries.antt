@@ -26,12 +26,12 @@ use Rattle.event_model.specs.Fetches.{max_fetches, fetches, is_fetching}
 use Rattle.journal_model.specs.declared.steps.Step.{Step}
 use Rattle.journal_model.specs.declared.rows.Row.{Row}
 use Rattle.journal_model.specs.Journal.{events, entries}
-use Rattle.journal_model.specs.Sending.{answering}
+use Rattle.journal_model.specs.Effects.{answering}
 use Rattle.journal_model.specs.Requests.{sent_block}
-use Rattle.journal_model.specs.Changes.{Outcome, refused_as, entered_unless, change_made, BodyRead, bad_body, good_body, limited_links, links_or_bad, body_read, registered_links, registration, created_at, number_behind, entry_by}
-use Rattle.journal_model.specs.Uploading.{collected_before, is_one_too_many, block_taken, block_unless, block_behind, block_uploaded, registered_by, registering}
+use Rattle.journal_model.specs.Changes.{Outcome, refused_as, entered_unless, change_made, BodyRead, bad_body, good_body, limited_links, links_or_bad, body_read, registered_links, registration, created_at, number_after, entry_of_step}
+use Rattle.journal_model.specs.Registrations.{collected_before, is_one_too_many, block_taken, block_unless, block_after, block_uploaded, registration_outcome, registering}
 use Rattle.journal_model.specs.Commits.{settling, simple_unless, on_location, write_done, commit_effects}
-use Rattle.journal_model.specs.Headline.{code_sent, names_location, is_telling}
+use Rattle.journal_model.specs.Headline.{code_sent, names_location, is_code_of_change}
 use Rattle.journal_model.proofs.EntriesNoted.{entries_in, NotesNext, none, one, entries_in-append}
 use Rattle.message_model.specs.declared.messages.Unread.{Unread}
 use Rattle.message_model.specs.Reading.{reading}
@@ -63,11 +63,11 @@ ChangeEntry-none history moment notes reports (one_change entry h at good accept
 
 -- what comes of a write, for a path that is a location or is none
 abbrev pub OutcomeEntry : List Entry → ℕ → Outcome → Bool → Type 0
-OutcomeEntry history moment outcome of_location = ChangeEntry history moment outcome.notes (is_telling outcome.reply.code of_location)
+OutcomeEntry history moment outcome of_location = ChangeEntry history moment outcome.notes (is_code_of_change outcome.reply.code of_location)
 
 -- a change is refused, or its entry is noted
 change_made-OutcomeEntry : (history : List Entry) (moment : ℕ) (entry : Entry) (outcome : Outcome) (l : Bool) → entry.moment.0 ≡ moment → HasGoodBody entry.change → entries_in outcome.notes ≡ []
-    → is_telling outcome.reply.code l ≡ true → OutcomeEntry history moment (change_made history entry outcome) l
+    → is_code_of_change outcome.reply.code l ≡ true → OutcomeEntry history moment (change_made history entry outcome) l
 change_made-OutcomeEntry history moment entry outcome l at good silent reports = by (change_refusal 0 history entry) refl
   where
     refused : (why : Refusal) → OutcomeEntry history moment (refused_as why) l
@@ -108,8 +108,8 @@ registration-OutcomeEntry history moment s params body further notes l silent = 
     by : (read : BodyRead) → body_read body ≡ read → OutcomeEntry history moment (registered_links history moment s params further notes read) l
     by (bad_body word) e = bad word
     by (good_body links) e =
-        let entry : Entry = entry_by moment s (change.Register params links) in
-        change_made-OutcomeEntry history moment entry (record { reply = created_at (number_behind params.name moment (history ++ entry ∷ [])) further; notes = notes }) l refl
+        let entry : Entry = entry_of_step moment s (change.Register params links) in
+        change_made-OutcomeEntry history moment entry (record { reply = created_at (number_after params.name moment (history ++ entry ∷ [])) further; notes = notes }) l refl
         (body_read-good body params links e) silent refl
 
 -- a registration, whole or a block of one
@@ -126,12 +126,12 @@ registering-OutcomeEntry rows moment s m l = by (sent_block m)
     unless false true b body = no_change refl refl
     unless false false b body = taken b.more b body
 
-    after : (front upload : Option (List ℕ)) (b : Block) → OutcomeEntry (entries rows) moment (block_behind front upload rows moment s m b) l
+    after : (front upload : Option (List ℕ)) (b : Block) → OutcomeEntry (entries rows) moment (block_after front upload rows moment s m b) l
     after None upload b = no_change refl refl
     after (Some front) upload b =
         unless (nat_lt max_body (length front + length m.payload)) (is_one_too_many b upload (live_uploads moment (events rows))) b (front ++ m.payload)
 
-    by : (b : Option Block) → OutcomeEntry (entries rows) moment (registered_by b rows moment s m) l
+    by : (b : Option Block) → OutcomeEntry (entries rows) moment (registration_outcome b rows moment s m) l
     by None = registration-OutcomeEntry (entries rows) moment s (registration_values (queries_in m)) m.payload [] [] l refl
     by (Some b) =
         let upload : Option (List ℕ) = live_upload moment (s.peer, key_in m) (events rows) in
@@ -139,7 +139,7 @@ registering-OutcomeEntry rows moment s m l = by (sent_block m)
 
 -- the answer has the code of what came of the write, and settling it notes no entry
 settling-ChangeEntry : (history : List Entry) (moment place : ℕ) (s : Step) (m : Message) (outcome : Outcome) (l : Bool) → OutcomeEntry history moment outcome l
-    → ChangeEntry history moment (settling place s m outcome).notes (is_telling (code_sent (settling place s m outcome).sent) l)
+    → ChangeEntry history moment (settling place s m outcome).notes (is_code_of_change (code_sent (settling place s m outcome).sent) l)
 unfolding answering spelling header_spelling
 settling-ChangeEntry history moment place s m outcome l (no_change h reports) = no_change (entries_in-append outcome.notes _ ∙ ap (λ entries. entries ++ []) h) reports
 settling-ChangeEntry history moment place s m outcome l (one_change entry h at good accepted reports) =
@@ -147,12 +147,12 @@ settling-ChangeEntry history moment place s m outcome l (one_change entry h at g
 
 -- a commit of a write that was read
 pub commit_effects-ChangeEntry : (rows : List Row) (moment place : ℕ) (s : Step) (m : Message)
-    → ChangeEntry (entries rows) moment (commit_effects rows moment place s m).notes (is_telling (code_sent (commit_effects rows moment place s m).sent) (is_location (path_in m)))
+    → ChangeEntry (entries rows) moment (commit_effects rows moment place s m).notes (is_code_of_change (code_sent (commit_effects rows moment place s m).sent) (is_location (path_in m)))
 unfolding commit_effects answering spelling header_spelling
 commit_effects-ChangeEntry rows moment place s m = by (path_in m)
   where
     simple : (running too_many : Bool)
-        → ChangeEntry (entries rows) moment (simple_unless running too_many (events rows) place s m).notes (is_telling (code_sent (simple_unless running too_many (events rows) place s m).sent) false)
+        → ChangeEntry (entries rows) moment (simple_unless running too_many (events rows) place s m).notes (is_code_of_change (code_sent (simple_unless running too_many (events rows) place s m).sent) false)
     simple true too_many = no_change refl refl
     simple false true = no_change refl refl
     simple false false = no_change refl refl
@@ -161,7 +161,7 @@ commit_effects-ChangeEntry rows moment place s m = by (path_in m)
     location true number = change_made-OutcomeEntry (entries rows) moment _ _ true refl tt refl refl
     location false number = change_made-OutcomeEntry (entries rows) moment _ _ true refl tt refl refl
 
-    by : (p : Path) → ChangeEntry (entries rows) moment (write_done p rows moment place s m).notes (is_telling (code_sent (write_done p rows moment place s m).sent) (is_location p))
+    by : (p : Path) → ChangeEntry (entries rows) moment (write_done p rows moment place s m).notes (is_code_of_change (code_sent (write_done p rows moment place s m).sent) (is_location p))
     by path.Core = no_change refl refl
     by path.SimpleRd = simple (is_fetching s.peer (events rows)) (nat_le max_fetches (length (fetches (events rows))))
     by path.Rd = settling-ChangeEntry (entries rows) moment place s m (registering rows moment s m) false (registering-OutcomeEntry rows moment s m false)
@@ -174,12 +174,12 @@ commit_effects-ChangeEntry rows moment place s m = by (path_in m)
 -- a commit has an entry exactly where its answer reports a change
 pub commit-ChangeEntry : (place : ℕ) (starved : Bool) (rows : List Row) (moment : ℕ) (s : Step)
     → ChangeEntry (entries rows) moment (effects (step.Commit place) starved rows moment s).notes
-    (is_telling (code_sent (effects (step.Commit place) starved rows moment s).sent) (names_location (reading s.datagram)))
+    (is_code_of_change (code_sent (effects (step.Commit place) starved rows moment s).sent) (names_location (reading s.datagram)))
 unfolding effects answering spelling header_spelling
 commit-ChangeEntry place starved rows moment s = by starved (reading s.datagram)
   where
     by : (b : Bool) (read : Result Message Unread)
-        → ChangeEntry (entries rows) moment (done b rows moment place s read).notes (is_telling (code_sent (done b rows moment place s read).sent) (names_location read))
+        → ChangeEntry (entries rows) moment (done b rows moment place s read).notes (is_code_of_change (code_sent (done b rows moment place s read).sent) (names_location read))
     by b (Err fault) = no_change refl refl
     by true (Ok m) = no_change refl refl
     by false (Ok m) = commit_effects-ChangeEntry rows moment place s m

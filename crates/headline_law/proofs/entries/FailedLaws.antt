@@ -6,7 +6,7 @@ use Rattle.event_model.specs.declared.notes.Note.{Note}
 use Rattle.event_model.specs.Events.{has_event, exchange_lifetime}
 use Rattle.event_model.specs.Repeats.{is_admission_of, is_failure_of, repeated}
 use Rattle.event_model.proofs.KeptLaws.{last_failed}
-use Rattle.event_model.proofs.Noting.{has_event-noted, last_event-before, Found, last_event-here}
+use Rattle.event_model.proofs.NotedLaws.{has_event-noted, last_event-before, Found, last_event-here}
 use Rattle.journal_model.specs.declared.rows.Row.{Row}
 use Rattle.journal_model.specs.Journal.{events, latest}
 use Rattle.journal_model.specs.Machine.{IsJournal}

@@ -7,7 +7,7 @@ use Rattle.journal_model.specs.declared.rows.Row.{Row}
 use Rattle.journal_model.specs.Journal.{entries, entries_of}
 use Rattle.journal_model.specs.Rows.{effects, row_moment, row}
 use Rattle.journal_model.specs.Machine.{IsJournal}
-use Rattle.journal_model.specs.Headline.{Within, Commits, IsCompletion, is_telling, code_sent, names_location, tells_change, HoldsEachOnce}
+use Rattle.journal_model.specs.Headline.{Within, Commits, IsCompletion, is_code_of_change, code_sent, names_location, answers_change, HoldsEachOnce}
 use Rattle.headline_law.proofs.entries.JournalLaws.{Made, each_row, journal-HasHistory, journal-single}
 use Rattle.headline_law.proofs.entries.ChangeEntries.{ChangeEntry, ChangeEntry-one, ChangeEntry-none, commit-ChangeEntry}
 use Rattle.headline_law.proofs.entries.RowLaws.{row-origin}
@@ -16,16 +16,16 @@ use Rattle.headline_law.proofs.entries.FailedLaws.{journal-failed}
 
 -- the row of a commit has an entry exactly where its answer reports a change
 row-ChangeEntry : (rows : List Row) (s : Step) (starved : Bool) (place : ℕ) → Commits (row rows s starved) place
-    → ChangeEntry (entries rows) (row rows s starved).moment.0 (row rows s starved).notes (tells_change (row rows s starved))
+    → ChangeEntry (entries rows) (row rows s starved).moment.0 (row rows s starved).notes (answers_change (row rows s starved))
 unfolding row
 row-ChangeEntry rows s starved place commits =
-    subst (λ (k : StepKind). ChangeEntry (entries rows) (row_moment rows s) (effects k starved rows (row_moment rows s) s).notes (is_telling (code_sent (effects k starved rows (row_moment rows s) s).sent) (names_location (reading s.datagram))))
+    subst (λ (k : StepKind). ChangeEntry (entries rows) (row_moment rows s) (effects k starved rows (row_moment rows s) s).notes (is_code_of_change (code_sent (effects k starved rows (row_moment rows s) s).sent) (names_location (reading s.datagram))))
     (sym commits) (commit-ChangeEntry place starved rows (row_moment rows s) s)
 
-commit_entry : (rows before : List Row) (r : Row) (place : ℕ) → IsJournal rows → Within rows before r → Commits r place → ChangeEntry (entries before) r.moment.0 r.notes (tells_change r)
+commit_entry : (rows before : List Row) (r : Row) (place : ℕ) → IsJournal rows → Within rows before r → Commits r place → ChangeEntry (entries before) r.moment.0 r.notes (answers_change r)
 commit_entry rows before r place journal within commits =
     let it : Made before r = each_row rows before r journal within in
-    subst (λ (x : Row). ChangeEntry (entries before) x.moment.0 x.notes (tells_change x)) (sym it.is)
+    subst (λ (x : Row). ChangeEntry (entries before) x.moment.0 x.notes (answers_change x)) (sym it.is)
     (row-ChangeEntry before it.step it.starved place (subst (λ (x : Row). Commits x place) it.is commits))
 
 -- so it is in each journal of the machine
@@ -34,8 +34,8 @@ journal-HoldsEachOnce rows journal = record {
   legal = (journal-HasHistory rows journal).legal;
   single = λ before r within. journal-single rows before r journal within;
   origin = λ before r within some. origin before r within some;
-  answered = λ before r place within commits reports. ChangeEntry-one (entries before) r.moment.0 r.notes (tells_change r) (commit_entry rows before r place journal within commits) reports;
-  untold = λ before r place within commits reports. ChangeEntry-none (entries before) r.moment.0 r.notes (tells_change r) (commit_entry rows before r place journal within commits) reports;
+  answered = λ before r place within commits reports. ChangeEntry-one (entries before) r.moment.0 r.notes (answers_change r) (commit_entry rows before r place journal within commits) reports;
+  enters_none = λ before r place within commits reports. ChangeEntry-none (entries before) r.moment.0 r.notes (answers_change r) (commit_entry rows before r place journal within commits) reports;
   once = λ before earlier r other place within further commits again. journal-once rows before earlier r other place journal within further commits again;
   failed = λ before earlier r other peer mid within further now then close. journal-failed rows before earlier r other peer mid journal within further now then close;
 }

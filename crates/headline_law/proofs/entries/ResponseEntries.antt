@@ -17,7 +17,7 @@ use Rattle.journal_model.specs.declared.steps.Step.{Step}
 use Rattle.journal_model.specs.declared.rows.Row.{Row}
 use Rattle.journal_model.specs.Journal.{events, entries}
 use Rattle.journal_model.specs.Changes.{registration}
-use Rattle.journal_model.specs.Responses.{fetch_of, strange, acknowledgement, more_follow, block_in, is_elsewhere, ends_fetch, completed, gathering, response_taken, response_to, response_by, response_effects}
+use Rattle.journal_model.specs.Responses.{fetch_of, strange, acknowledgement, more_follow, block_in, is_elsewhere, ends_fetch, completed, gathering, response_taken, response_to, response_to_request, response_effects}
 use Rattle.journal_model.specs.Headline.{is_end_of_fetch}
 use Rattle.journal_model.proofs.EntriesNoted.{entries_in, none-append, NotesNext, NotesNext-after, NotesNext-before}
 use Rattle.headline_law.proofs.entries.ChangeEntries.{registration-OutcomeEntry, ChangeEntry-NotesNext}
@@ -75,7 +75,7 @@ response_effects-EntryHeard rows moment s m = by (fetch_of s m (events rows))
     taken false true request = silent refl
     taken false false request = gathers (more_follow (block_in m)) (block_in m) request
 
-    by : (request : Option Request) → EntryHeard s.peer (entries rows) moment (response_by request rows moment s m).notes
+    by : (request : Option Request) → EntryHeard s.peer (entries rows) moment (response_to_request request rows moment s m).notes
     by None = silent (foreign m.kind)
     by (Some request) =
         EntryHeard-after s.peer (entries rows) moment (acknowledgement s m m.kind).notes (response_to rows moment s m request).notes (acknowledged m.kind)

@@ -8,7 +8,7 @@ use Rattle.history_model.proofs.TagLaws.{tag_from_tells, listing-live}
 use Rattle.journal_model.specs.declared.rows.Row.{Row}
 use Rattle.journal_model.specs.Journal.{entries, latest}
 use Rattle.journal_model.specs.Machine.{IsJournal, made}
-use Rattle.journal_model.specs.Headline.{Within, TagsTellStates}
+use Rattle.journal_model.specs.Headline.{Within, TagsDecideStates}
 use Rattle.headline_law.proofs.entries.JournalLaws.{Made, each_row, HasHistory, journal-HasHistory, journal-moments, entries-IsFront}
 
 -- a row with the rows before it is a journal
@@ -35,8 +35,8 @@ tags_tell rows before other_before r other journal here there same =
     (in_time rows before r journal here) (in_time rows other_before other journal there) same
 
 -- equally tagged answers come from one state
-pub journal-TagsTellStates : (rows : List Row) → IsJournal rows → TagsTellStates rows
-journal-TagsTellStates rows journal = record {
+pub journal-TagsDecideStates : (rows : List Row) → IsJournal rows → TagsDecideStates rows
+journal-TagsDecideStates rows journal = record {
   histories = λ before other_before r other here there same. (tags_tell rows before other_before r other journal here there same).0;
   records = λ before other_before r other here there same. (tags_tell rows before other_before r other journal here there same).1;
 }
@@ -48,4 +48,4 @@ pub journal-listings : (rows before other_before : List Row) (r other : Row) (qu
     → listing query (entries (r ∷ before)) r.moment.0 ≡ listing query (entries (other ∷ other_before)) other.moment.0
 journal-listings rows before other_before r other query journal here there same =
     listing-live query (entries (r ∷ before)) (entries (other ∷ other_before)) r.moment.0 other.moment.0
-    ((journal-TagsTellStates rows journal).records before other_before r other here there same)
+    ((journal-TagsDecideStates rows journal).records before other_before r other here there same)

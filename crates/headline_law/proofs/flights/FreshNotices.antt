@@ -15,10 +15,10 @@ use Rattle.event_model.specs.Events.{Event, noted}
 use Rattle.event_model.specs.Observers.{name_of, observers}
 use Rattle.event_model.specs.Flights.{flight, is_forming_for}
 use Rattle.event_model.proofs.SameLaws.{is_same_peer-refl, is_same_peer-Decides}
-use Rattle.event_model.proofs.Noting.{event_at, noted-append}
+use Rattle.event_model.proofs.NotedLaws.{event_at, noted-append}
 use Rattle.journal_model.specs.declared.rows.Row.{Row}
 use Rattle.journal_model.specs.Journal.{events}
-use Rattle.journal_model.specs.Sending.{Effects}
+use Rattle.journal_model.specs.Effects.{Effects}
 use Rattle.journal_model.specs.Headline.{has_listing, forms_notice}
 use Rattle.rd_base.proofs.lemmas.Among.{Among}
 use Rattle.journal_model.proofs.FlightKeys.{flight_key, is_landing, key_same_all, key_formed}

@@ -12,7 +12,7 @@ use Rattle.event_model.specs.Same.{is_same_peer}
 use Rattle.event_model.specs.Events.{noted}
 use Rattle.event_model.specs.Observers.{name_of, observers}
 use Rattle.event_model.specs.Flights.{is_forming_for}
-use Rattle.event_model.proofs.Noting.{Found, last_event-here}
+use Rattle.event_model.proofs.NotedLaws.{Found, last_event-here}
 use Rattle.journal_model.specs.declared.rows.Row.{Row}
 use Rattle.journal_model.specs.Journal.{events, entries, row_at}
 use Rattle.journal_model.specs.Headline.{Placed, last_row, forms_notice, former_of_notice}

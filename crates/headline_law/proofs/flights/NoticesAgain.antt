@@ -16,8 +16,8 @@ use Rattle.event_model.proofs.SameLaws.{is_same_peer-Decides, is_same_peer-refl}
 use Rattle.event_model.proofs.ObserverLaws.{observers-apart, Only, apart_only}
 use Rattle.journal_model.specs.declared.rows.Row.{Row}
 use Rattle.journal_model.specs.Journal.{events, row_at}
-use Rattle.journal_model.specs.Sending.{Effects}
-use Rattle.journal_model.specs.Ticks.{sent_by, sent_again, each_of, notice_again, flight_again, notices_again}
+use Rattle.journal_model.specs.Effects.{Effects}
+use Rattle.journal_model.specs.Ticks.{confirmable_sent, sent_again, each_of, notice_again, flight_again, notices_again}
 use Rattle.journal_model.proofs.NoteKinds.{of_again, none_of}
 use Rattle.journal_model.proofs.StepNotes.{notices_again-notes}
 use Rattle.headline_law.proofs.sends.TickSends.{sent_by-FoundSent, each_of_sent}
@@ -48,7 +48,7 @@ pub record AgainSent (rows : List Row) (moment : ℕ) (d : Peer × List ℕ) : T
   pub observer : Observer
   pub flight_is : Flight
   pub again : IsAgain rows moment observer flight_is
-  pub found : sent_by (row_at flight_is.formed.place rows) observer.peer flight_is.mid ≡ Some d
+  pub found : confirmable_sent (row_at flight_is.formed.place rows) observer.peer flight_is.mid ≡ Some d
   pub noted : list_any (is_again_of observer.peer flight_is.mid) (notices_again rows moment).notes ≡ true
 
 -- the peer of what is sent again
@@ -87,15 +87,15 @@ again_sends rows moment =
         → AllByRecursion (AgainSent rows moment) (notice_again b c rows o f).sent
     again false c o f stands flies over more = tt
     again true true o f stands flies over more = tt
-    again true false o f stands flies over more = sent (sent_by (row_at f.formed.place rows) o.peer f.mid) refl
+    again true false o f stands flies over more = sent (confirmable_sent (row_at f.formed.place rows) o.peer f.mid) refl
       where
         noted_here : list_any (is_again_of o.peer f.mid) (flight_again rows moment o (flight o (events rows))).notes ≡ true
         noted_here =
             subst (λ x. list_any (is_again_of o.peer f.mid) (flight_again rows moment o x).notes ≡ true) (sym flies)
             (subst (λ b. list_any (is_again_of o.peer f.mid) (notice_again b (nat_le max_again (length f.again)) rows o f).notes ≡ true) (sym over)
-            (subst (λ c. list_any (is_again_of o.peer f.mid) (notice_again true c rows o f).notes ≡ true) (sym more) (here o f (sent_by (row_at f.formed.place rows) o.peer f.mid))))
+            (subst (λ c. list_any (is_again_of o.peer f.mid) (notice_again true c rows o f).notes ≡ true) (sym more) (here o f (confirmable_sent (row_at f.formed.place rows) o.peer f.mid))))
 
-        sent : (d : Option (Peer × List ℕ)) → sent_by (row_at f.formed.place rows) o.peer f.mid ≡ d → AllByRecursion (AgainSent rows moment) (sent_again d (note.Again o.peer f.mid)).sent
+        sent : (d : Option (Peer × List ℕ)) → confirmable_sent (row_at f.formed.place rows) o.peer f.mid ≡ d → AllByRecursion (AgainSent rows moment) (sent_again d (note.Again o.peer f.mid)).sent
         sent None e = tt
         sent (Some d) e = (
           record {
@@ -127,7 +127,7 @@ again_notes rows moment =
         → AllByRecursion (AgainNoted rows moment) (notice_again b c rows o f).notes
     again false c o f stands flies over more = tt
     again true true o f stands flies over more = (tt, tt)
-    again true false o f stands flies over more = sent o f (sent_by (row_at f.formed.place rows) o.peer f.mid) (record { stands = stands; flies = flies; over = over; again = more })
+    again true false o f stands flies over more = sent o f (confirmable_sent (row_at f.formed.place rows) o.peer f.mid) (record { stands = stands; flies = flies; over = over; again = more })
 
     flying : (o : Observer) → Among o (observers (events rows)) → (f : Option Flight) → flight o (events rows) ≡ f → AllByRecursion (AgainNoted rows moment) (flight_again rows moment o f).notes
     flying o stands None flies = tt

@@ -13,7 +13,7 @@ use Rattle.event_model.specs.Same.{is_same_peer}
 use Rattle.event_model.specs.Events.{noted}
 use Rattle.event_model.specs.Observers.{name_of, observers}
 use Rattle.event_model.specs.Flights.{is_forming_for}
-use Rattle.event_model.proofs.Noting.{noted-append}
+use Rattle.event_model.proofs.NotedLaws.{noted-append}
 use Rattle.journal_model.specs.declared.rows.Row.{Row}
 use Rattle.journal_model.specs.Journal.{events, entries, row_at}
 use Rattle.journal_model.specs.Headline.{last_row, forms_notice}

@@ -17,9 +17,9 @@ use Rattle.event_model.proofs.ObserverLaws.{observers-apart, Only, apart_only}
 use Rattle.journal_model.specs.declared.steps.Step.{Step}
 use Rattle.journal_model.specs.declared.rows.Row.{Row}
 use Rattle.journal_model.specs.Journal.{entries}
-use Rattle.journal_model.specs.Sending.{Effects, mid_of}
+use Rattle.journal_model.specs.Effects.{Effects, mid_of}
 use Rattle.journal_model.specs.Bodies.{is_long}
-use Rattle.journal_model.specs.Ticks.{max_notices, first_block, block_told, listing_for, is_given, is_looked_at, events_with, ticking, noticed_unless, noticed_if, notice_next, notices_again, notices}
+use Rattle.journal_model.specs.Ticks.{max_notices, first_block, block_shown, listing_for, is_unchanged, is_looked_at, events_with, ticking, noticed_unless, noticed_if, notice_next, notices_again, notices}
 use Rattle.headline_law.proofs.sends.BodyAnswers.{tag-length, body_bears}
 use Rattle.rd_base.proofs.lemmas.Among.{Among, all_among, among_all}
 use Rattle.journal_model.proofs.FlightKeys.{is_landing}
@@ -82,7 +82,7 @@ tick_step rows moment s x done stands small it = looked (is_looked_at (ticking r
       only = only;
       free = not_waited e;
       notice = body_bears Con (mid_of s.worker (s.drawn + done.drew)) x.token (tag (entries rows) moment) (Some (observe_value (events_with (ticking rows moment s) done)))
-          (block_told x (listing x.query (entries rows) moment)) (listing x.query (entries rows) moment) small (tag-length (entries rows) moment);
+          (block_shown x (listing x.query (entries rows) moment)) (listing x.query (entries rows) moment) small (tag-length (entries rows) moment);
       forms_none = λ o. kept_does (is_forming_for (name_of o)) (λ p k b c. refl) (is_long (first_block x) (listing x.query (entries rows) moment)) x.peer x.key _ _;
       lands_none = kept_does is_landing (λ p k b c. refl) (is_long (first_block x) (listing x.query (entries rows) moment)) x.peer x.key _ _;
       changes_none = kept_does changes_observers (λ p k b c. refl) (is_long (first_block x) (listing x.query (entries rows) moment)) x.peer x.key _ _;
@@ -103,7 +103,7 @@ tick_step rows moment s x done stands small it = looked (is_looked_at (ticking r
       notes = done.notes ++ (noticed_if b (ticking rows moment s) done x).notes;
       drew = done.drew + (noticed_if b (ticking rows moment s) done x).drew;
     })
-    looked true e = unless (is_given (last_body_formed (name_of x) (events_with (ticking rows moment s) done)) (listing_for (ticking rows moment s) x).body) e
+    looked true e = unless (is_unchanged (last_body_formed (name_of x) (events_with (ticking rows moment s) done)) (listing_for (ticking rows moment s) x).body) e
     looked false e = so_far_quiet rows moment s.word done [] (done.drew + 0) (λ o. refl) refl refl (λ peer. refl) tt it
 
 -- all of them

@@ -11,13 +11,13 @@ use Rattle.event_model.specs.declared.notes.Note.TheVariants as note
 use Rattle.event_model.specs.declared.notes.Observer.{Observer}
 use Rattle.event_model.specs.Same.{RequestName, is_same_peer, is_same_request}
 use Rattle.event_model.specs.Events.{Event, noted}
-use Rattle.event_model.specs.Observers.{name_of, is_end_of, watched_by, observers}
+use Rattle.event_model.specs.Observers.{name_of, is_end_of, observer_added, observers}
 use Rattle.event_model.specs.Flights.{Flight, max_again, deadline, flight, is_waited_for}
-use Rattle.event_model.proofs.Noting.{event_at}
+use Rattle.event_model.proofs.NotedLaws.{event_at}
 use Rattle.event_model.proofs.ObserverLaws.{Only}
 use Rattle.journal_model.specs.declared.rows.Row.{Row}
 use Rattle.journal_model.specs.Journal.{events, row_at}
-use Rattle.journal_model.specs.Ticks.{sent_by, sent_again, each_of, notice_again, flight_again, notices_again}
+use Rattle.journal_model.specs.Ticks.{confirmable_sent, sent_again, each_of, notice_again, flight_again, notices_again}
 use Rattle.rd_base.proofs.lemmas.Among.{Among, any_among, among_front, among_filter}
 use Rattle.journal_model.proofs.FlightKeys.{key_of, flight_key}
 use Rattle.std.proofs.lemmas.Bool.{or_parts}
@@ -38,7 +38,7 @@ none_ends (note.Unwatched peer token) h o = absurd (false≢true (sym h))
 none_ends _ h o = refl
 
 -- and adds nobody
-none_added : (n : Note) → changes_observers n ≡ false → watched_by n ≡ []
+none_added : (n : Note) → changes_observers n ≡ false → observer_added n ≡ []
 none_added (note.Watched x) h = absurd (false≢true (sym h))
 none_added _ h = refl
 
@@ -61,7 +61,7 @@ stands_on o place moment word [] before quiet stands = stands
 stands_on o place moment word (n ∷ notes) before quiet stands =
     let both = or_parts (is_end_of n (name_of o)) (list_any (λ x. is_end_of x (name_of o)) notes) quiet in
     stands_on o place moment word notes (event_at place moment word n ∷ before) both.1
-    (among_front o (filter (λ x. not (is_end_of n (name_of x))) (observers before)) (watched_by n)
+    (among_front o (filter (λ x. not (is_end_of n (name_of x))) (observers before)) (observer_added n)
     (among_filter (λ x. not (is_end_of n (name_of x))) o (observers before) stands (ap not both.0)))
 
 -- ---- whom is waited for
@@ -113,7 +113,7 @@ again_stays rows moment o f it =
     by : (b c : Bool) → b ≡ true → c ≡ false → list_any (λ n. is_end_of n (name_of o)) (notice_again b c rows o f).notes ≡ false
     by false c over again = absurd (false≢true over)
     by true true over again = absurd (false≢true (sym again))
-    by true false over again = again_ends_none (sent_by (row_at f.formed.place rows) o.peer f.mid) o.peer f.mid (name_of o)
+    by true false over again = again_ends_none (confirmable_sent (row_at f.formed.place rows) o.peer f.mid) o.peer f.mid (name_of o)
 
 -- another observer's part does not name it
 other_stays : (rows : List Row) (moment : ℕ) (o x : Observer) → is_same_request (name_of x) (name_of o) ≡ false → list_any (λ n. is_end_of n (name_of o)) (again_of rows moment x) ≡ false
@@ -122,7 +122,7 @@ other_stays rows moment o x apart = by (flight x (events rows))
     again : (b c : Bool) (f : Flight) → list_any (λ n. is_end_of n (name_of o)) (notice_again b c rows x f).notes ≡ false
     again false c f = refl
     again true true f = rw apart refl
-    again true false f = again_ends_none (sent_by (row_at f.formed.place rows) x.peer f.mid) x.peer f.mid (name_of o)
+    again true false f = again_ends_none (confirmable_sent (row_at f.formed.place rows) x.peer f.mid) x.peer f.mid (name_of o)
 
     by : (f : Option Flight) → list_any (λ n. is_end_of n (name_of o)) (flight_again rows moment x f).notes ≡ false
     by None = refl

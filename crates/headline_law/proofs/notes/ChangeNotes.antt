@@ -25,12 +25,12 @@ use Rattle.event_model.specs.Fetches.{Request, max_fetches, fetches, is_fetching
 use Rattle.journal_model.specs.declared.steps.Step.{Step}
 use Rattle.journal_model.specs.declared.rows.Row.{Row}
 use Rattle.journal_model.specs.Journal.{events, entries}
-use Rattle.journal_model.specs.Sending.{answering}
+use Rattle.journal_model.specs.Effects.{answering}
 use Rattle.journal_model.specs.Requests.{sent_block}
-use Rattle.journal_model.specs.Changes.{Outcome, refused_as, entered_unless, change_made, BodyRead, bad_body, good_body, body_read, registered_links, registration, created_at, number_behind, entry_by}
-use Rattle.journal_model.specs.Uploading.{collected_before, is_one_too_many, block_taken, block_unless, block_behind, block_uploaded, registered_by, registering}
+use Rattle.journal_model.specs.Changes.{Outcome, refused_as, entered_unless, change_made, BodyRead, bad_body, good_body, body_read, registered_links, registration, created_at, number_after, entry_of_step}
+use Rattle.journal_model.specs.Registrations.{collected_before, is_one_too_many, block_taken, block_unless, block_after, block_uploaded, registration_outcome, registering}
 use Rattle.journal_model.specs.Commits.{settling, simple_unless, on_location, write_done, commit_effects}
-use Rattle.journal_model.specs.Responses.{fetch_of, strange, acknowledgement, more_follow, block_in, is_elsewhere, ends_fetch, completed, gathering, response_taken, response_to, response_by, response_effects}
+use Rattle.journal_model.specs.Responses.{fetch_of, strange, acknowledgement, more_follow, block_in, is_elsewhere, ends_fetch, completed, gathering, response_taken, response_to, response_to_request, response_effects}
 use Rattle.journal_model.proofs.NoteKinds.{of_commit, of_response, are, are-append}
 
 -- a change, where what is noted beside its entry is of a kind that entries are of too
@@ -57,8 +57,8 @@ registration-notes kind entered history moment s params body further notes h = b
     by : (read : BodyRead) → are kind (registered_links history moment s params further notes read).notes ≡ true
     by (bad_body word) = refl
     by (good_body links) =
-        let entry : Entry = entry_by moment s (change.Register params links) in
-        change_made-notes kind entered history entry (record { reply = created_at (number_behind params.name moment (history ++ entry ∷ [])) further; notes = notes }) h
+        let entry : Entry = entry_of_step moment s (change.Register params links) in
+        change_made-notes kind entered history entry (record { reply = created_at (number_after params.name moment (history ++ entry ∷ [])) further; notes = notes }) h
 
 -- a registration, whole or a block of one, where what it may note is of a kind
 pub registering-notes : (kind : Note → Bool) → ((entry : Entry) → kind (note.Entered entry) ≡ true) → ((peer : Peer) (key : List ℕ) (number : ℕ) (octets : List ℕ) → kind (note.Piece peer key number octets) ≡ true)
@@ -77,12 +77,12 @@ registering-notes kind entered piece finished rows moment s m = by (sent_block m
     unless false true b body = refl
     unless false false b body = taken b.more b body
 
-    after : (front upload : Option (List ℕ)) (b : Block) → are kind (block_behind front upload rows moment s m b).notes ≡ true
+    after : (front upload : Option (List ℕ)) (b : Block) → are kind (block_after front upload rows moment s m b).notes ≡ true
     after None upload b = refl
     after (Some front) upload b =
         unless (nat_lt max_body (length front + length m.payload)) (is_one_too_many b upload (live_uploads moment (events rows))) b (front ++ m.payload)
 
-    by : (b : Option Block) → are kind (registered_by b rows moment s m).notes ≡ true
+    by : (b : Option Block) → are kind (registration_outcome b rows moment s m).notes ≡ true
     by None = registration-notes kind entered (entries rows) moment s (registration_values (queries_in m)) m.payload [] [] refl
     by (Some b) =
         let upload : Option (List ℕ) = live_upload moment (s.peer, key_in m) (events rows) in
@@ -146,7 +146,7 @@ response_effects-notes rows moment s m = by (fetch_of s m (events rows))
     taken false true request = refl
     taken false false request = gathers (more_follow (block_in m)) (block_in m) request
 
-    by : (request : Option Request) → are of_response (response_by request rows moment s m).notes ≡ true
+    by : (request : Option Request) → are of_response (response_to_request request rows moment s m).notes ≡ true
     by None = foreign m.kind
     by (Some request) =
         are-append of_response (acknowledgement s m m.kind).notes (response_to rows moment s m request).notes (acknowledged m.kind)

@@ -20,16 +20,16 @@ use Rattle.event_model.specs.declared.notes.Note.TheVariants as note
 use Rattle.event_model.specs.declared.notes.Observer.{Observer}
 use Rattle.event_model.specs.Events.{Event, noted}
 use Rattle.event_model.specs.KeptAnswers.{Answer, kept_answer}
-use Rattle.event_model.specs.Observers.{name_of, is_end_of, watched_by, observers, is_observer, has_room_for}
-use Rattle.event_model.proofs.Noting.{event_at}
+use Rattle.event_model.specs.Observers.{name_of, is_end_of, observer_added, observers, is_observer, has_room_for}
+use Rattle.event_model.proofs.NotedLaws.{event_at}
 use Rattle.journal_model.specs.declared.steps.Step.{Step}
 use Rattle.journal_model.specs.declared.rows.Row.{Row}
 use Rattle.journal_model.specs.Journal.{events, entries}
-use Rattle.journal_model.specs.Sending.{answering}
+use Rattle.journal_model.specs.Effects.{answering}
 use Rattle.journal_model.specs.Bodies.{is_long}
 use Rattle.journal_model.specs.Requests.{kind_of, query_of, asked_block, number_of, szx_of, is_lookup, is_discovery, only_looks, is_later_block, is_heeded, register, deregister}
 use Rattle.journal_model.specs.Looks.{look_effects}
-use Rattle.journal_model.specs.Lookups.{listing_now, block_now, block_of_kept, later_block, removal, without, addition, observer_of, keeping, observed_if, observed, unobserved, observed_by, by_observe, by_block, lookup_effects}
+use Rattle.journal_model.specs.Lookups.{listing_now, block_now, block_of_kept, later_block, removal, without, addition, observer_of, keeping, observed_if, observed, unobserved, observation_effects, first_block_effects, block_effects, lookup_effects}
 use Rattle.journal_model.proofs.StepNotes.{look_effects-notes}
 
 -- a request with this key asks for this query
@@ -133,16 +133,16 @@ lookup_notes_as_asked rows moment s m lookup small = by (is_later_block m)
     only_looked : NotesAsAsked rows moment (look_effects (entries rows) moment s m).notes
     only_looked = subst (NotesAsAsked rows moment) (sym (look_effects-notes (entries rows) moment s m)) tt
 
-    valued : (b c : Bool) → NotesAsAsked rows moment (observed_by b c rows moment s m).notes
+    valued : (b c : Bool) → NotesAsAsked rows moment (observation_effects b c rows moment s m).notes
     valued true c = added (has_room_for (query_of m) (without (s.peer, m.token) (observers (events rows))))
     valued false true = added false
     valued false false = only_looked
 
-    observe : (o : Option ℕ) → NotesAsAsked rows moment (by_observe o rows moment s m).notes
+    observe : (o : Option ℕ) → NotesAsAsked rows moment (first_block_effects o rows moment s m).notes
     observe None = only_looked
     observe (Some value) = valued (value == register) (value == deregister)
 
-    by : (b : Bool) → NotesAsAsked rows moment (by_block b rows moment s m).notes
+    by : (b : Bool) → NotesAsAsked rows moment (block_effects b rows moment s m).notes
     by true = later (kept_answer moment (s.peer, key_in m) (events rows))
     by false = observe (observe_in m)
 
@@ -160,8 +160,8 @@ unfolding observers
 observers_all P place moment word [] before all each = each
 observers_all P place moment word (n ∷ notes) before all each =
     observers_all P place moment word notes (event_at place moment word n ∷ before) all.1
-    (each_append P (filter (λ o. not (is_end_of n (name_of o))) (observers before)) (watched_by n) (each_filter P (λ o. not (is_end_of n (name_of o))) (observers before) each) (by n all.0))
+    (each_append P (filter (λ o. not (is_end_of n (name_of o))) (observers before)) (observer_added n) (each_filter P (λ o. not (is_end_of n (name_of o))) (observers before) each) (by n all.0))
   where
-    by : (x : Note) → OfWatched P x → AllByRecursion P (watched_by x)
+    by : (x : Note) → OfWatched P x → AllByRecursion P (observer_added x)
     by (note.Watched o) h = (h, tt)
     by _ h = tt

@@ -8,7 +8,7 @@ use Rattle.message_model.specs.Message.{Message}
 use Rattle.journal_model.specs.declared.steps.Step.{Step}
 use Rattle.journal_model.specs.declared.rows.Row.{Row}
 use Rattle.journal_model.specs.Journal.{entries}
-use Rattle.journal_model.specs.Sending.{Reply, answering}
+use Rattle.journal_model.specs.Effects.{Reply, answering}
 use Rattle.journal_model.specs.Rows.{refusal_answered, unread_answered, looked}
 use Rattle.journal_model.proofs.StepNotes.{look_effects-notes}
 

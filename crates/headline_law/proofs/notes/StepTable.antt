@@ -16,15 +16,15 @@ use Rattle.journal_model.specs.declared.steps.StepKind.{StepKind}
 use Rattle.journal_model.specs.declared.steps.StepKind.TheVariants as step
 use Rattle.journal_model.specs.declared.rows.Row.{Row}
 use Rattle.journal_model.specs.Journal.{events, entries}
-use Rattle.journal_model.specs.Sending.{Reply, answering}
-use Rattle.journal_model.specs.Requests.{refusal_by_request}
+use Rattle.journal_model.specs.Effects.{Reply, answering}
+use Rattle.journal_model.specs.Requests.{refusal_of_request}
 use Rattle.journal_model.specs.Looks.{keep_effects}
 use Rattle.journal_model.specs.Lookups.{lookup_effects}
 use Rattle.journal_model.specs.Writes.{write_effects}
 use Rattle.journal_model.specs.Responses.{response_effects}
 use Rattle.journal_model.specs.Commits.{commit_effects}
 use Rattle.journal_model.specs.Ticks.{tick_effects}
-use Rattle.journal_model.specs.Rows.{served, request_by, by_role, heard, done, kept_body, effects}
+use Rattle.journal_model.specs.Rows.{served, request_answered, message_effects, heard, done, kept_body, effects}
 use Rattle.journal_model.proofs.NoteKinds.{of_empty, are}
 use Rattle.journal_model.proofs.StepNotes.{look_effects-notes, acknowledged-notes, reset-notes}
 use Rattle.headline_law.proofs.notes.SilentSteps.{refusal_notes, unread_notes, looked_notes}
@@ -53,18 +53,18 @@ served-StepNoted (path.Location number) starved rows moment s m = write m refl r
 served-StepNoted path.Other starved rows moment s m = nothing refl
 
 -- a request as it is heard, refused or served
-request-StepNoted : (refusal : Option Reply) (starved : Bool) (rows : List Row) (moment : ℕ) (s : Step) (m : Message) → StepNoted step.Admit starved rows moment s (request_by refusal rows moment s m).notes
+request-StepNoted : (refusal : Option Reply) (starved : Bool) (rows : List Row) (moment : ℕ) (s : Step) (m : Message) → StepNoted step.Admit starved rows moment s (request_answered refusal rows moment s m).notes
 request-StepNoted (Some refusal) starved rows moment s m = nothing (refusal_notes m.kind (first_bad_option m.options) s m refusal)
 request-StepNoted None starved rows moment s m = served-StepNoted (path_in m) starved rows moment s m
 
 -- a message as it is heard
-role-StepNoted : (r : Role) (starved : Bool) (rows : List Row) (moment : ℕ) (s : Step) (m : Message) → StepNoted step.Admit starved rows moment s (by_role r starved rows moment s m).notes
+role-StepNoted : (r : Role) (starved : Bool) (rows : List Row) (moment : ℕ) (s : Step) (m : Message) → StepNoted step.Admit starved rows moment s (message_effects r starved rows moment s m).notes
 unfolding answering
 role-StepNoted role.Ping starved rows moment s m = nothing refl
 role-StepNoted role.Acknowledgement starved rows moment s m = empty refl (acknowledged-notes s.peer m.mid (events rows))
 role-StepNoted role.Reset starved rows moment s m = empty refl (reset-notes s.peer m.mid (events rows))
 role-StepNoted role.Request true rows moment s m = nothing refl
-role-StepNoted role.Request false rows moment s m = request-StepNoted (refusal_by_request m) false rows moment s m
+role-StepNoted role.Request false rows moment s m = request-StepNoted (refusal_of_request m) false rows moment s m
 role-StepNoted role.Response true rows moment s m = nothing refl
 role-StepNoted role.Response false rows moment s m = response m refl refl
 role-StepNoted role.Ignored starved rows moment s m = nothing refl

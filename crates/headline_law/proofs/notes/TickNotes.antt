@@ -11,9 +11,9 @@ use Rattle.event_model.specs.Observers.{name_of, observers, last_body_formed}
 use Rattle.journal_model.specs.declared.steps.Step.{Step}
 use Rattle.journal_model.specs.declared.rows.Row.{Row}
 use Rattle.journal_model.specs.Journal.{entries}
-use Rattle.journal_model.specs.Sending.{Effects}
+use Rattle.journal_model.specs.Effects.{Effects}
 use Rattle.journal_model.specs.Bodies.{is_long}
-use Rattle.journal_model.specs.Ticks.{first_block, listing_for, is_given, is_looked_at, events_with, ticking, noticed_unless, noticed_if, notice_next, notices_again, notices, requests_again, tick_effects}
+use Rattle.journal_model.specs.Ticks.{first_block, listing_for, is_unchanged, is_looked_at, events_with, ticking, noticed_unless, noticed_if, notice_next, notices_again, notices, requests_again, tick_effects}
 use Rattle.journal_model.proofs.NoteKinds.{of_again, of_resent, are}
 use Rattle.journal_model.proofs.StepNotes.{notices_again-notes, requests_again-notes}
 use Rattle.headline_law.proofs.notes.LookupNotes.{IsAsking, NoteAsAsked, NotesAsAsked}
@@ -56,7 +56,7 @@ notice_notes_as_asked rows moment s asking = folded (observers (events_after_aga
 
     looked : (b : Bool) (so_far : Effects) (o : Observer) → IsAsking o → NotesAsAsked rows moment (noticed_if b (ticking rows moment s) so_far o).notes
     looked false so_far o asks = tt
-    looked true so_far o asks = unless (is_given (last_body_formed (name_of o) (events_with (ticking rows moment s) so_far)) (listing_for (ticking rows moment s) o).body) so_far o asks
+    looked true so_far o asks = unless (is_unchanged (last_body_formed (name_of o) (events_with (ticking rows moment s) so_far)) (listing_for (ticking rows moment s) o).body) so_far o asks
 
     folded : (standing : List Observer) → AllByRecursion IsAsking standing → (so_far : Effects) → NotesAsAsked rows moment so_far.notes → NotesAsAsked rows moment (fold (notice_next (ticking rows moment s)) so_far standing).notes
     folded [] all so_far h = h

@@ -12,7 +12,7 @@ use Rattle.event_model.specs.Events.{Event, noted, last_said}
 use Rattle.event_model.specs.Observers.{name_of, observers, last_body_formed}
 use Rattle.event_model.specs.Due.{is_looking_for}
 use Rattle.event_model.proofs.SameLaws.{is_same_request-refl}
-use Rattle.event_model.proofs.Noting.{event_at, noted-append, last_body_formed-before, observers-noted}
+use Rattle.event_model.proofs.NotedLaws.{event_at, noted-append, last_body_formed-before, observers-noted}
 use Rattle.event_model.proofs.ObserverLaws.{Apart, not_true}
 use Rattle.journal_model.specs.declared.rows.Row.{Row}
 use Rattle.journal_model.specs.Journal.{is_desk_row, events, entries}

@@ -15,7 +15,7 @@ use Rattle.event_model.specs.Same.{RequestName}
 use Rattle.event_model.specs.Events.{Event, noted, last_event}
 use Rattle.event_model.specs.Observers.{name_of, observers, last_body_formed}
 use Rattle.event_model.specs.Due.{Transition, are_same_lines, is_change_of, is_looking_for, is_changed_since, is_due}
-use Rattle.event_model.proofs.Noting.{Found, last_event-here, last_event-before, last_body_formed-before, is_watching, observers-noted}
+use Rattle.event_model.proofs.NotedLaws.{Found, last_event-here, last_event-before, last_body_formed-before, is_watching, observers-noted}
 use Rattle.journal_model.specs.declared.rows.Row.{Row}
 use Rattle.journal_model.specs.Journal.{is_desk_row, transition_of, events, entries, entries_of, now, transitions}
 use Rattle.headline_law.proofs.entries.JournalLaws.{entries-none_noted}

@@ -21,11 +21,11 @@ use Rattle.journal_model.specs.declared.steps.StepKind.{StepKind}
 use Rattle.journal_model.specs.declared.steps.StepKind.TheVariants as step
 use Rattle.journal_model.specs.declared.rows.Row.{Row}
 use Rattle.journal_model.specs.Journal.{is_look, is_desk_row, events, entries}
-use Rattle.journal_model.specs.Sending.{answering}
+use Rattle.journal_model.specs.Effects.{answering}
 use Rattle.journal_model.specs.Bodies.{is_long}
 use Rattle.journal_model.specs.Requests.{query_of, asked_block, number_of, szx_of, is_later_block, register, deregister}
 use Rattle.journal_model.specs.Looks.{look_effects}
-use Rattle.journal_model.specs.Lookups.{listing_now, block_now, block_of_kept, later_block, removal, without, observer_of, keeping, observed_if, observed, unobserved, observed_by, by_observe, by_block, lookup_effects}
+use Rattle.journal_model.specs.Lookups.{listing_now, block_now, block_of_kept, later_block, removal, without, observer_of, keeping, observed_if, observed, unobserved, observation_effects, first_block_effects, block_effects, lookup_effects}
 use Rattle.journal_model.specs.Rows.{effects, row_moment, row}
 use Rattle.journal_model.specs.Machine.{IsJournal, begun, made}
 use Rattle.journal_model.specs.Headline.{ObserversKnow}
@@ -104,18 +104,18 @@ lookup_observer_notes rows moment s m = by (is_later_block m) refl
         (removal-quiet (s.peer, m.token) (observers (events rows))) (keeping-quiet s m (listing_now rows moment m)) refl none
     added false none = quiet ended
 
-    valued : (b c : Bool) → entries_in (observed_by b c rows moment s m).notes ≡ [] → ObserverNotes rows moment (observed_by b c rows moment s m).notes
+    valued : (b c : Bool) → entries_in (observation_effects b c rows moment s m).notes ≡ [] → ObserverNotes rows moment (observation_effects b c rows moment s m).notes
     valued true c none = added (has_room_for (query_of m) (without (s.peer, m.token) (observers (events rows)))) none
     valued false true none = quiet ended
     valued false false none = no_observer_notes rows moment (look_effects (entries rows) moment s m).notes (look_effects-notes (entries rows) moment s m)
 
-    observing : (o : Option ℕ) → entries_in (by_observe o rows moment s m).notes ≡ [] → ObserverNotes rows moment (by_observe o rows moment s m).notes
+    observing : (o : Option ℕ) → entries_in (first_block_effects o rows moment s m).notes ≡ [] → ObserverNotes rows moment (first_block_effects o rows moment s m).notes
     observing None none = no_observer_notes rows moment (look_effects (entries rows) moment s m).notes (look_effects-notes (entries rows) moment s m)
     observing (Some value) none = valued (value == register) (value == deregister) none
 
-    by : (b : Bool) → is_later_block m ≡ b → ObserverNotes rows moment (by_block b rows moment s m).notes
+    by : (b : Bool) → is_later_block m ≡ b → ObserverNotes rows moment (block_effects b rows moment s m).notes
     by true e = quiet (later (kept_answer moment (s.peer, key_in m) (events rows)))
-    by false e = observing (observe_in m) (subst (λ b. entries_in (by_block b rows moment s m).notes ≡ []) e silent)
+    by false e = observing (observe_in m) (subst (λ b. entries_in (block_effects b rows moment s m).notes ≡ []) e silent)
 
 -- the step is no tick
 abbrev pub IsNoTick : StepKind → Type 0
@@ -182,5 +182,5 @@ journal-AllKnown (r ∷ before) (made {rows} {s} starved journal may) = row-AllK
 -- the last body formed for an observer that is not due is the listing now
 pub journal-ObserversKnow : (rows : List Row) → IsJournal rows → ObserversKnow rows
 journal-ObserversKnow rows journal = record {
-  given = λ o among not_due. (all_at_index (KnownIn rows) (observers (events rows)) o among (journal-AllKnown rows journal)).knows not_due;
+  last_formed = λ o among not_due. (all_at_index (KnownIn rows) (observers (events rows)) o among (journal-AllKnown rows journal)).knows not_due;
 }

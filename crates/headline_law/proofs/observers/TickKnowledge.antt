@@ -15,14 +15,14 @@ use Rattle.event_model.specs.KeptAnswers.{Answer}
 use Rattle.event_model.specs.Observers.{name_of, observers, last_body_formed}
 use Rattle.event_model.specs.Due.{is_looking_for}
 use Rattle.event_model.proofs.SameLaws.{is_same_request-refl}
-use Rattle.event_model.proofs.Noting.{event_at, noted-append, last_body_formed-before, is_watching, observers-noted}
+use Rattle.event_model.proofs.NotedLaws.{event_at, noted-append, last_body_formed-before, is_watching, observers-noted}
 use Rattle.event_model.proofs.ObserverLaws.{observers-apart, Only, apart_only}
 use Rattle.journal_model.specs.declared.steps.Step.{Step}
 use Rattle.journal_model.specs.declared.rows.Row.{Row}
 use Rattle.journal_model.specs.Journal.{is_desk_row, events, entries}
-use Rattle.journal_model.specs.Sending.{Effects, mid_of}
+use Rattle.journal_model.specs.Effects.{Effects, mid_of}
 use Rattle.journal_model.specs.Bodies.{is_long}
-use Rattle.journal_model.specs.Ticks.{first_block, is_given, listing_for, is_looked_at, events_with, Ticking, ticking, noticed_unless, noticed_if, notice_next, notices_again, notices, requests_again, tick_effects}
+use Rattle.journal_model.specs.Ticks.{first_block, is_unchanged, listing_for, is_looked_at, events_with, Ticking, ticking, noticed_unless, noticed_if, notice_next, notices_again, notices, requests_again, tick_effects}
 use Rattle.journal_model.proofs.EntriesNoted.{entries_in}
 use Rattle.journal_model.proofs.NoteKinds.{of_again, of_resent, of_tick, none_of, tick-entries_in}
 use Rattle.journal_model.proofs.StepNotes.{tick_effects-notes, notices_again-notes, requests_again-notes}
@@ -53,7 +53,7 @@ with_look rows moment word o notes more looks formed = inr (
 )
 
 -- a body that equals the last that was formed is the last
-formed_same : (last : Option (List ℕ)) (body : List ℕ) → is_given last body ≡ true → last ≡ Some body
+formed_same : (last : Option (List ℕ)) (body : List ℕ) → is_unchanged last body ≡ true → last ≡ Some body
 formed_same None body h = absurd (false≢true h)
 formed_same (Some octets) body h = ap (λ x. Some x) ((bytes_eq-Decides octets body).0 h)
 
@@ -92,13 +92,13 @@ notice_quiet_or_looked rows moment s o x done only h = looked (is_looked_at (tic
     kept_notes y = cond (is_long (first_block y) (listing_for (ticking rows moment s) y).body)
         (note.Kept y.peer y.key (listing_for (ticking rows moment s) y).body (listing_for (ticking rows moment s) y).tag ∷ []) []
 
-    unchanged : (b : Bool) → is_same_request (name_of x) (name_of o) ≡ b → is_given (last_body_formed (name_of x) (events_with (ticking rows moment s) done)) (listing_for (ticking rows moment s) x).body ≡ true
+    unchanged : (b : Bool) → is_same_request (name_of x) (name_of o) ≡ b → is_unchanged (last_body_formed (name_of x) (events_with (ticking rows moment s) done)) (listing_for (ticking rows moment s) x).body ≡ true
         → QuietOrLooked rows moment s.word o (done.notes ++ note.Unchanged x.peer x.token ∷ [])
     unchanged true same equal =
         let it : x ≡ o = only same in
         with_look rows moment s.word o done.notes (note.Unchanged x.peer x.token ∷ []) (rw same refl)
         (formed_same (last_body_formed (name_of o) (events_with (ticking rows moment s) done)) (listing o.query (entries rows) moment)
-        (subst (λ (y : Observer). is_given (last_body_formed (name_of y) (events_with (ticking rows moment s) done)) (listing_for (ticking rows moment s) y).body ≡ true) it equal))
+        (subst (λ (y : Observer). is_unchanged (last_body_formed (name_of y) (events_with (ticking rows moment s) done)) (listing_for (ticking rows moment s) y).body ≡ true) it equal))
     unchanged false same equal = with_quiet rows moment s.word o done.notes (note.Unchanged x.peer x.token ∷ []) (rw same refl) h
 
     formed : (b : Bool) (mid : ℕ) → is_same_request (name_of x) (name_of o) ≡ b
@@ -116,13 +116,13 @@ notice_quiet_or_looked rows moment s o x done only h = looked (is_looked_at (tic
         with_quiet rows moment s.word o done.notes (note.Formed x.peer x.token (listing_for (ticking rows moment s) x).body (Some mid) ∷ kept_notes x)
         (rw (same, kept_quiet (is_long (first_block x) (listing_for (ticking rows moment s) x).body) o x (listing_for (ticking rows moment s) x)) refl) h
 
-    unless : (b : Bool) → is_given (last_body_formed (name_of x) (events_with (ticking rows moment s) done)) (listing_for (ticking rows moment s) x).body ≡ b
+    unless : (b : Bool) → is_unchanged (last_body_formed (name_of x) (events_with (ticking rows moment s) done)) (listing_for (ticking rows moment s) x).body ≡ b
         → QuietOrLooked rows moment s.word o (done.notes ++ (noticed_unless b (ticking rows moment s) done x (listing_for (ticking rows moment s) x)).notes)
     unless true equal = unchanged (is_same_request (name_of x) (name_of o)) refl equal
     unless false equal = formed (is_same_request (name_of x) (name_of o)) (mid_of s.worker (s.drawn + done.drew)) refl
 
     looked : (b : Bool) → QuietOrLooked rows moment s.word o (done.notes ++ (noticed_if b (ticking rows moment s) done x).notes)
-    looked true = unless (is_given (last_body_formed (name_of x) (events_with (ticking rows moment s) done)) (listing_for (ticking rows moment s) x).body) refl
+    looked true = unless (is_unchanged (last_body_formed (name_of x) (events_with (ticking rows moment s) done)) (listing_for (ticking rows moment s) x).body) refl
     looked false = with_quiet rows moment s.word o done.notes [] refl h
 
 -- all observers that a tick comes to

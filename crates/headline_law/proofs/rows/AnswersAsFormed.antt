@@ -14,12 +14,12 @@ use Rattle.journal_model.specs.declared.steps.StepKind.{StepKind}
 use Rattle.journal_model.specs.declared.steps.StepKind.TheVariants as step
 use Rattle.journal_model.specs.declared.rows.Row.{Row}
 use Rattle.journal_model.specs.Journal.{events, entries}
-use Rattle.journal_model.specs.Sending.{Effects}
+use Rattle.journal_model.specs.Effects.{Effects}
 use Rattle.journal_model.specs.Ticks.{ticking, notices_again, notices, requests_again, tick_effects}
 use Rattle.journal_model.specs.Rows.{effects, row_moment, row}
 use Rattle.journal_model.specs.Meantime.{is_heard}
 use Rattle.journal_model.specs.Machine.{MayMake, MayBegin, IsJournal, begun, made}
-use Rattle.journal_model.specs.Headline.{former_by, AnswersAsFormed}
+use Rattle.journal_model.specs.Headline.{former_of_body, AnswersAsFormed}
 use Rattle.journal_model.proofs.NoteKinds.{of_tick, none_of}
 use Rattle.journal_model.proofs.StepNotes.{requests_again-notes, tick_effects-notes}
 use Rattle.journal_model.proofs.EntriesNoted.{entries_in}
@@ -122,7 +122,7 @@ tick_step : (rows : List Row) (r : Row) (starved : Bool) → Before rows → Car
 tick_step rows r starved past all tick sent notes =
     let t : TickRow rows r = tick_of rows r starved past all tick sent notes in
     let asked_now = subst (NotesAsAsked rows r.moment.0) (sym notes) (tick_notes_as_asked starved rows r.moment.0 r.step (stood rows r.moment.0 r.step.word IsAsking all.asking)) in
-    let carries : RowCarries rows r = record { carried = tick_carried rows r t; noted = own_notes_as_formed rows r (ap (λ k. former_by k (record { row = r; before = rows })) tick) t.same_entries r.notes asked_now } in
+    let carries : RowCarries rows r = record { carried = tick_carried rows r t; noted = own_notes_as_formed rows r (ap (λ k. former_of_body k (record { row = r; before = rows })) tick) t.same_entries r.notes asked_now } in
     record { each = (carries, all.each); asking = asking_row rows r carries all.asking; flights = tick_flights rows r t }
 
 -- any row

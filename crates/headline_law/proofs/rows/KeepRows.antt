@@ -14,11 +14,11 @@ use Rattle.journal_model.specs.declared.steps.StepKind.{StepKind}
 use Rattle.journal_model.specs.declared.steps.StepKind.TheVariants as step
 use Rattle.journal_model.specs.declared.rows.Row.{Row}
 use Rattle.journal_model.specs.Journal.{entries}
-use Rattle.journal_model.specs.Requests.{refusal_by_request, query_of, only_looks, is_look_request}
+use Rattle.journal_model.specs.Requests.{refusal_of_request, query_of, only_looks, is_look_request}
 use Rattle.journal_model.specs.Looks.{keep_effects}
 use Rattle.journal_model.specs.Rows.{effects, row_moment, row}
 use Rattle.journal_model.specs.Machine.{keep_kind, Job, job_of, MayBegin, hears, goes, ticks, is_look_datagram, is_look_reading, IsJournal}
-use Rattle.journal_model.specs.Headline.{Placed, look_of, former_by, former_at, query_read, query_answered, Carries}
+use Rattle.journal_model.specs.Headline.{Placed, look_of, former_of_body, former_at, query_read, query_answered, Carries}
 use Rattle.journal_model.proofs.EntriesNoted.{entries_in}
 use Rattle.journal_model.proofs.StepNotes.{keep_effects-notes}
 use Rattle.headline_law.proofs.notes.SilentSteps.{looked_notes}
@@ -50,7 +50,7 @@ same_keep body current others other e = (ap body_of e, ap tag_of e)
 -- a request that is looked at only looks
 look_only : (m : Message) → is_look_request m ≡ true → only_looks m ≡ true
 unfolding is_look_request
-look_only m h = (and_parts (is_none (refusal_by_request m)) (only_looks m) h).1
+look_only m h = (and_parts (is_none (refusal_of_request m)) (only_looks m) h).1
 
 -- the look whose job a keep ends
 record KeepOf (rows : List Row) (worker : ℕ) (m : Message) (body current : List ℕ) : Type 0 where
@@ -129,7 +129,7 @@ pub keep_row : (rows : List Row) (r : Row) (m : Message) (body current : List �
     → r.sent ≡ (keep_effects r.step m body current).sent → r.notes ≡ (keep_effects r.step m body current).notes → RowCarries rows r
 keep_row rows r m body current journal may kind read sent notes = record {
   carried = subst (AllByRecursion (Carried here)) (sym sent) (each_weaker (λ (d : Peer × List ℕ). IsBodyOf m.token body current d.1) (Carried here) one (keep_effects r.step m body current).sent (keep_bears r.step m body current small short));
-  noted = subst (AllByRecursion (NoteAsFormed here)) (sym (notes ∙ keep_effects-notes r.step m body current)) (record { former = it.look; formed = ap (λ k. former_by k here) kind ∙ it.found; is_kept = it.is_kept }, tt);
+  noted = subst (AllByRecursion (NoteAsFormed here)) (sym (notes ∙ keep_effects-notes r.step m body current)) (record { former = it.look; formed = ap (λ k. former_of_body k here) kind ∙ it.found; is_kept = it.is_kept }, tt);
 }
   where
     here : Placed

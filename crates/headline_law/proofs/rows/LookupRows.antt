@@ -20,7 +20,7 @@ use Rattle.journal_model.specs.Journal.{events, entries}
 use Rattle.journal_model.specs.Requests.{query_of, is_lookup}
 use Rattle.journal_model.specs.Lookups.{lookup_effects}
 use Rattle.journal_model.specs.Meantime.{is_heard}
-use Rattle.journal_model.specs.Headline.{Placed, former_by, former_of_kept, former_noted, query_read, Carries}
+use Rattle.journal_model.specs.Headline.{Placed, former_of_body, former_of_kept, former_noted, query_read, Carries}
 use Rattle.journal_model.proofs.EntriesNoted.{entries_in}
 use Rattle.headline_law.proofs.entries.QuietSteps.{lookup_effects-entries_in}
 use Rattle.headline_law.proofs.sends.ReadAgain.{header_read}
@@ -75,7 +75,7 @@ kept_from rows moment name answer all e =
     let by = kept_note it.placed name answer found.0.note noted found.2 in
     record {
       former = by.former;
-      formed = ap (λ (o : Option Placed). option_and_then (λ (p : Placed). former_by p.row.step.kind p) o) it.last ∙ by.formed;
+      formed = ap (λ (o : Option Placed). option_and_then (λ (p : Placed). former_of_body p.row.step.kind p) o) it.last ∙ by.formed;
       is_kept = by.is_kept;
     }
 

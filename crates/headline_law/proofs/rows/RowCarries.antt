@@ -16,7 +16,7 @@ use Rattle.journal_model.specs.Journal.{entries}
 use Rattle.journal_model.specs.Requests.{query_of}
 use Rattle.journal_model.specs.Looks.{look_effects}
 use Rattle.journal_model.specs.Meantime.{is_heard}
-use Rattle.journal_model.specs.Headline.{Placed, former_by, former_noted, former_at, query_read, query_answered}
+use Rattle.journal_model.specs.Headline.{Placed, former_of_body, former_noted, former_at, query_read, query_answered}
 use Rattle.journal_model.proofs.EntriesNoted.{entries_in}
 use Rattle.journal_model.proofs.StepNotes.{look_effects-notes}
 use Rattle.headline_law.proofs.sends.ReadAgain.{header_read}
@@ -33,7 +33,7 @@ use Rattle.rd_base.proofs.lemmas.Each.{each_weaker, each_failing}
 -- an answer that is kept at a row: the listing of the query of its key, at the row that formed it
 pub record KeptAsFormed (here : Placed) (key body current : List ℕ) : Type 0 where
   pub former : Placed
-  pub formed : former_by here.row.step.kind here ≡ Some former
+  pub formed : former_of_body here.row.step.kind here ≡ Some former
   pub is_kept : KeptAt (entries (former.row ∷ former.before)) former.row.moment.0 key body current
 
 -- a note of a row is as it was formed: what is kept is the listing at the row that formed it, and an observer asks for its query
@@ -84,7 +84,7 @@ heard_query (step.Keep body current) name here h = absurd (false≢true h)
 heard_query step.Tick name here h = absurd (false≢true h)
 
 -- and what such a row keeps, it formed itself
-pub heard_forms_itself : (k : StepKind) (here : Placed) → is_heard k ≡ true → former_by k here ≡ Some here
+pub heard_forms_itself : (k : StepKind) (here : Placed) → is_heard k ≡ true → former_of_body k here ≡ Some here
 heard_forms_itself step.Admit here h = refl
 heard_forms_itself step.Look here h = refl
 heard_forms_itself (step.Commit place) here h = absurd (false≢true h)
@@ -119,7 +119,7 @@ now_carried rows r m hears read same_entries none all =
     }
 
 -- what a row keeps that forms its own answers
-pub own_notes_as_formed : (rows : List Row) (r : Row) → former_by r.step.kind (record { row = r; before = rows }) ≡ Some (record { row = r; before = rows }) → entries (r ∷ rows) ≡ entries rows → (notes : List Note) → NotesAsAsked rows r.moment.0 notes → AllByRecursion (NoteAsFormed (record { row = r; before = rows })) notes
+pub own_notes_as_formed : (rows : List Row) (r : Row) → former_of_body r.step.kind (record { row = r; before = rows }) ≡ Some (record { row = r; before = rows }) → entries (r ∷ rows) ≡ entries rows → (notes : List Note) → NotesAsAsked rows r.moment.0 notes → AllByRecursion (NoteAsFormed (record { row = r; before = rows })) notes
 own_notes_as_formed rows r formed same_entries [] h = tt
 own_notes_as_formed rows r formed same_entries (n ∷ notes) h = (by n h.0, own_notes_as_formed rows r formed same_entries notes h.1)
   where

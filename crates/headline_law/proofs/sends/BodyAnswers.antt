@@ -20,7 +20,7 @@ use Rattle.message_model.specs.Reading.{reading}
 use Rattle.rd_base.specs.declared.queries.Query.{Query}
 use Rattle.history_model.specs.declared.entries.Entry.{Entry}
 use Rattle.history_model.specs.Listing.{listing, tag, tag_from}
-use Rattle.journal_model.specs.Sending.{Reply}
+use Rattle.journal_model.specs.Effects.{Reply}
 use Rattle.journal_model.specs.Requests.{number_of, szx_of}
 use Rattle.journal_model.specs.Bodies.{tag_option, observe_option, block2_option, answered_block, part_reply, body_reply}
 use Rattle.journal_model.specs.Headline.{has_listing, Carries, code_at}

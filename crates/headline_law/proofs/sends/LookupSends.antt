@@ -18,11 +18,11 @@ use Rattle.event_model.specs.Observers.{observers, is_observer, has_room_for, ob
 use Rattle.journal_model.specs.declared.steps.Step.{Step}
 use Rattle.journal_model.specs.declared.rows.Row.{Row}
 use Rattle.journal_model.specs.Journal.{events, entries}
-use Rattle.journal_model.specs.Sending.{Effects, answer_kind, answer_mid, answering}
+use Rattle.journal_model.specs.Effects.{Effects, answer_kind, answer_mid, answering}
 use Rattle.journal_model.specs.Bodies.{is_long}
 use Rattle.journal_model.specs.Requests.{query_of, asked_block, number_of, szx_of, is_discovery, is_later_block, register, deregister}
 use Rattle.journal_model.specs.Looks.{names_tag, unless_held, unless_valid, looked_at, look_effects, keep_effects}
-use Rattle.journal_model.specs.Lookups.{listing_now, block_now, block_of_kept, later_block, removal, without, keeping, observed_if, observed, unobserved, observed_by, by_observe, by_block, lookup_effects}
+use Rattle.journal_model.specs.Lookups.{listing_now, block_now, block_of_kept, later_block, removal, without, keeping, observed_if, observed, unobserved, observation_effects, first_block_effects, block_effects, lookup_effects}
 use Rattle.headline_law.proofs.sends.BodyAnswers.{IsBodyOf, other_code, none_of_any, tag-length, part_bears, body_bears, body_untagged}
 use Rattle.journal_model.proofs.StepNotes.{look_effects-notes}
 
@@ -109,15 +109,15 @@ lookup_outcome rows moment s m small = by (is_later_block m)
     only_looked : LookupOutcome rows moment s m (look_effects (entries rows) moment s m)
     only_looked = now (ap (list_any names_earlier_row) (look_effects-notes (entries rows) moment s m)) (look_lists (entries rows) moment s m small)
 
-    valued : (b c : Bool) → LookupOutcome rows moment s m (observed_by b c rows moment s m)
+    valued : (b c : Bool) → LookupOutcome rows moment s m (observation_effects b c rows moment s m)
     valued true c = added (has_room_for (query_of m) (without (s.peer, m.token) (observers (events rows))))
     valued false true = added false
     valued false false = only_looked
 
-    observe : (o : Option ℕ) → LookupOutcome rows moment s m (by_observe o rows moment s m)
+    observe : (o : Option ℕ) → LookupOutcome rows moment s m (first_block_effects o rows moment s m)
     observe None = only_looked
     observe (Some value) = valued (value == register) (value == deregister)
 
-    by : (b : Bool) → LookupOutcome rows moment s m (by_block b rows moment s m)
+    by : (b : Bool) → LookupOutcome rows moment s m (block_effects b rows moment s m)
     by true = later (kept_answer moment (s.peer, key_in m) (events rows)) refl
     by false = observe (observe_in m)

@@ -17,11 +17,11 @@ use Rattle.event_model.specs.Fetches.{Request, max_fetches, fetches, is_fetching
 use Rattle.journal_model.specs.declared.steps.Step.{Step}
 use Rattle.journal_model.specs.declared.rows.Row.{Row}
 use Rattle.journal_model.specs.Journal.{events, entries}
-use Rattle.journal_model.specs.Sending.{answer, answering}
+use Rattle.journal_model.specs.Effects.{answer, answering}
 use Rattle.journal_model.specs.Changes.{Outcome}
-use Rattle.journal_model.specs.Uploading.{registering}
+use Rattle.journal_model.specs.Registrations.{registering}
 use Rattle.journal_model.specs.Commits.{settling, simple_unless, on_location, write_done, commit_effects}
-use Rattle.journal_model.specs.Responses.{fetch_of, strange, acknowledgement, more_follow, block_in, is_elsewhere, ends_fetch, gathering, response_taken, response_to, response_by, response_effects}
+use Rattle.journal_model.specs.Responses.{fetch_of, strange, acknowledgement, more_follow, block_in, is_elsewhere, ends_fetch, gathering, response_taken, response_to, response_to_request, response_effects}
 use Rattle.journal_model.proofs.NoteKinds.{are}
 use Rattle.headline_law.proofs.notes.ChangeNotes.{change_made-notes, registering-notes}
 use Rattle.headline_law.proofs.sends.PlainSteps.{IsPlainCode, IsPlain, ArePlain, SettlesPlainly, plain_spelled, plain_answering, change_plain, registering_plain, never_settles}
@@ -102,7 +102,7 @@ response_plain rows moment s m = by (fetch_of s m (events rows))
     taken false true request = tt
     taken false false request = gathers (more_follow (block_in m)) (block_in m) request
 
-    by : (request : Option Request) → ArePlain (response_by request rows moment s m).sent
+    by : (request : Option Request) → ArePlain (response_to_request request rows moment s m).sent
     by None = foreign m.kind
     by (Some request) =
         each_append (λ (d : Peer × List ℕ). IsPlain d.1) (acknowledgement s m m.kind).sent (response_to rows moment s m request).sent (acknowledged m.kind)

@@ -31,10 +31,10 @@ use Rattle.event_model.specs.Uploads.{max_body, live_upload, live_uploads}
 use Rattle.journal_model.specs.declared.steps.Step.{Step}
 use Rattle.journal_model.specs.declared.rows.Row.{Row}
 use Rattle.journal_model.specs.Journal.{events, entries}
-use Rattle.journal_model.specs.Sending.{Reply, bare, diagnostic, answer, answering}
-use Rattle.journal_model.specs.Requests.{sent_block, has_bad_query, has_bad_payload, refusal_or_next, refusal_by_request}
-use Rattle.journal_model.specs.Changes.{Outcome, refused_as, entered_unless, change_made, BodyRead, bad_body, good_body, body_read, registered_links, registration, created_at, number_behind, entry_by}
-use Rattle.journal_model.specs.Uploading.{collected_before, is_one_too_many, block_taken, block_unless, block_behind, block_uploaded, registered_by, registering}
+use Rattle.journal_model.specs.Effects.{Reply, bare, diagnostic, answer, answering}
+use Rattle.journal_model.specs.Requests.{sent_block, has_bad_query, has_bad_payload, refusal_or_next, refusal_of_request}
+use Rattle.journal_model.specs.Changes.{Outcome, refused_as, entered_unless, change_made, BodyRead, bad_body, good_body, body_read, registered_links, registration, created_at, number_after, entry_of_step}
+use Rattle.journal_model.specs.Registrations.{collected_before, is_one_too_many, block_taken, block_unless, block_after, block_uploaded, registration_outcome, registering}
 use Rattle.journal_model.specs.Writes.{again_answered, admitted_unless, write_unless, write_effects}
 use Rattle.journal_model.specs.Rows.{refusal_answered, without_memory, unread_answered}
 use Rattle.journal_model.specs.Headline.{code_at}
@@ -71,8 +71,8 @@ PlainIf None = Unit {0}
 PlainIf (Some reply) = IsPlainCode reply.code
 
 -- the refusal that a request alone decides
-refusal_PlainIf : (m : Message) → PlainIf (refusal_by_request m)
-unfolding refusal_by_request
+refusal_PlainIf : (m : Message) → PlainIf (refusal_of_request m)
+unfolding refusal_of_request
 refusal_PlainIf m = by (refusal_of m)
   where
     coded : (why : requests.Refusal) → IsPlainCode (refusal_code why)
@@ -94,7 +94,7 @@ refusal_PlainIf m = by (refusal_of m)
     by None = later (has_bad_query m) (has_bad_payload m) (codes "query") (codes "payload")
 
 -- what is answered to a refusal
-pub refusal_plain : (m : Message) (reply : Reply) → refusal_by_request m ≡ Some reply → IsPlainCode reply.code
+pub refusal_plain : (m : Message) (reply : Reply) → refusal_of_request m ≡ Some reply → IsPlainCode reply.code
 refusal_plain m reply e = subst PlainIf e (refusal_PlainIf m)
 
 -- and the answer to it
@@ -167,8 +167,8 @@ registration_plain history moment s params body further notes = by (body_read bo
     by : (read : BodyRead) → IsPlainCode (registered_links history moment s params further notes read).reply.code
     by (bad_body word) = record { no_content = refl; no_valid = refl }
     by (good_body links) =
-        let entry : Entry = entry_by moment s (change.Register params links) in
-        change_plain history entry (record { reply = created_at (number_behind params.name moment (history ++ entry ∷ [])) further; notes = notes }) (record { no_content = refl; no_valid = refl })
+        let entry : Entry = entry_of_step moment s (change.Register params links) in
+        change_plain history entry (record { reply = created_at (number_after params.name moment (history ++ entry ∷ [])) further; notes = notes }) (record { no_content = refl; no_valid = refl })
 
 -- a registration, whole or a block of one
 pub registering_plain : (rows : List Row) (moment : ℕ) (s : Step) (m : Message) → IsPlainCode (registering rows moment s m).reply.code
@@ -184,12 +184,12 @@ registering_plain rows moment s m = by (sent_block m)
     unless false true b body = record { no_content = refl; no_valid = refl }
     unless false false b body = taken b.more b body
 
-    after : (front upload : Option (List ℕ)) (b : Block) → IsPlainCode (block_behind front upload rows moment s m b).reply.code
+    after : (front upload : Option (List ℕ)) (b : Block) → IsPlainCode (block_after front upload rows moment s m b).reply.code
     after None upload b = record { no_content = refl; no_valid = refl }
     after (Some front) upload b =
         unless (nat_lt max_body (length front + length m.payload)) (is_one_too_many b upload (live_uploads moment (events rows))) b (front ++ m.payload)
 
-    by : (b : Option Block) → IsPlainCode (registered_by b rows moment s m).reply.code
+    by : (b : Option Block) → IsPlainCode (registration_outcome b rows moment s m).reply.code
     by None = registration_plain (entries rows) moment s (registration_values (queries_in m)) m.payload [] []
     by (Some b) =
         let upload : Option (List ℕ) = live_upload moment (s.peer, key_in m) (events rows) in

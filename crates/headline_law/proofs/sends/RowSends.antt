@@ -23,16 +23,16 @@ use Rattle.journal_model.specs.declared.steps.StepKind.{StepKind}
 use Rattle.journal_model.specs.declared.steps.StepKind.TheVariants as step
 use Rattle.journal_model.specs.declared.rows.Row.{Row}
 use Rattle.journal_model.specs.Journal.{is_look, events, entries}
-use Rattle.journal_model.specs.Sending.{Reply, answering}
-use Rattle.journal_model.specs.Requests.{refusal_by_request, is_lookup, only_looks, is_look_request}
+use Rattle.journal_model.specs.Effects.{Reply, answering}
+use Rattle.journal_model.specs.Requests.{refusal_of_request, is_lookup, only_looks, is_look_request}
 use Rattle.journal_model.specs.Looks.{look_effects, keep_effects}
 use Rattle.journal_model.specs.Commits.{commit_effects}
 use Rattle.journal_model.specs.Ticks.{tick_effects}
 use Rattle.journal_model.specs.Lookups.{lookup_effects}
 use Rattle.journal_model.specs.Writes.{write_effects}
-use Rattle.journal_model.specs.Empties.{acknowledged, reset}
+use Rattle.journal_model.specs.EmptyMessages.{acknowledged, reset}
 use Rattle.journal_model.specs.Responses.{response_effects}
-use Rattle.journal_model.specs.Rows.{served, request_by, without_memory, by_role, heard, looked, done, kept_body, effects}
+use Rattle.journal_model.specs.Rows.{served, request_answered, without_memory, message_effects, heard, looked, done, kept_body, effects}
 use Rattle.journal_model.specs.Machine.{is_look_message, is_look_reading}
 use Rattle.journal_model.proofs.NoteKinds.{of_lookup, of_write, of_empty, of_tick, of_response, are}
 use Rattle.journal_model.proofs.StepNotes.{look_effects-notes, keep_effects-notes, lookup_effects-notes, write_effects-notes, acknowledged-notes, reset-notes, tick_effects-notes}
@@ -89,11 +89,11 @@ pub record Before (rows : List Row) : Type 0 where
 
 -- a request that is heard, and is no look
 request_sends : (rows : List Row) (moment : ℕ) (s : Step) (m : Message) → Before rows → is_look_request m ≡ false
-    → Sends (request_by (refusal_by_request m) rows moment s m).sent (request_by (refusal_by_request m) rows moment s m).notes
+    → Sends (request_answered (refusal_of_request m) rows moment s m).sent (request_answered (refusal_of_request m) rows moment s m).notes
 unfolding served answering is_look_request
-request_sends rows moment s m past other = by (refusal_by_request m) refl
+request_sends rows moment s m past other = by (refusal_of_request m) refl
   where
-    not_only : refusal_by_request m ≡ None → only_looks m ≡ false
+    not_only : refusal_of_request m ≡ None → only_looks m ≡ false
     not_only none = sym (rw none refl) ∙ other
 
     lookup : (p : Path) → path_in m ≡ p → is_lookup p ≡ true → only_looks m ≡ false → Sends (lookup_effects rows moment s m).sent (lookup_effects rows moment s m).notes
@@ -115,13 +115,13 @@ request_sends rows moment s m past other = by (refusal_by_request m) refl
     on (path.Location number) is looks = write
     on path.Other is looks = record { none_valid = tt; facts = tt }
 
-    by : (refusal : Option Reply) → refusal_by_request m ≡ refusal → Sends (request_by refusal rows moment s m).sent (request_by refusal rows moment s m).notes
+    by : (refusal : Option Reply) → refusal_of_request m ≡ refusal → Sends (request_answered refusal rows moment s m).sent (request_answered refusal rows moment s m).notes
     by (Some refusal) e = bare_sends _ _ (refused_plain m.kind (first_bad_option m.options) s m refusal (refusal_plain m refusal e)) (refusal_notes m.kind (first_bad_option m.options) s m refusal)
     by None e = on (path_in m) refl (not_only e)
 
 -- a message that is heard, and is no look
 role_sends : (r : Role) (starved : Bool) (rows : List Row) (moment : ℕ) (s : Step) (m : Message) → Before rows → is_look_message r m ≡ false
-    → Sends (by_role r starved rows moment s m).sent (by_role r starved rows moment s m).notes
+    → Sends (message_effects r starved rows moment s m).sent (message_effects r starved rows moment s m).notes
 unfolding spelling header_spelling acknowledged reset answering
 role_sends role.Ping starved rows moment s m past other = bare_sends _ [] (record { no_content = refl; no_valid = refl }, tt) refl
 role_sends role.Acknowledgement starved rows moment s m past other =

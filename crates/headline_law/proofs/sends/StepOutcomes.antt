@@ -20,16 +20,16 @@ use Rattle.journal_model.specs.declared.steps.Step.{Step}
 use Rattle.journal_model.specs.declared.steps.StepKind.TheVariants as step
 use Rattle.journal_model.specs.declared.rows.Row.{Row}
 use Rattle.journal_model.specs.Journal.{events, entries}
-use Rattle.journal_model.specs.Sending.{Effects, Reply, answering}
-use Rattle.journal_model.specs.Requests.{refusal_by_request, is_lookup}
+use Rattle.journal_model.specs.Effects.{Effects, Reply, answering}
+use Rattle.journal_model.specs.Requests.{refusal_of_request, is_lookup}
 use Rattle.journal_model.specs.Looks.{look_effects, keep_effects}
 use Rattle.journal_model.specs.Lookups.{lookup_effects}
 use Rattle.journal_model.specs.Writes.{write_effects}
 use Rattle.journal_model.specs.Commits.{commit_effects}
-use Rattle.journal_model.specs.Empties.{acknowledged, reset}
+use Rattle.journal_model.specs.EmptyMessages.{acknowledged, reset}
 use Rattle.journal_model.specs.Responses.{response_effects}
 use Rattle.journal_model.specs.Meantime.{is_heard}
-use Rattle.journal_model.specs.Rows.{served, request_by, by_role, heard, looked, done, kept_body}
+use Rattle.journal_model.specs.Rows.{served, request_answered, message_effects, heard, looked, done, kept_body}
 use Rattle.journal_model.proofs.NoteKinds.{of_write, of_empty, of_commit, of_response, are, none_of}
 use Rattle.journal_model.proofs.StepNotes.{write_effects-notes, acknowledged-notes, reset-notes}
 use Rattle.headline_law.proofs.notes.ChangeNotes.{commit_effects-notes, response_effects-notes}
@@ -65,9 +65,9 @@ noted_nothing : (notes : List Note) → notes ≡ [] → list_any is_keeping not
 noted_nothing notes none = ap (list_any is_keeping) none
 
 -- a request that is heard
-request_outcome : (rows : List Row) (moment : ℕ) (s : Step) (m : Message) → SettledPlain (events rows) → is_heard s.kind ≡ true → reading s.datagram ≡ Ok m → StepOutcome rows moment s (request_by (refusal_by_request m) rows moment s m)
+request_outcome : (rows : List Row) (moment : ℕ) (s : Step) (m : Message) → SettledPlain (events rows) → is_heard s.kind ≡ true → reading s.datagram ≡ Ok m → StepOutcome rows moment s (request_answered (refusal_of_request m) rows moment s m)
 unfolding served answering
-request_outcome rows moment s m settled hears read = by (refusal_by_request m) refl
+request_outcome rows moment s m settled hears read = by (refusal_of_request m) refl
   where
     write : StepOutcome rows moment s (write_effects (events rows) moment s m)
     write = plain (write_plain (events rows) moment s m settled) (keeps_none of_write (λ p k b c. refl) (λ o. refl) (write_effects (events rows) moment s m).notes (write_effects-notes (events rows) moment s m))
@@ -81,12 +81,12 @@ request_outcome rows moment s m settled hears read = by (refusal_by_request m) r
     on (path.Location number) is = write
     on path.Other is = plain tt refl
 
-    by : (refusal : Option Reply) → refusal_by_request m ≡ refusal → StepOutcome rows moment s (request_by refusal rows moment s m)
+    by : (refusal : Option Reply) → refusal_of_request m ≡ refusal → StepOutcome rows moment s (request_answered refusal rows moment s m)
     by (Some refusal) e = plain (refused_plain m.kind (first_bad_option m.options) s m refusal (refusal_plain m refusal e)) (noted_nothing _ (refusal_notes m.kind (first_bad_option m.options) s m refusal))
     by None e = on (path_in m) refl
 
 -- a message that is heard
-role_outcome : (r : Role) (starved : Bool) (rows : List Row) (moment : ℕ) (s : Step) (m : Message) → SettledPlain (events rows) → is_heard s.kind ≡ true → reading s.datagram ≡ Ok m → StepOutcome rows moment s (by_role r starved rows moment s m)
+role_outcome : (r : Role) (starved : Bool) (rows : List Row) (moment : ℕ) (s : Step) (m : Message) → SettledPlain (events rows) → is_heard s.kind ≡ true → reading s.datagram ≡ Ok m → StepOutcome rows moment s (message_effects r starved rows moment s m)
 unfolding spelling header_spelling acknowledged reset answering
 role_outcome role.Ping starved rows moment s m settled hears read = plain (record { no_content = refl; no_valid = refl }, tt) refl
 role_outcome role.Acknowledgement starved rows moment s m settled hears read =

@@ -19,8 +19,8 @@ use Rattle.event_model.specs.Fetches.{Request, fetches, last_request, request_no
 use Rattle.journal_model.specs.declared.steps.Step.{Step}
 use Rattle.journal_model.specs.declared.rows.Row.{Row}
 use Rattle.journal_model.specs.Journal.{events, row_at}
-use Rattle.journal_model.specs.Sending.{Effects}
-use Rattle.journal_model.specs.Ticks.{is_confirmable_with, sent_by, sent_again, each_of, notice_again, flight_again, notices_again, Ticking, ticking, events_with, block_told, noticed_unless, listing_for, is_given, noticed_if, is_looked_at, notice_next, notices, request_again, fetch_again, requests_again, tick_effects}
+use Rattle.journal_model.specs.Effects.{Effects}
+use Rattle.journal_model.specs.Ticks.{is_confirmable_with, confirmable_sent, sent_again, each_of, notice_again, flight_again, notices_again, Ticking, ticking, events_with, block_shown, noticed_unless, listing_for, is_unchanged, noticed_if, is_looked_at, notice_next, notices, request_again, fetch_again, requests_again, tick_effects}
 use Rattle.headline_law.proofs.sends.ReadAgain.{header_read}
 use Rattle.headline_law.proofs.sends.PlainSteps.{IsPlain, ArePlain}
 use Rattle.headline_law.proofs.sends.ValidSends.{NotValid, NoneValid, is_confirmable, NoConfirmableValid, body_code}
@@ -35,7 +35,7 @@ pub record FoundSent (P : Peer × List ℕ → Type 0) (peer : Peer) (mid : ℕ)
 
 -- so it is of whatever is found
 pub sent_by-FoundSent : (P : Peer × List ℕ → Type 0) (at : Option Row) (peer : Peer) (mid : ℕ) (d : Peer × List ℕ) → ((r : Row) → at ≡ Some r → AllByRecursion P r.sent)
-    → sent_by at peer mid ≡ Some d → FoundSent P peer mid d
+    → confirmable_sent at peer mid ≡ Some d → FoundSent P peer mid d
 sent_by-FoundSent P None peer mid d all found = absurd (let no : None ≡ Some d = found in cc)
 sent_by-FoundSent P (Some r) peer mid d all found =
     let it = find_passes P (λ x. is_same_peer x.0 peer && is_confirmable_with mid x.1) r.sent d (all r refl) found in
@@ -84,7 +84,7 @@ requests_plain rows moment asked =
     again true c peer e None last noted = tt
     again true true peer e (Some request) last noted = tt
     again true false peer e (Some request) last noted =
-        again_sent (λ (d : Peer × List ℕ). IsPlain d.1) (sent_by (row_at e.place rows) peer request.mid) (note.Resent peer)
+        again_sent (λ (d : Peer × List ℕ). IsPlain d.1) (confirmable_sent (row_at e.place rows) peer request.mid) (note.Resent peer)
         (λ d found. (sent_by-FoundSent (λ (x : Peer × List ℕ). IsPlain x.1) (row_at e.place rows) peer request.mid d (λ r at. asked peer e request r last noted at) found).holds)
 
     running : (peer : Peer) (e : Option Event) → last_request peer (events rows) ≡ e → ArePlain (fetch_again rows moment peer e).sent
@@ -112,7 +112,7 @@ again_not_valid rows moment confirmables =
     again false c o f = tt
     again true true o f = tt
     again true false o f =
-        again_sent (λ (d : Peer × List ℕ). NotValid d.1) (sent_by (row_at f.formed.place rows) o.peer f.mid) (note.Again o.peer f.mid)
+        again_sent (λ (d : Peer × List ℕ). NotValid d.1) (confirmable_sent (row_at f.formed.place rows) o.peer f.mid) (note.Again o.peer f.mid)
         (λ d found. let it = sent_by-FoundSent (λ (x : Peer × List ℕ). is_confirmable x.1 ≡ true → NotValid x.1) (row_at f.formed.place rows) o.peer f.mid d (λ r at. confirmables f.formed.place r at) found in
         it.holds (confirmable_of f.mid d.1 it.confirmable))
 
@@ -131,11 +131,11 @@ notices_not_valid t done h = folded (observers (events_with t done)) done h
   where
     unless : (b : Bool) (so_far : Effects) (o : Observer) (a : Answer) → NoneValid (noticed_unless b t so_far o a).sent
     unless true so_far o a = tt
-    unless false so_far o a = (body_code (Some a.tag) (Some (observe_value (events_with t so_far))) (block_told o a.body) a.body, tt)
+    unless false so_far o a = (body_code (Some a.tag) (Some (observe_value (events_with t so_far))) (block_shown o a.body) a.body, tt)
 
     looked : (b : Bool) (so_far : Effects) (o : Observer) → NoneValid (noticed_if b t so_far o).sent
     looked false so_far o = tt
-    looked true so_far o = unless (is_given (last_body_formed (name_of o) (events_with t so_far)) (listing_for t o).body) so_far o (listing_for t o)
+    looked true so_far o = unless (is_unchanged (last_body_formed (name_of o) (events_with t so_far)) (listing_for t o).body) so_far o (listing_for t o)
 
     folded : (standing : List Observer) (so_far : Effects) → NoneValid so_far.sent → NoneValid (fold (notice_next t) so_far standing).sent
     folded [] so_far k = k

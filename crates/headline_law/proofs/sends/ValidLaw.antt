@@ -21,12 +21,12 @@ use Rattle.journal_model.specs.declared.steps.StepKind.{StepKind}
 use Rattle.journal_model.specs.declared.steps.StepKind.TheVariants as step
 use Rattle.journal_model.specs.declared.rows.Row.{Row}
 use Rattle.journal_model.specs.Journal.{is_look, events, entries, row_at}
-use Rattle.journal_model.specs.Requests.{refusal_by_request, only_looks, is_look_request}
+use Rattle.journal_model.specs.Requests.{refusal_of_request, only_looks, is_look_request}
 use Rattle.journal_model.specs.Rows.{looked, effects, row_moment, row}
 use Rattle.journal_model.specs.Machine.{is_look_message, is_look_reading, is_look_datagram, MayMake, IsJournal, begun, made}
 use Rattle.journal_model.specs.Headline.{Within, code_sent, looks_with_tag}
 use Rattle.headline_law.proofs.entries.JournalLaws.{Made, each_row}
-use Rattle.journal_model.proofs.Jobs.{heard_by_hearing, heard_no_look, heard_a_look}
+use Rattle.journal_model.proofs.Jobs.{heard_as_hearing, heard_no_look, heard_a_look}
 use Rattle.headline_law.proofs.sends.PlainSteps.{IsPlain, ArePlain, SettledPlain}
 use Rattle.headline_law.proofs.sends.ValidSends.{NoneValid, NoConfirmableValid, look_valid, looks_either}
 use Rattle.journal_model.proofs.EventRows.{AllRows, RowOf, row_of, row_within, said_by}
@@ -85,12 +85,12 @@ before_all rows all = record { settled = settled_plain; asked = asked_plain; con
 -- a datagram that is admitted is no look
 admitted_no_look : (rows : List Row) (s : Step) → MayMake rows s → s.kind ≡ step.Admit → is_look_reading (reading s.datagram) ≡ false
 unfolding is_look_datagram
-admitted_no_look rows s may admits = heard_no_look s.datagram (sym admits ∙ heard_by_hearing rows s may.begin (rw admits refl))
+admitted_no_look rows s may admits = heard_no_look s.datagram (sym admits ∙ heard_as_hearing rows s may.begin (rw admits refl))
 
 -- and one that is looked at is one
 pub looked_a_look : (rows : List Row) (s : Step) → MayMake rows s → s.kind ≡ step.Look → is_look_reading (reading s.datagram) ≡ true
 unfolding is_look_datagram
-looked_a_look rows s may looks = heard_a_look s.datagram (sym looks ∙ heard_by_hearing rows s may.begin (rw looks refl))
+looked_a_look rows s may looks = heard_a_look s.datagram (sym looks ∙ heard_as_hearing rows s may.begin (rw looks refl))
 
 -- so it is of all rows of a journal
 pub journal_sends : (rows : List Row) → IsJournal rows → AllRows RowSends rows
@@ -127,7 +127,7 @@ look_is_valid : (rows : List Row) (moment : ℕ) (s : Step) → is_look_reading 
 unfolding is_look_request
 look_is_valid rows moment s h =
     let it = a_look_reads (reading s.datagram) h in
-    let parts = and_parts (is_none (refusal_by_request it.message)) (only_looks it.message) it.looks in
+    let parts = and_parts (is_none (refusal_of_request it.message)) (only_looks it.message) it.looks in
     rw it.read_is (look_valid (entries rows) moment s it.message ∙ rw (it.looks, looks_either it.message parts.1) refl)
 
 -- no message is sent that is 2.03, so the first is not

@@ -22,11 +22,11 @@ use Rattle.event_model.specs.Observers.{observers, has_room_for, observe_value}
 use Rattle.journal_model.specs.declared.steps.Step.{Step}
 use Rattle.journal_model.specs.declared.rows.Row.{Row}
 use Rattle.journal_model.specs.Journal.{events, entries}
-use Rattle.journal_model.specs.Sending.{Reply, answer_kind, answer, answering}
+use Rattle.journal_model.specs.Effects.{Reply, answer_kind, answer, answering}
 use Rattle.journal_model.specs.Bodies.{part_reply, body_reply, is_long}
 use Rattle.journal_model.specs.Requests.{query_of, asked_block, number_of, szx_of, is_lookup, is_discovery, is_later_block, register, deregister, is_heeded, only_looks}
 use Rattle.journal_model.specs.Looks.{names_tag, unless_held, unless_valid, looked_at, look_effects, keep_effects}
-use Rattle.journal_model.specs.Lookups.{listing_now, block_now, block_of_kept, later_block, without, observed_if, observed, unobserved, observed_by, by_observe, by_block, lookup_effects}
+use Rattle.journal_model.specs.Lookups.{listing_now, block_now, block_of_kept, later_block, without, observed_if, observed, unobserved, observation_effects, first_block_effects, block_effects, lookup_effects}
 use Rattle.journal_model.specs.Headline.{code_at, code_sent}
 
 -- octets with another code than 2.03
@@ -158,15 +158,15 @@ lookup_not_valid rows moment s m lookup other = by (is_later_block m) refl
         only true = refl
         only false = rw (lookup, first, heeded) refl
 
-    valued : (value : ℕ) (b c : Bool) → is_later_block m ≡ false → observe_in m ≡ Some value → (value == register) ≡ b → (value == deregister) ≡ c → NoneValid (observed_by b c rows moment s m).sent
+    valued : (value : ℕ) (b c : Bool) → is_later_block m ≡ false → observe_in m ≡ Some value → (value == register) ≡ b → (value == deregister) ≡ c → NoneValid (observation_effects b c rows moment s m).sent
     valued value true c first has begins ends = added (has_room_for (query_of m) (without (s.peer, m.token) (observers (events rows))))
     valued value false true first has begins ends = added false
     valued value false false first has begins ends = absurd (false≢true (a_look first (ap is_heeded has ∙ rw (begins, ends) refl)))
 
-    observe : (o : Option ℕ) → is_later_block m ≡ false → observe_in m ≡ o → NoneValid (by_observe o rows moment s m).sent
+    observe : (o : Option ℕ) → is_later_block m ≡ false → observe_in m ≡ o → NoneValid (first_block_effects o rows moment s m).sent
     observe None first has = absurd (false≢true (a_look first (ap is_heeded has)))
     observe (Some value) first has = valued value (value == register) (value == deregister) first has refl refl
 
-    by : (b : Bool) → is_later_block m ≡ b → NoneValid (by_block b rows moment s m).sent
+    by : (b : Bool) → is_later_block m ≡ b → NoneValid (block_effects b rows moment s m).sent
     by true later_one = later (kept_answer moment (s.peer, key_in m) (events rows))
     by false first = observe (observe_in m) first refl
