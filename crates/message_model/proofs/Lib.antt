@@ -5,6 +5,7 @@ pub mod OptionLemmas
 pub mod TailLemmas
 pub mod HeaderLemmas
 pub mod MessageLaws
+pub mod ReadingLaws
 pub mod LocationLaws
 pub mod BlockLaws
 pub mod TableLemmas

@@ -169,14 +169,10 @@ option_takes before bytes x fits e =
     let made = option_made before a.0.0 bytes a.0.1 b.0 c.0 d.0.0 d.0.1 first delta size value.0 value.1 (ltb-false _ _ p.0) in
     subst (λ (y : Opt × List ℕ). Takes bytes (option_spelling before y.0) y.1 × IsOptionAfter before y.0) (same_Some ((before + b.0.0, d.0.0), d.0.1) x p.1) made
 
-pub option_again : (before : ℕ) (option : Opt) (rest : List ℕ) → IsOptionAfter before option → option_at before (option_spelling before option ++ rest) ≡ Some (option, rest)
+-- Where an option does not fall, and its number and its length can be written, it is read again, whatever the octets of its value are.
+pub option_in_order : (before : ℕ) (option : Opt) (rest : List ℕ) → before ≤ option.0 → option.0 ≤ last_number → length option.1 ≤ longest_value → option_at before (option_spelling before option ++ rest) ≡ Some (option, rest)
 unfolding option_at option_spelling
-option_again before option rest fits =
-    let ascends : before ≤ option.0 = fits.ascends in
-    let number : option.0 ≤ 65535 = fits.number in
-    let size : length option.1 ≤ 65804 = fits.size in
-    let delta : ℕ = option.0 - before in
-    let n : ℕ = length option.1 in
+option_in_order before option rest ascends number size =
     let low_delta : nibble_of (option.0 - before) ≤ 14 = nibble-le (option.0 - before) in
     let low_size : nibble_of (length option.1) ≤ 14 = nibble-le (length option.1) in
     let high : (nibble_of (option.0 - before) * 16 + nibble_of (length option.1)) / 16 ≡ nibble_of (option.0 - before) = omega arith in
@@ -185,3 +181,7 @@ option_again before option rest fits =
     let back : before + (option.0 - before) ≡ option.0 = omega arith in
     let small : ltb 65535 option.0 ≡ false = le-ltb 65535 option.0 number in
     rw (high, low, regrouped, extended_again (option.0 - before) (extension_of (length option.1) ++ (option.1 ++ rest)) (omega arith), extended_again (length option.1) (option.1 ++ rest) size, bytes_again (length option.1) option.1 rest refl, back, small) refl
+
+-- So it is with an option whose value is bytes.
+pub option_again : (before : ℕ) (option : Opt) (rest : List ℕ) → IsOptionAfter before option → option_at before (option_spelling before option ++ rest) ≡ Some (option, rest)
+option_again before option rest fits = option_in_order before option rest fits.ascends fits.number fits.size

@@ -1,14 +1,15 @@
 -- A tail goes on by one option at a time, and what is read of one is its spelling.
 use Rattle.std.proofs.Common.{◌≡◌, ℕ, zero, suc, ◌+◌, ◌*◌, ◌/◌, ◌%◌, ◌<◌, ◌≤◌, cond, ltb, eqb, List, [], ◌∷◌, ◌++◌, length, take, drop, Option, Some, None, refl, sym, ap, subst, ◌∙◌, append_assoc, arith, inl, inr}
+use Rattle.std.specs.Prelude.{⊤}
 use Rattle.std.proofs.lemmas.Bool.{eqb-true, ne_eqb}
 use Rattle.std.proofs.lemmas.List.{length-drop}
 use Rattle.std.proofs.lemmas.Option.{same_Some, none-some}
 use Rattle.message_model.specs.Numbers.{AreBytes}
-use Rattle.message_model.specs.Message.{Opt, AreOptionsAfter}
+use Rattle.message_model.specs.Message.{Opt, AreOptionsAfter, last_number, longest_value}
 use Rattle.message_model.specs.Spelling.{marker, option_spelling, options_spelling, payload_spelling}
 use Rattle.message_model.specs.Reading.{◌>>=◌, byte_at, bytes_at, extended_at, option_at, Tail, payload_at, with_option, short_tail, tail_at}
 use Rattle.message_model.proofs.ByteLemmas.{bind_some, chosen, passed, Takes}
-use Rattle.message_model.proofs.OptionLemmas.{IsOptionAfter, option_takes, option_again}
+use Rattle.message_model.proofs.OptionLemmas.{IsOptionAfter, option_takes, option_in_order}
 
 -- ---- an option leaves fewer bytes
 
@@ -144,6 +145,17 @@ tail_taken before bytes tail fits e = short_tail_taken (length bytes) before byt
 
 -- ---- what is spelled is read again
 
+-- Options in order whose numbers and lengths can be written, whatever the octets of their values are.
+abbrev pub AreInOrder : ℕ → List Opt → Type 0
+AreInOrder before [] = ⊤
+AreInOrder before (option ∷ options) = (before ≤ option.0) × (option.0 ≤ last_number) × (length option.1 ≤ longest_value) × AreInOrder option.0 options
+
+-- Options that can stand after an option of a number are in order after it.
+pub are_in_order : (before : ℕ) (options : List Opt) → AreOptionsAfter before options → AreInOrder before options
+are_in_order before [] fits = tt
+are_in_order before (option ∷ options) fits = (fits.0, fits.1, fits.2, are_in_order option.0 options fits.4)
+
+-- A tail that begins with an option.
 tail_step : (before : ℕ) (bytes : List ℕ) (option : Opt) (rest : List ℕ) (tail : Tail) → option_at before bytes ≡ Some (option, rest) → tail_at option.0 rest ≡ Some tail → tail_at before bytes ≡ Some (with_option option tail)
 unfolding option_at
 tail_step before [] option rest tail first others = absurd cc
@@ -151,16 +163,21 @@ tail_step before (b ∷ bytes) option rest tail first others =
     let other : b ≡ marker → ⊥ = λ same. none-some (option, rest) (sym (ap (λ (k : ℕ). option_at before (k ∷ bytes)) same ∙ marker_is_no_option before bytes) ∙ first) in
     tail_at-option before b bytes other ∙ rw (first, others) refl
 
+-- A payload alone is read again.
 payload_again : (before : ℕ) (payload : List ℕ) → tail_at before (payload_spelling payload) ≡ Some ([], payload)
 unfolding tail_at short_tail payload_spelling
 payload_again before [] = refl
 payload_again before (b ∷ bytes) = refl
 
-pub tail_again : (before : ℕ) (options : List Opt) (payload : List ℕ) → AreOptionsAfter before options → tail_at before (options_spelling before options ++ payload_spelling payload) ≡ Some (options, payload)
+-- Options in order and a payload are read again.
+pub tail_in_order : (before : ℕ) (options : List Opt) (payload : List ℕ) → AreInOrder before options → tail_at before (options_spelling before options ++ payload_spelling payload) ≡ Some (options, payload)
 unfolding options_spelling
-tail_again before [] payload fits = payload_again before payload
-tail_again before (option ∷ options) payload fits =
+tail_in_order before [] payload fits = payload_again before payload
+tail_in_order before (option ∷ options) payload fits =
     let regrouped = append_assoc (option_spelling before option) (options_spelling option.0 options) (payload_spelling payload) in
-    let fit : IsOptionAfter before option = record { ascends = fits.0; number = fits.1; size = fits.2; value = fits.3 } in
     ap (tail_at before) regrouped ∙ tail_step before (option_spelling before option ++ (options_spelling option.0 options ++ payload_spelling payload)) option (options_spelling option.0 options ++ payload_spelling payload) (options, payload)
-    (option_again before option (options_spelling option.0 options ++ payload_spelling payload) fit) (tail_again option.0 options payload fits.4)
+    (option_in_order before option (options_spelling option.0 options ++ payload_spelling payload) fits.0 fits.1 fits.2) (tail_in_order option.0 options payload fits.3)
+
+-- So are the options and the payload of a message.
+pub tail_again : (before : ℕ) (options : List Opt) (payload : List ℕ) → AreOptionsAfter before options → tail_at before (options_spelling before options ++ payload_spelling payload) ≡ Some (options, payload)
+tail_again before options payload fits = tail_in_order before options payload (are_in_order before options fits)

@@ -25,7 +25,8 @@ use Rattle.headline_law.proofs.observers.Observing.{entries-none_noted}
 use Rattle.headline_law.proofs.observers.ObserversKnow.{looked_notes}
 use Rattle.headline_law.proofs.entries.JournalLaws.{Made, each_row}
 use Rattle.journal_model.proofs.Jobs.{KeepsOf, keeps_of}
-use Rattle.headline_law.proofs.sends.ReadAgain.{header_read}
+use Rattle.message_model.proofs.MessageLaws.{ok_is}
+use Rattle.message_model.proofs.ReadingLaws.{header_read}
 use Rattle.headline_law.proofs.sends.BodyAnswers.{Bears, IsBodyOf, tag-length, bears_carries}
 use Rattle.headline_law.proofs.sends.LookupSends.{AreBodiesOf, keep_bears}
 use Rattle.headline_law.proofs.notes.Asking.{look_fits, KeptAt}
@@ -51,10 +52,6 @@ same_keep body current others other e = (ap body_of e, ap tag_of e)
 look_only : (m : Message) → is_look_request m ≡ true → only_looks m ≡ true
 unfolding is_look_request
 look_only m h = (and_parts (is_none (refusal_by_request m)) (only_looks m) h).1
-
--- one message is read of a datagram
-ok_is : (m n : Message) → ◌≡◌ {A = Result Message Unread} (Ok m) (Ok n) → m ≡ n
-ok_is m n e = cc
 
 -- the look whose job a keep ends
 record KeepOf (rows : List Row) (worker : ℕ) (m : Message) (body current : List ℕ) : Type 0 where

@@ -24,7 +24,7 @@ use Rattle.journal_model.specs.Headline.{Placed, former_by, former_of_kept, form
 use Rattle.journal_model.proofs.EntriesNoted.{entries_in}
 use Rattle.headline_law.proofs.entries.QuietSteps.{lookup_effects-entries_in}
 use Rattle.headline_law.proofs.observers.Observing.{entries-none_noted}
-use Rattle.headline_law.proofs.sends.ReadAgain.{header_read}
+use Rattle.message_model.proofs.ReadingLaws.{header_read}
 use Rattle.headline_law.proofs.sends.BodyAnswers.{Bears, IsBodyOf, tag-length, bears_carries}
 use Rattle.headline_law.proofs.sends.LookupSends.{AreListings, AreBodiesOf, tells_earlier, LookupGives, now, kept, lookup_gives}
 use Rattle.journal_model.proofs.EventRows.{AllRows, row_of, row_within, said_by}

@@ -20,7 +20,7 @@ use Rattle.journal_model.specs.Headline.{Placed, former_by, former_noted, former
 use Rattle.journal_model.proofs.EntriesNoted.{entries_in}
 use Rattle.journal_model.proofs.StepNotes.{look_effects-notes}
 use Rattle.headline_law.proofs.observers.Observing.{entries-none_noted}
-use Rattle.headline_law.proofs.sends.ReadAgain.{header_read}
+use Rattle.message_model.proofs.ReadingLaws.{header_read}
 use Rattle.headline_law.proofs.sends.BodyAnswers.{Bears, IsBodyOf, other_code, bears_carries}
 use Rattle.headline_law.proofs.sends.PlainSteps.{ArePlain}
 use Rattle.headline_law.proofs.sends.LookupSends.{AreListings, look_lists, tells_earlier}
