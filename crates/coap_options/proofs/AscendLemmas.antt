@@ -7,9 +7,10 @@ use Rattle.std.proofs.Math.Bool.{or-false}
 use Rattle.message_model.specs.Message.{Opt, last_number, end_number}
 use Rattle.message_model.specs.OptionTable.{stands_in}
 use Rattle.message_model.specs.Reading.{byte_at, extended_at, bytes_at, option_at}
-use Rattle.message_model.proofs.ByteLemmas.{bind_some, passed}
+use Rattle.message_model.proofs.ByteLemmas.{bind_some}
 use Rattle.coap_message.specs.Fronts.{few_options, options_at}
 use Rattle.coap_options.specs.Found as found
+use Rattle.rd_base.proofs.lemmas.Choices.{not_refused}
 
 -- Options after one of the number before, none with a lower number than the one before it.
 abbrev pub Ascend : ℕ → List Opt → Type 0
@@ -23,7 +24,7 @@ option_ascends before bytes x e =
     let b = bind_some (extended_at (a.0.0 / 16) a.0.1) _ x a.2 in
     let c = bind_some (extended_at (a.0.0 % 16) b.0.1) _ x b.2 in
     let d = bind_some (bytes_at c.0.0 c.0.1) _ x c.2 in
-    let p = passed (ltb last_number (before + b.0.0)) (Some ((before + b.0.0, d.0.0), d.0.1)) x d.2 in
+    let p = not_refused (ltb last_number (before + b.0.0)) (Some ((before + b.0.0, d.0.0), d.0.1)) x d.2 in
     let same = same_Some ((before + b.0.0, d.0.0), d.0.1) x p.1 in
     let number : before + b.0.0 ≡ x.0.0 = ap (λ (y : Opt × List ℕ). y.0.0) same in
     omega (arith, number)

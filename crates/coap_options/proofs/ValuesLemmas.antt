@@ -6,7 +6,7 @@ use Rattle.std.proofs.lemmas.List.{append-nil}
 use Rattle.std.proofs.Math.Bool.{and-false, and-true}
 use Rattle.message_model.specs.Message.{Opt}
 use Rattle.message_model.specs.OptionTable as table
-use Rattle.message_model.specs.OptionTable.{definition_of, stands_in, is_allowed_by, is_recognized, placed_options, recognized_options, values}
+use Rattle.message_model.specs.OptionTable.{definition_of, stands_in, is_allowed_by, is_recognized, preceded_options, recognized_options, values}
 use Rattle.message_model.proofs.TableLemmas.{values-push}
 use Rattle.coap_options.specs.Left.{values_left}
 
@@ -69,7 +69,7 @@ values_onward number before (option ∷ left) repeats =
     ∙ ap (λ (vs : List (List ℕ)). values number before ++ vs) (left_more number option left)
 
 no_values : (number : ℕ) → values number [] ≡ []
-unfolding values recognized_options placed_options
+unfolding values recognized_options preceded_options
 no_values number = refl
 
 -- The recognized values of a number that may be repeated are those of a length that the table allows.

@@ -85,7 +85,7 @@ pub(crate) fn with_option<'a>(found: &Found<'a>, option: &Opt<'a>) -> Found<'a>
 }
 
 // Of no options.
-#[tactic(auto, unfolding(message_model::specs::OptionTable::first_bad_option, message_model::specs::OptionTable::values, message_model::specs::OptionTable::recognized_options, message_model::specs::OptionTable::placed_options))]
+#[tactic(auto, unfolding(message_model::specs::OptionTable::first_bad_option, message_model::specs::OptionTable::values, message_model::specs::OptionTable::recognized_options, message_model::specs::OptionTable::preceded_options))]
 pub(crate) fn nothing_found<'a>() -> Found<'a>
     ensures { IsFound [] result }
 {

@@ -13,19 +13,19 @@ use Rattle.line_model.specs.Numbers.{max_worker, max_moment, max_word}
 use Rattle.rd_base.specs.Peers.{IsPeer, peer_text}
 use Rattle.line_model.specs.Datagrams.{max_datagram, datagram_text}
 use Rattle.line_model.specs.Lines.{space, max_line, fields, joined, come_of, go_of, tick_of, said_by, line_of, printed_fields, line_text, IsLine, come, go, tick}
-use Rattle.rd_base.proofs.Tests.{passed, failed}
 use Rattle.line_model.proofs.Numbers.{number_of-decimal}
 use Rattle.rd_base.proofs.PeerTexts.{peer_of-peer_text}
 use Rattle.line_model.proofs.Datagrams.{datagram_of-datagram_text}
 use Rattle.line_model.proofs.Spaces.{HasNoSpace, decimal_spaceless, peer_spaceless, datagram_spaceless}
 use Rattle.line_model.proofs.Lengths.{length-peer_text, length-datagram_text}
 use Rattle.line_model.proofs.Fields.{fields-joined}
+use Rattle.rd_base.proofs.lemmas.Choices.{chosen_true, chosen_false}
 
 -- what is said by fields is said by the line that they make, where it is not too long
 pub line_of_fields : (text : List ℕ) (l : Line) → length text ≤ max_line → said_by (fields text) ≡ Some l → line_of text ≡ Ok l
 unfolding line_of
 line_of_fields text l short said =
-    failed (nat_lt max_line (length text)) (Err reason.Long) (ok_or (said_by (fields text)) reason.Form) (le-ltb max_line (length text) short)
+    chosen_false (nat_lt max_line (length text)) (Err reason.Long) (ok_or (said_by (fields text)) reason.Form) (le-ltb max_line (length text) short)
     ∙ ap (λ o. ok_or o reason.Form) said
 
 -- the fields of each kind of line say it
@@ -56,10 +56,10 @@ abbrev word_fields : ℕ → List (List ℕ)
 word_fields word = if word == 0 then [] else decimal word ∷ []
 
 no_word : (word : ℕ) → word ≡ 0 → word_fields word ≡ []
-no_word word e = passed (word == 0) [] (decimal word ∷ []) (eq-eqb word 0 e)
+no_word word e = chosen_true (word == 0) [] (decimal word ∷ []) (eq-eqb word 0 e)
 
 some_word : (word : ℕ) → word ≢ 0 → word_fields word ≡ decimal word ∷ []
-some_word word e = failed (word == 0) [] (decimal word ∷ []) (ne_eqb word 0 e)
+some_word word e = chosen_false (word == 0) [] (decimal word ∷ []) (ne_eqb word 0 e)
 
 tick_said : (worker : ℕ) (moment : Moment) (word : ℕ) → worker ≤ max_worker → moment.0 ≤ max_moment → word ≤ max_word → said_by (printed_fields (line.Tick worker moment word)) ≡ Some (line.Tick worker moment word)
 tick_said worker moment word hw hm hx =

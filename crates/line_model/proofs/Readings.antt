@@ -10,13 +10,13 @@ use Rattle.line_model.specs.Numbers.{IsNumber, max_worker, max_moment, max_word,
 use Rattle.rd_base.specs.Peers.{peer_of}
 use Rattle.line_model.specs.Datagrams.{datagram_of}
 use Rattle.line_model.specs.Lines.{max_line, fields, joined, come_of, go_of, tick_of, said_by, line_of, AreFieldsOf, comes, goes, ticks, ticks_alone, IsLineText}
-use Rattle.rd_base.proofs.Tests.{either_of}
 use Rattle.line_model.proofs.Numbers.{number_of-found, number_of-IsNumber}
 use Rattle.rd_base.proofs.PeerBounds.{peer_of-IsPeerText}
 use Rattle.line_model.proofs.Datagrams.{datagram_of-found, datagram_of-IsDatagramText}
 use Rattle.line_model.proofs.Spaces.{HasNoSpace, decimal_spaceless, peer_spaceless, IsDatagramText_spaceless}
 use Rattle.line_model.proofs.Fields.{fields-joined, joined-fields}
 use Rattle.line_model.proofs.ReadBack.{line_of_fields}
+use Rattle.rd_base.proofs.lemmas.Choices.{either_of}
 
 -- a word is what it was compared with
 is_word : (verb : List ℕ) (word : List ℕ) → bytes_eq verb word ≡ true → verb ≡ word

@@ -7,7 +7,7 @@ use Rattle.std.proofs.lemmas.Option.{same_Some, none-some}
 use Rattle.message_model.specs.declared.blocks.Block.{Block}
 use Rattle.message_model.specs.Numbers.{AreBytes, uint_of, uint_bytes}
 use Rattle.message_model.specs.Blocks.{IsBlock, block_size, block_from, block_read, more_bit, block_value, block_of, IsPiece}
-use Rattle.message_model.proofs.ByteLemmas.{chosen, passed}
+use Rattle.rd_base.proofs.lemmas.Choices.{either_of, not_refused}
 
 -- ---- numbers
 
@@ -100,7 +100,7 @@ unfolding block_read block_value
 block_found value b fits few e =
     let n : ℕ = uint_of value in
     let small : uint_of value < 2 ^ 24 = uint_small value fits few in
-    let p = passed (eqb (uint_of value % 8) 7) _ b e in
+    let p = not_refused (eqb (uint_of value % 8) 7) _ b e in
     let free : uint_of value % 8 ≡ 7 → ⊥ = eqb-false (uint_of value % 8) 7 p.0 in
     let bit : more_bit (eqb (uint_of value / 8 % 2) 1) ≡ uint_of value / 8 % 2 = more_bit-eqb (uint_of value / 8 % 2) (omega arith) in
     let found : IsFound value (record { num = uint_of value / 16; more = eqb (uint_of value / 8 % 2) 1; szx = uint_of value % 8 }) = record {
@@ -133,7 +133,7 @@ pair_same x y e = same_Some x y e
 pub block_of_piece : (body : List ℕ) (num szx : ℕ) (x : List ℕ × Bool) → block_of body num szx ≡ Some x → IsPiece body num (block_size szx) x.0 x.1
 unfolding block_of
 block_of_piece body num szx x e =
-    let p = passed (ltb 0 num && leb (length body) (num * block_size szx)) _ x e in
+    let p = not_refused (ltb 0 num && leb (length body) (num * block_size szx)) _ x e in
     subst (λ (y : List ℕ × Bool). IsPiece body num (block_size szx) y.0 y.1) (pair_same _ x p.1) (piece_of body num (block_size szx))
 
 -- There is none exactly where the number is above 0 and begins at the body's end or past it.
@@ -144,7 +144,7 @@ block_of_none body num szx above past = rw (lt-ltb 0 num above, le-leb (length b
 pub block_of_some : (body : List ℕ) (num szx : ℕ) → block_of body num szx ≡ None → (0 < num) × (length body ≤ num * block_size szx)
 unfolding block_of
 block_of_some body num szx e =
-    elim (chosen (ltb 0 num && leb (length body) (num * block_size szx)) None _ None e) [
+    elim (either_of (ltb 0 num && leb (length body) (num * block_size szx)) None _ None e) [
       | inl past ↦
           let h = and_parts (ltb 0 num) (leb (length body) (num * block_size szx)) past.0 in
           (ltb-true _ _ h.0, leb-true _ _ h.1)

@@ -8,7 +8,7 @@ use Rattle.message_model.specs.declared.messages.Unread.TheVariants as unread
 use Rattle.message_model.specs.Message.{Message, longest_token}
 use Rattle.message_model.specs.Spelling.{version, kind_number, header_spelling}
 use Rattle.message_model.specs.Reading.{kind_of, Header, header_of, header_at}
-use Rattle.message_model.proofs.ByteLemmas.{chosen}
+use Rattle.rd_base.proofs.lemmas.Choices.{either_of}
 
 -- ---- types
 
@@ -65,7 +65,7 @@ header_taken (a ∷ []) x e = absurd (err_is_no_ok unread.Short x e)
 header_taken (a ∷ b ∷ []) x e = absurd (err_is_no_ok unread.Short x e)
 header_taken (a ∷ b ∷ c ∷ []) x e = absurd (err_is_no_ok unread.Short x e)
 header_taken (first ∷ code ∷ high ∷ low ∷ bytes) x e =
-    elim (chosen (eqb (first / 64) 1) _ _ (Ok x) e) [
+    elim (either_of (eqb (first / 64) 1) _ _ (Ok x) e) [
       | inl good ↦ subst (λ (y : Header × List ℕ). IsHeader (first ∷ code ∷ high ∷ low ∷ bytes) y) (ok_same (header_of first code high low, bytes) x good.1)
           (record { first = first; code = code; high = high; low = low; parts = refl; version_is = eqb-true _ _ good.0; header_is = refl })
       | inr other ↦ absurd (err_is_no_ok unread.Version x other.1)

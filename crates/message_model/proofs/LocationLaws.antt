@@ -10,8 +10,8 @@ use Rattle.std.proofs.lemmas.Fmt.{decimal-digits_value, digits_decimal, digits_v
 use Rattle.std.proofs.lemmas.Str.Parse.{IsNumeralModel, numerals_by_fold, digits_value_short}
 use Rattle.message_model.specs.declared.requests.Path.TheVariants as path
 use Rattle.message_model.specs.Request.{has_leading_zero, is_location, decimal_value, location_of}
-use Rattle.message_model.proofs.ByteLemmas.{chosen}
 use Rattle.rd_base.proofs.lemmas.Booleans.{and_four}
+use Rattle.rd_base.proofs.lemmas.Choices.{either_of}
 
 abbrev are_digits : List ℕ → Bool
 are_digits text = list_all is_ascii_digit text
@@ -49,7 +49,7 @@ same_number a b e = cc
 pub location_found : (text : List ℕ) (n : ℕ) → location_of text ≡ path.Location n → (text ≡ decimal n) × (n < 10 ^ 15)
 unfolding location_of
 location_found text n e =
-    elim (chosen (is_location text) _ _ (path.Location n) e) [
+    elim (either_of (is_location text) _ _ (path.Location n) e) [
       | inl named ↦
           let h = location_parts text named.0 in
           let small = value_small text h in

@@ -10,9 +10,10 @@ use Rattle.message_model.specs.Codes.{is_reserved, empty}
 use Rattle.message_model.specs.Message.{Message, Opt, IsBare, IsMessage, AreOptionsAfter, longest_token}
 use Rattle.message_model.specs.Spelling.{kind_number, header_spelling, option_spelling, options_spelling, payload_spelling, spelling}
 use Rattle.message_model.specs.Reading.{Header, header_of, header_at, bytes_at, tail_at, is_filled, is_bad_header, message_of, body_at, or_format, with_body, reading}
-use Rattle.message_model.proofs.ByteLemmas.{bind_some, passed, bytes_takes, bytes_again}
+use Rattle.message_model.proofs.ByteLemmas.{bind_some, bytes_takes, bytes_again}
 use Rattle.message_model.proofs.TailLemmas.{AreInOrder, are_in_order, tail_taken, tail_in_order}
 use Rattle.message_model.proofs.HeaderLemmas.{kind_number-kind_of, header_taken, header_in, header_again}
+use Rattle.rd_base.proofs.lemmas.Choices.{not_refused}
 
 -- What stands behind the header of a message.
 abbrev pub body_spelling : Message → List ℕ
@@ -32,7 +33,7 @@ record IsBody (header : Header) (bytes : List ℕ) (m : Message) : Type 0 where
 body_taken : (header : Header) (bytes : List ℕ) (m : Message) → AreBytes bytes → body_at header bytes ≡ Some m → IsBody header bytes m
 unfolding body_at
 body_taken header bytes m fits e =
-    let p = passed (is_bad_header header bytes) _ m e in
+    let p = not_refused (is_bad_header header bytes) _ m e in
     let a = bind_some (bytes_at header.token_length bytes) _ m p.1 in
     let b = bind_some (tail_at 0 a.0.1) _ m a.2 in
     let token = bytes_takes header.token_length bytes a.0 fits a.1 in

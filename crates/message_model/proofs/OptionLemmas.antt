@@ -6,7 +6,8 @@ use Rattle.message_model.specs.Numbers.{AreBytes}
 use Rattle.message_model.specs.Message.{Opt, longest_value, last_number}
 use Rattle.message_model.specs.Spelling.{nibble_of, extension_of, option_spelling}
 use Rattle.message_model.specs.Reading.{◌>>=◌, byte_at, bytes_at, extended_at, option_at}
-use Rattle.message_model.proofs.ByteLemmas.{bind_some, chosen, passed, Takes, Takes-from, Takes-then, byte_takes, bytes_takes, bytes_again}
+use Rattle.message_model.proofs.ByteLemmas.{bind_some, Takes, Takes-from, Takes-then, byte_takes, bytes_takes, bytes_again}
+use Rattle.rd_base.proofs.lemmas.Choices.{either_of, not_refused}
 
 -- ---- the three forms of a delta or a length
 
@@ -96,11 +97,11 @@ long_takes (a ∷ b ∷ bytes) x fits e =
 pub extended_takes : (nibble : ℕ) (bytes : List ℕ) (x : ℕ × List ℕ) → AreBytes bytes → extended_at nibble bytes ≡ Some x → Extends nibble bytes x
 unfolding extended_at
 extended_takes nibble bytes x fits e =
-    elim (chosen (ltb nibble 13) (Some (nibble, bytes)) _ (Some x) e) [
+    elim (either_of (ltb nibble 13) (Some (nibble, bytes)) _ (Some x) e) [
       | inl short ↦ short_takes nibble bytes x fits (ltb-true _ _ short.0) short.1
-      | inr longer ↦ elim (chosen (eqb nibble 13) _ _ (Some x) longer.1) [
+      | inr longer ↦ elim (either_of (eqb nibble 13) _ _ (Some x) longer.1) [
         | inl middle ↦ subst (λ (k : ℕ). Extends k bytes x) (sym (eqb-true _ _ middle.0)) (middle_takes bytes x fits middle.1)
-        | inr other ↦ elim (chosen (eqb nibble 14) _ _ (Some x) other.1) [
+        | inr other ↦ elim (either_of (eqb nibble 14) _ _ (Some x) other.1) [
           | inl long ↦ subst (λ (k : ℕ). Extends k bytes x) (sym (eqb-true _ _ long.0)) (long_takes bytes x fits long.1)
           | inr none ↦ absurd (none-some x none.1)
         ]
@@ -161,7 +162,7 @@ option_takes before bytes x fits e =
     let b = bind_some (extended_at (a.0.0 / 16) a.0.1) _ x a.2 in
     let c = bind_some (extended_at (a.0.0 % 16) b.0.1) _ x b.2 in
     let d = bind_some (bytes_at c.0.0 c.0.1) _ x c.2 in
-    let p = passed (ltb last_number (before + b.0.0)) (Some ((before + b.0.0, d.0.0), d.0.1)) x d.2 in
+    let p = not_refused (ltb last_number (before + b.0.0)) (Some ((before + b.0.0, d.0.0), d.0.1)) x d.2 in
     let first = byte_takes bytes a.0 fits a.1 in
     let delta = extended_takes (a.0.0 / 16) a.0.1 b.0 first.rest_fits b.1 in
     let size = extended_takes (a.0.0 % 16) b.0.1 c.0 delta.takes.rest_fits c.1 in

@@ -6,9 +6,10 @@ use Rattle.std.proofs.lemmas.Option.{same_Some}
 use Rattle.message_model.specs.Codes.{is_reserved}
 use Rattle.message_model.specs.Message.{Message, longest_token}
 use Rattle.message_model.specs.Reading.{bytes_at, Header, header_at, tail_at, is_bad_header, message_of, body_at, reading}
-use Rattle.message_model.proofs.ByteLemmas.{bind_some, passed}
+use Rattle.message_model.proofs.ByteLemmas.{bind_some}
 use Rattle.message_model.proofs.HeaderLemmas.{header_taken}
 use Rattle.message_model.proofs.MessageLaws.{body_ok}
+use Rattle.rd_base.proofs.lemmas.Choices.{not_refused}
 
 -- What the header of a message that was read says.
 pub record HeaderRead (octets : List ℕ) (m : Message) : Type 0 where
@@ -23,7 +24,7 @@ pub record HeaderRead (octets : List ℕ) (m : Message) : Type 0 where
 -- so many octets were taken
 bytes_length : (n : ℕ) (bytes : List ℕ) (x : List ℕ × List ℕ) → bytes_at n bytes ≡ Some x → length x.0 ≡ n
 bytes_length n bytes x e =
-    let p = passed (ltb (length bytes) n) (Some (take n bytes, drop n bytes)) x e in
+    let p = not_refused (ltb (length bytes) n) (Some (take n bytes, drop n bytes)) x e in
     let long : n ≤ length bytes = ltb-false _ _ p.0 in
     subst (λ (y : List ℕ × List ℕ). length y.0 ≡ n) (same_Some (take n bytes, drop n bytes) x p.1) (omega (arith, length-take n bytes))
 
@@ -41,7 +42,7 @@ good_token a b c e = grind arith
 body_read : (header : Header) (bytes : List ℕ) (m : Message) → body_at header bytes ≡ Some m → BodyRead header m
 unfolding body_at
 body_read header bytes m e =
-    let p = passed (is_bad_header header bytes) _ m e in
+    let p = not_refused (is_bad_header header bytes) _ m e in
     let a = bind_some (bytes_at header.token_length bytes) _ m p.1 in
     let b = bind_some (tail_at 0 a.0.1) _ m a.2 in
     let size : length a.0.0 ≡ header.token_length = bytes_length header.token_length bytes a.0 a.1 in

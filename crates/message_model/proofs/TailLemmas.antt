@@ -8,8 +8,9 @@ use Rattle.message_model.specs.Numbers.{AreBytes}
 use Rattle.message_model.specs.Message.{Opt, AreOptionsAfter, last_number, longest_value}
 use Rattle.message_model.specs.Spelling.{marker, option_spelling, options_spelling, payload_spelling}
 use Rattle.message_model.specs.Reading.{◌>>=◌, byte_at, bytes_at, extended_at, option_at, Tail, payload_at, with_option, short_tail, tail_at}
-use Rattle.message_model.proofs.ByteLemmas.{bind_some, chosen, passed, Takes}
+use Rattle.message_model.proofs.ByteLemmas.{bind_some, Takes}
 use Rattle.message_model.proofs.OptionLemmas.{IsOptionAfter, option_takes, option_in_order}
+use Rattle.rd_base.proofs.lemmas.Choices.{either_of, not_refused}
 
 -- ---- an option leaves fewer bytes
 
@@ -19,20 +20,20 @@ byte_shortens (b ∷ bytes) x e = subst (λ (y : ℕ × List ℕ). suc (length b
 
 bytes_shorten : (n : ℕ) (bytes : List ℕ) (x : List ℕ × List ℕ) → bytes_at n bytes ≡ Some x → length x.1 ≤ length bytes
 bytes_shorten n bytes x e =
-    let p = passed (ltb (length bytes) n) (Some (take n bytes, drop n bytes)) x e in
+    let p = not_refused (ltb (length bytes) n) (Some (take n bytes, drop n bytes)) x e in
     subst (λ (y : List ℕ × List ℕ). length y.1 ≤ length bytes) (same_Some (take n bytes, drop n bytes) x p.1) (omega (arith, length-drop n bytes))
 
 extended_shortens : (nibble : ℕ) (bytes : List ℕ) (x : ℕ × List ℕ) → extended_at nibble bytes ≡ Some x → length x.1 ≤ length bytes
 unfolding extended_at
 extended_shortens nibble bytes x e =
-    elim (chosen (ltb nibble 13) (Some (nibble, bytes)) _ (Some x) e) [
+    elim (either_of (ltb nibble 13) (Some (nibble, bytes)) _ (Some x) e) [
       | inl short ↦ subst (λ (y : ℕ × List ℕ). length y.1 ≤ length bytes) (same_Some (nibble, bytes) x short.1) (omega arith)
-      | inr longer ↦ elim (chosen (eqb nibble 13) _ _ (Some x) longer.1) [
+      | inr longer ↦ elim (either_of (eqb nibble 13) _ _ (Some x) longer.1) [
         | inl middle ↦
             let a = bind_some (byte_at bytes) _ x middle.1 in
             let less = byte_shortens bytes a.0 a.1 in
             subst (λ (y : ℕ × List ℕ). length y.1 ≤ length bytes) (same_Some (13 + a.0.0, a.0.1) x a.2) (omega arith)
-        | inr other ↦ elim (chosen (eqb nibble 14) _ _ (Some x) other.1) [
+        | inr other ↦ elim (either_of (eqb nibble 14) _ _ (Some x) other.1) [
           | inl long ↦
               let a = bind_some (byte_at bytes) _ x long.1 in
               let b = bind_some (byte_at a.0.1) _ x a.2 in
@@ -51,7 +52,7 @@ option_shortens before bytes x e =
     let b = bind_some (extended_at (a.0.0 / 16) a.0.1) _ x a.2 in
     let c = bind_some (extended_at (a.0.0 % 16) b.0.1) _ x b.2 in
     let d = bind_some (bytes_at c.0.0 c.0.1) _ x c.2 in
-    let p = passed (ltb 65535 (before + b.0.0)) (Some ((before + b.0.0, d.0.0), d.0.1)) x d.2 in
+    let p = not_refused (ltb 65535 (before + b.0.0)) (Some ((before + b.0.0, d.0.0), d.0.1)) x d.2 in
     let h1 : length bytes ≡ suc (length a.0.1) = byte_shortens bytes a.0 a.1 in
     let h2 : length b.0.1 ≤ length a.0.1 = extended_shortens (a.0.0 / 16) a.0.1 b.0 b.1 in
     let h3 : length c.0.1 ≤ length b.0.1 = extended_shortens (a.0.0 % 16) b.0.1 c.0 c.1 in
@@ -124,12 +125,12 @@ unfolding short_tail options_spelling payload_spelling
 short_tail_taken n before [] tail fits e =
     subst (λ (t : Tail). IsTail before [] t) (same_Some ([], []) tail e) (record { parts = refl; options = tt; payload = tt })
 short_tail_taken zero before (b ∷ bytes) tail fits e =
-    elim (chosen (eqb b 255) (payload_at bytes) None (Some tail) e) [
+    elim (either_of (eqb b 255) (payload_at bytes) None (Some tail) e) [
       | inl ends ↦ subst (λ (k : ℕ). IsTail before (k ∷ bytes) tail) (sym (eqb-true _ _ ends.0)) (payload_taken before bytes tail fits.1 ends.1)
       | inr none ↦ absurd (none-some tail none.1)
     ]
 short_tail_taken (suc n) before (b ∷ bytes) tail fits e =
-    elim (chosen (eqb b 255) (payload_at bytes) _ (Some tail) e) [
+    elim (either_of (eqb b 255) (payload_at bytes) _ (Some tail) e) [
       | inl ends ↦ subst (λ (k : ℕ). IsTail before (k ∷ bytes) tail) (sym (eqb-true _ _ ends.0)) (payload_taken before bytes tail fits.1 ends.1)
       | inr more ↦
           let a = bind_some (option_at before (b ∷ bytes)) _ tail more.1 in

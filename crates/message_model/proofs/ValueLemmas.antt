@@ -5,7 +5,7 @@ use Rattle.std.specs.List.{AllByRecursion}
 use Rattle.std.proofs.lemmas.Bool.{cases_Bool, leb-true, eqb-true}
 use Rattle.message_model.specs.Numbers.{AreBytes}
 use Rattle.message_model.specs.Message.{Opt, AreOptionsAfter}
-use Rattle.message_model.specs.OptionTable.{Definition, definition_of, stands_in, is_allowed_by, Placed, placed_options, is_recognized_there, recognized_options, values}
+use Rattle.message_model.specs.OptionTable.{Definition, definition_of, stands_in, is_allowed_by, Preceded, preceded_options, is_recognized_there, recognized_options, values}
 
 -- ---- lists
 
@@ -53,9 +53,9 @@ all_true (x ∷ xs) = (tt, all_true xs)
 recognized_sizes : (options : List Opt) → AllByRecursion HasGoodSize (recognized_options options)
 unfolding recognized_options
 recognized_sizes options =
-    all_map (λ (p : Placed). HasGoodSize p.1) HasGoodSize (λ p. p.1) (λ p h. h) _
-    (all_filter (λ (p : Placed). Unit {0}) (λ (p : Placed). HasGoodSize p.1) is_recognized_there
-    (λ p good _. size_allowed (definition_of p.1.0) (stands_in p.1.0 p.0) (length p.1.1) good) (placed_options options) (all_true (placed_options options)))
+    all_map (λ (p : Preceded). HasGoodSize p.1) HasGoodSize (λ p. p.1) (λ p h. h) _
+    (all_filter (λ (p : Preceded). Unit {0}) (λ (p : Preceded). HasGoodSize p.1) is_recognized_there
+    (λ p good _. size_allowed (definition_of p.1.0) (stands_in p.1.0 p.0) (length p.1.1) good) (preceded_options options) (all_true (preceded_options options)))
 
 -- Each value of a number has a length that the number's definition allows.
 pub values_sizes : (number : ℕ) (d : Definition) (options : List Opt) → definition_of number ≡ Some d → AllByRecursion (λ value. HasSize d (length value)) (values number options)
@@ -71,11 +71,11 @@ option_bytes : (before : ℕ) (options : List Opt) → AreOptionsAfter before op
 option_bytes before [] fits = tt
 option_bytes before (option ∷ options) fits = (fits.3, option_bytes option.0 options fits.4)
 
-placed_bytes : (options : List Opt) → AllByRecursion (λ (o : Opt). AreBytes o.1) options → AllByRecursion (λ (p : Placed). AreBytes p.1.1) (placed_options options)
-unfolding placed_options
+placed_bytes : (options : List Opt) → AllByRecursion (λ (o : Opt). AreBytes o.1) options → AllByRecursion (λ (p : Preceded). AreBytes p.1.1) (preceded_options options)
+unfolding preceded_options
 placed_bytes [] fits = tt
 placed_bytes (option ∷ options) fits =
-    (fits.0, all_map (λ (p : Placed). AreBytes p.1.1) (λ (p : Placed). AreBytes p.1.1) (λ p. (option ∷ p.0, p.1)) (λ p h. h) (placed_options options) (placed_bytes options fits.1))
+    (fits.0, all_map (λ (p : Preceded). AreBytes p.1.1) (λ (p : Preceded). AreBytes p.1.1) (λ p. (option ∷ p.0, p.1)) (λ p h. h) (preceded_options options) (placed_bytes options fits.1))
 
 -- Each value of a number is made of bytes.
 pub values_bytes : (number before : ℕ) (options : List Opt) → AreOptionsAfter before options → AllByRecursion AreBytes (values number options)
@@ -83,6 +83,6 @@ unfolding values recognized_options
 values_bytes number before options fits =
     all_map (λ (o : Opt). AreBytes o.1) AreBytes (λ o. o.1) (λ o h. h) _
     (all_filter (λ (o : Opt). AreBytes o.1) (λ (o : Opt). AreBytes o.1) (λ (o : Opt). o.0 == number) (λ o _ h. h) _
-    (all_map (λ (p : Placed). AreBytes p.1.1) (λ (o : Opt). AreBytes o.1) (λ p. p.1) (λ p h. h) _
-    (all_filter (λ (p : Placed). AreBytes p.1.1) (λ (p : Placed). AreBytes p.1.1) is_recognized_there (λ p _ h. h) (placed_options options)
+    (all_map (λ (p : Preceded). AreBytes p.1.1) (λ (o : Opt). AreBytes o.1) (λ p. p.1) (λ p h. h) _
+    (all_filter (λ (p : Preceded). AreBytes p.1.1) (λ (p : Preceded). AreBytes p.1.1) is_recognized_there (λ p _ h. h) (preceded_options options)
     (placed_bytes options (option_bytes before options fits)))))

@@ -3,7 +3,7 @@ use Rattle.std.proofs.Common.{◌≡◌, ℕ, ◌+◌, ◌-◌, ◌<◌, List, [
 use Rattle.std.proofs.lemmas.List.{drop-drop, drop_all}
 use Rattle.std.specs.Prelude.{min}
 
--- what was copied from a place, and what stands behind it
+-- what was copied from a place, and what stands after it
 pub drop-split : (at n : ℕ) (xs into : List ℕ) → take n into ≡ take n (drop at xs) → drop at xs ≡ take n into ++ drop (at + n) xs
 drop-split at n xs into copied =
     sym (take-append-drop n (drop at xs)) ∙ ap (λ l. l ++ drop n (drop at xs)) (sym copied) ∙ ap (λ l. take n into ++ l) (drop-drop n at xs)

@@ -1,4 +1,4 @@
-// Links as a device submitted them.
+//! Links as a device submitted them.
 ghost use Rattle.std.specs.Prelude.{◌≡◌};
 ghost use lib.Pointwise.{pointwise};
 ghost use Rattle.std.proofs.Common.{rules};
@@ -28,7 +28,7 @@ pub struct SubmittedLinks {
 
 impl Model for SubmittedLinks {
     ghost use Rattle.std.specs.Prelude.{List};
-    ghost use Rattle.rd_base.specs.declared.submitted.SubmittedLink.{SubmittedLink};
+    ghost use Rattle.rd_base.specs.declared.submitted_links.SubmittedLink.{SubmittedLink};
 
     ghost Value = { List SubmittedLink };
 
@@ -61,7 +61,7 @@ impl SubmittedLinks {
 
 impl PartialEq for SubmittedLinks {
     ghost use Rattle.std.specs.Cmp.Lexicographic.{lists_per};
-    ghost use Rattle.rd_base.specs.contracts.submitted.SubmittedLinkPartialEq.TheImpl.Laws.{laws-law};
+    ghost use Rattle.rd_base.specs.contracts.submitted_links.SubmittedLinkPartialEq.TheImpl.Laws.{laws-law};
 
     ghost eq = { pointwise ⟦<SubmittedLink as PartialEq>⟧.eq };
 
@@ -74,7 +74,7 @@ impl PartialEq for SubmittedLinks {
 
 impl Eq for SubmittedLinks {
     ghost use Rattle.std.specs.Cmp.Lexicographic.{lists_equiv};
-    ghost use Rattle.rd_base.specs.contracts.submitted.SubmittedLinkEq.TheImpl.Laws.{laws-law};
+    ghost use Rattle.rd_base.specs.contracts.submitted_links.SubmittedLinkEq.TheImpl.Laws.{laws-law};
 
     ghost laws = { lists_equiv laws-law };
 }
