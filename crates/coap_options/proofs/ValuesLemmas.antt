@@ -8,7 +8,7 @@ use Rattle.message_model.specs.Message.{Opt}
 use Rattle.message_model.specs.OptionTable as table
 use Rattle.message_model.specs.OptionTable.{definition_of, stands_in, is_allowed_by, is_recognized, preceded_options, recognized_options, values}
 use Rattle.message_model.proofs.TableLemmas.{values-push}
-use Rattle.coap_options.specs.Left.{values_left}
+use Rattle.coap_options.specs.ValuesLeft.{values_left}
 
 -- the test of a value of a number that may be repeated
 abbrev pub is_value : ℕ → Opt → Bool

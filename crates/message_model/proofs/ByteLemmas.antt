@@ -1,4 +1,4 @@
--- Bytes at the front of bytes, and steps that each take some.
+-- Bytes that bytes begin with, and steps that each take some.
 use Rattle.std.proofs.Common.{◌≡◌, ℕ, suc, ◌<◌, ◌≤◌, false, ltb, List, [], ◌∷◌, ◌++◌, length, get_or, take, drop, Option, Some, None, refl, sym, ap, subst, ◌∙◌, append_assoc, Fits, w8, arith}
 use Rattle.std.proofs.Math.Facts.{Fits-lt-pow}
 use Rattle.std.proofs.lemmas.Bool.{ltb-false, le-ltb}
@@ -22,7 +22,7 @@ pub AreBytes-back : (xs ys : List ℕ) → AreBytes (xs ++ ys) → AreBytes ys
 AreBytes-back [] ys h = h
 AreBytes-back (x ∷ xs) ys h = AreBytes-back xs ys h.1
 
--- from the same fact at each place
+-- from the same fact at each index
 pub AreBytes-from_places : (bytes : List ℕ) → ((i : ℕ) → get_or bytes i 0 < 256) → AreBytes bytes
 AreBytes-from_places [] h = tt
 AreBytes-from_places (b ∷ bytes) h = (h 0, AreBytes-from_places bytes (λ i. h (suc i)))
@@ -46,7 +46,7 @@ pub bind_some : {A B : Type 0} (o : Option A) (f : A → Option B) (y : B) → (
 bind_some (Some x) f y e = (x, refl, e)
 bind_some None f y e = absurd cc
 
--- what a step took from the front
+-- what a step took of the bytes
 pub record Takes (bytes text rest : List ℕ) : Type 0 where
   pub parts : bytes ≡ text ++ rest
   pub text_fits : AreBytes text

@@ -34,6 +34,7 @@ kind_number-lt Rst = omega arith
 
 -- ---- when a header is read
 
+-- An end theorem: nothing here cites it.
 pub header_at-short : (bytes : List ℕ) → length bytes < 4 → header_at bytes ≡ Err unread.Short
 unfolding header_at
 header_at-short [] h = refl
@@ -76,9 +77,6 @@ header_taken (first ∷ code ∷ high ∷ low ∷ bytes) x e =
 -- the header of a message
 abbrev pub header_in : Message → Header
 header_in m = record { kind = m.kind; token_length = length m.token; code = m.code; mid = m.mid }
-
-header_same : (m : Message) (kind : Kind4) (size mid : ℕ) → kind ≡ m.kind → size ≡ length m.token → mid ≡ m.mid → ◌≡◌ {A = Header} (record { kind = kind; token_length = size; code = m.code; mid = mid }) (header_in m)
-header_same m kind size mid h i j = rw (h, i, j) refl
 
 -- The header of a message whose token is short enough is read again.
 pub header_again : (m : Message) (rest : List ℕ) → length m.token ≤ longest_token → header_at (header_spelling m ++ rest) ≡ Ok (header_in m, rest)

@@ -46,6 +46,7 @@ same_number : (a b : ℕ) → path.Location a ≡ path.Location b → a ≡ b
 same_number a b e = cc
 
 -- What is read as a location is the decimal text of its number.
+-- An end theorem: nothing here cites it.
 pub location_found : (text : List ℕ) (n : ℕ) → location_of text ≡ path.Location n → (text ≡ decimal n) × (n < 10 ^ 15)
 unfolding location_of
 location_found text n e =
@@ -81,6 +82,7 @@ plain_decimal n small =
     ]
 
 -- The decimal text of a number of at most 15 digits is read as its location.
+-- An end theorem: nothing here cites it.
 pub location_again : (n : ℕ) → n < 10 ^ 15 → location_of (decimal n) ≡ path.Location n
 unfolding location_of
 location_again n small =

@@ -15,13 +15,13 @@ use Rattle.message_model.proofs.TailLemmas.{AreInOrder, are_in_order, tail_taken
 use Rattle.message_model.proofs.HeaderLemmas.{kind_number-kind_of, header_taken, header_in, header_again}
 use Rattle.rd_base.proofs.lemmas.Choices.{not_refused}
 
--- What stands behind the header of a message.
+-- What stands after the header of a message.
 abbrev pub body_spelling : Message → List ℕ
 body_spelling m = m.token ++ (options_spelling 0 m.options ++ payload_spelling m.payload)
 
 -- ---- what is read is spelled so
 
--- what was read behind a header
+-- what was read after a header
 record IsBody (header : Header) (bytes : List ℕ) (m : Message) : Type 0 where
   header_is : header_in m ≡ header
   parts : bytes ≡ body_spelling m
@@ -64,8 +64,8 @@ good_parts true b c e = absurd cc
 good_parts false true c e = absurd cc
 good_parts false false c e = (refl, refl, e)
 
-nothing_behind : (code size n : ℕ) → (eqb code 0 && not (eqb size 0 && eqb n 0)) ≡ false → code ≡ 0 → n ≡ 0
-nothing_behind code size n e none =
+nothing_after : (code size n : ℕ) → (eqb code 0 && not (eqb size 0 && eqb n 0)) ≡ false → code ≡ 0 → n ≡ 0
+nothing_after code size n e none =
     let same : eqb code 0 ≡ true = eq-eqb code 0 none in
     let unfilled : not (eqb size 0 && eqb n 0) ≡ false = rw same at e in
     eqb-true n 0 (and_parts (eqb size 0) (eqb n 0) (not-false _ unfilled)).1
@@ -115,7 +115,7 @@ made_of m first code high low bytes fits version body =
         token = body.token;
         options = body.options;
         payload = body.payload;
-        empty = λ none. bare_of m (sym body.parts ∙ nil_from_length bytes (nothing_behind code (first % 16) (length bytes) good.2 (sym code_is ∙ none)));
+        empty = λ none. bare_of m (sym body.parts ∙ nil_from_length bytes (nothing_after code (first % 16) (length bytes) good.2 (sym code_is ∙ none)));
       };
       spelled = ap (λ (t : List ℕ). t ++ body_spelling m) (header_spelled m first code high low body.header_is version small_low) ∙ ap (λ (t : List ℕ). first ∷ code ∷ high ∷ low ∷ t) (sym body.parts);
     }
@@ -187,6 +187,7 @@ pub reading_again : (m : Message) → IsMessage m → reading (spelling m) ≡ O
 reading_again m fits = reading_in_order m (record { class = fits.class; token = fits.token_length; options = are_in_order 0 m.options fits.options; empty = fits.empty })
 
 -- Two messages with one spelling are one message.
+-- An end theorem: nothing here cites it.
 pub spelling_once : (m n : Message) → IsMessage m → IsMessage n → spelling m ≡ spelling n → m ≡ n
 spelling_once m n fits fit e =
     let same : ◌≡◌ {A = Result Message Unread} (Ok m) (Ok n) = sym (reading_again m fits) ∙ ap reading e ∙ reading_again n fit in

@@ -1,4 +1,4 @@
--- The definitions that an example opens, so that they compute on given bytes.
+-- The definitions that an example opens, so that they compute on bytes that are written out.
 use Rattle.std.specs.Prelude.{⊤}
 use Rattle.message_model.specs.Numbers.{uint_bytes}
 use Rattle.message_model.specs.Spelling.{header_spelling, nibble_of, extension_of, option_spelling, options_spelling, payload_spelling, spelling}

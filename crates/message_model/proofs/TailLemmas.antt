@@ -156,13 +156,13 @@ pub are_in_order : (before : ℕ) (options : List Opt) → AreOptionsAfter befor
 are_in_order before [] fits = tt
 are_in_order before (option ∷ options) fits = (fits.0, fits.1, fits.2, are_in_order option.0 options fits.4)
 
--- A tail that begins with an option.
-tail_step : (before : ℕ) (bytes : List ℕ) (option : Opt) (rest : List ℕ) (tail : Tail) → option_at before bytes ≡ Some (option, rest) → tail_at option.0 rest ≡ Some tail → tail_at before bytes ≡ Some (with_option option tail)
+-- A tail that begins with an option goes on after it.
+pub tail_step : (before : ℕ) (bytes : List ℕ) (option : Opt) (rest : List ℕ) → option_at before bytes ≡ Some (option, rest) → tail_at before bytes ≡ (tail_at option.0 rest >>= λ tail. Some (with_option option tail))
 unfolding option_at
-tail_step before [] option rest tail first others = absurd cc
-tail_step before (b ∷ bytes) option rest tail first others =
+tail_step before [] option rest first = absurd cc
+tail_step before (b ∷ bytes) option rest first =
     let other : b ≡ marker → ⊥ = λ same. none-some (option, rest) (sym (ap (λ (k : ℕ). option_at before (k ∷ bytes)) same ∙ marker_is_no_option before bytes) ∙ first) in
-    tail_at-option before b bytes other ∙ rw (first, others) refl
+    tail_at-option before b bytes other ∙ rw first refl
 
 -- A payload alone is read again.
 payload_again : (before : ℕ) (payload : List ℕ) → tail_at before (payload_spelling payload) ≡ Some ([], payload)
@@ -176,8 +176,10 @@ unfolding options_spelling
 tail_in_order before [] payload fits = payload_again before payload
 tail_in_order before (option ∷ options) payload fits =
     let regrouped = append_assoc (option_spelling before option) (options_spelling option.0 options) (payload_spelling payload) in
-    ap (tail_at before) regrouped ∙ tail_step before (option_spelling before option ++ (options_spelling option.0 options ++ payload_spelling payload)) option (options_spelling option.0 options ++ payload_spelling payload) (options, payload)
-    (option_in_order before option (options_spelling option.0 options ++ payload_spelling payload) fits.0 fits.1 fits.2) (tail_in_order option.0 options payload fits.3)
+    ap (tail_at before) regrouped
+    ∙ tail_step before (option_spelling before option ++ (options_spelling option.0 options ++ payload_spelling payload)) option (options_spelling option.0 options ++ payload_spelling payload)
+    (option_in_order before option (options_spelling option.0 options ++ payload_spelling payload) fits.0 fits.1 fits.2)
+    ∙ ap (λ (o : Option Tail). o >>= λ tail. Some (with_option option tail)) (tail_in_order option.0 options payload fits.3)
 
 -- So are the options and the payload of a message.
 pub tail_again : (before : ℕ) (options : List Opt) (payload : List ℕ) → AreOptionsAfter before options → tail_at before (options_spelling before options ++ payload_spelling payload) ≡ Some (options, payload)

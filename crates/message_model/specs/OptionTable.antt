@@ -101,7 +101,7 @@ is_recognized before number size = is_allowed_by (definition_of number) (stands_
 abbrev pub is_critical : ℕ → Bool
 is_critical number = number % 2 == 1
 
--- An option where it stands: the options before it, and the option itself.
+-- An option with those that stand before it: first these, then the option itself.
 abbrev pub Preceded : Type 0
 Preceded = List Opt × Opt
 
