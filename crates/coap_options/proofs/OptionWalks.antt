@@ -1,5 +1,5 @@
 -- The options of a message one after the other.
-use Rattle.std.proofs.Common.{◌≡◌, ℕ, ◌≤◌, List, [], ◌∷◌, ◌++◌, length, Option, Some, None, refl, sym, ap, subst, ◌∙◌, append_assoc}
+use Rattle.std.proofs.Common.{◌≡◌, ℕ, ◌≤◌, List, [], ◌∷◌, ◌++◌, length, Option, Some, None, sym, ap, subst, ◌∙◌, append_assoc}
 use Rattle.std.proofs.lemmas.Option.{same_Some}
 use Rattle.std.specs.Option.{option_or}
 use Rattle.std.specs.List.{AllByRecursion}
@@ -8,9 +8,10 @@ use Rattle.message_model.specs.Message.{Opt}
 use Rattle.message_model.specs.OptionTable.{Definition, definition_of, stands_in, first_bad_option, values, first_of}
 use Rattle.message_model.proofs.TableLemmas.{first_bad_option-push}
 use Rattle.message_model.proofs.ValueLemmas.{HasSize, values_sizes}
+use Rattle.message_model.proofs.OrderLemmas.{AreAscending}
 use Rattle.coap_options.specs.declared.findings.Found.{Found}
 use Rattle.coap_options.specs.Findings.{is_last, IsFound}
-use Rattle.coap_options.proofs.OptionOrder.{Ascend, stands_by_last}
+use Rattle.coap_options.proofs.OptionOrder.{stands_by_last}
 
 -- ---- the walk
 
@@ -20,28 +21,18 @@ pub record IsWalked (options left : List Opt) (so_far : Found) : Type 0 where
   pub whole : front ++ left ≡ options
   pub found : IsFound front so_far
 
-pub walked_none : (options : List Opt) (found : Found) → IsFound [] found → IsWalked options options found
-walked_none options found so = record { front = []; whole = refl; found = so }
-
-further : (front : List Opt) (option : Opt) (left : List Opt) → (front ++ option ∷ []) ++ left ≡ front ++ option ∷ left
-further front option left = append_assoc front (option ∷ []) left
-
-pub walked_further : (options : List Opt) (option : Opt) (left before : List Opt) (found : Found) (w : IsWalked options before found) → Ascend 0 options → before ≡ option ∷ left → stands_in option.0 w.front ≡ is_last found.last option.0
+pub walked_further : (options : List Opt) (option : Opt) (left before : List Opt) (found : Found) (w : IsWalked options before found) → AreAscending 0 options → before ≡ option ∷ left → stands_in option.0 w.front ≡ is_last found.last option.0
 walked_further options option left before found w fits e =
     let whole : options ≡ w.front ++ option ∷ left = sym w.whole ∙ ap (λ (os : List Opt). w.front ++ os) e in
-    stands_by_last w.front option left (subst (λ (os : List Opt). Ascend 0 os) whole fits)
+    stands_by_last w.front option left (subst (λ (os : List Opt). AreAscending 0 os) whole fits)
     ∙ ap (λ (last : Option ℕ). is_last last option.0) (sym w.found.last)
 
 pub walked_more : (options : List Opt) (option : Opt) (left before : List Opt) (found more : Found) (w : IsWalked options before found) → before ≡ option ∷ left → IsFound (w.front ++ option ∷ []) more → IsWalked options left more
 walked_more options option left before found more w e so = record {
   front = w.front ++ option ∷ [];
-  whole = further w.front option left ∙ ap (λ (os : List Opt). w.front ++ os) (sym e) ∙ w.whole;
+  whole = append_assoc w.front (option ∷ []) left ∙ ap (λ (os : List Opt). w.front ++ os) (sym e) ∙ w.whole;
   found = so;
 }
-
-pub walked_all : (options left : List Opt) (found : Found) → IsWalked options left found → left ≡ [] → IsFound options found
-walked_all options left found w none =
-    subst (λ (os : List Opt). IsFound os found) (sym (append-nil w.front) ∙ ap (λ (os : List Opt). w.front ++ os) (sym none) ∙ w.whole) w.found
 
 or_some : (o p : Option ℕ) (n : ℕ) → o ≡ Some n → option_or o p ≡ Some n
 or_some o p n e = ap (λ (q : Option ℕ). option_or q p) e
@@ -49,12 +40,12 @@ or_some o p n e = ap (λ (q : Option ℕ). option_or q p) e
 bad_kept : (front left : List Opt) (n : ℕ) → first_bad_option front ≡ Some n → first_bad_option (front ++ left) ≡ Some n
 bad_kept front [] n bad = ap first_bad_option (append-nil front) ∙ bad
 bad_kept front (option ∷ left) n bad =
-    ap first_bad_option (sym (further front option left))
+    ap first_bad_option (sym (append_assoc front (option ∷ []) left))
     ∙ bad_kept (front ++ option ∷ []) left n (first_bad_option-push front option ∙ or_some (first_bad_option front) _ n bad)
 
 pub walked_bad : (options : List Opt) (option : Opt) (left before : List Opt) (found : Found) (n : ℕ) (w : IsWalked options before found) → before ≡ option ∷ left → first_bad_option (w.front ++ option ∷ []) ≡ Some n → first_bad_option options ≡ Some n
 walked_bad options option left before found n w e bad =
-    ap first_bad_option (sym w.whole ∙ ap (λ (os : List Opt). w.front ++ os) e ∙ sym (further w.front option left))
+    ap first_bad_option (sym w.whole ∙ ap (λ (os : List Opt). w.front ++ os) e ∙ sym (append_assoc w.front (option ∷ []) left))
     ∙ bad_kept (w.front ++ option ∷ []) left n bad
 
 -- ---- lengths

@@ -55,13 +55,10 @@ same_test number before option repeats =
       | inr other ↦ rw other (and-false (is_recognized before option.0 (length option.1)))
     ]
 
-further : (before : List Opt) (option : Opt) (left : List Opt) → (before ++ option ∷ []) ++ left ≡ before ++ option ∷ left
-further before option left = append_assoc before (option ∷ []) left
-
 values_onward : (number : ℕ) (before left : List Opt) → MayRepeat number → values number (before ++ left) ≡ values number before ++ values_left number left
 values_onward number before [] repeats = ap (values number) (append-nil before) ∙ sym (append-nil (values number before))
 values_onward number before (option ∷ left) repeats =
-    ap (values number) (sym (further before option left))
+    ap (values number) (sym (append_assoc before (option ∷ []) left))
     ∙ values_onward number (before ++ option ∷ []) left repeats
     ∙ ap (λ (vs : List (List ℕ)). vs ++ values_left number left) (values-push number before option)
     ∙ append_assoc (values number before) (cond (is_recognized before option.0 (length option.1) && (option.0 == number)) (option.1 ∷ []) []) (values_left number left)

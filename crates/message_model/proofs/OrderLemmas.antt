@@ -1,6 +1,6 @@
 -- Options in order: what one more at the end adds to their spelling, and which numbers stand among them.
 use Rattle.std.proofs.Common.{◌≡◌, ℕ, ◌≤◌, eqb, List, [], ◌∷◌, ◌++◌, refl, sym, ap, ◌∙◌, append_assoc, arith, inl, inr}
-use Rattle.std.specs.Prelude.{◌==◌}
+use Rattle.std.specs.Prelude.{⊤, ◌==◌}
 use Rattle.std.proofs.lemmas.Bool.{cases_Bool, eqb-true, eq-eqb}
 use Rattle.std.proofs.lemmas.List.{append-nil}
 use Rattle.std.proofs.Math.Bool.{or-false}
@@ -9,19 +9,26 @@ use Rattle.message_model.specs.Spelling.{option_spelling, options_spelling}
 use Rattle.message_model.specs.OptionTable.{stands_in}
 use Rattle.message_model.proofs.OptionLemmas.{IsOptionAfter}
 
-pub end_number-ge : (before : ℕ) (options : List Opt) → AreOptionsAfter before options → before ≤ end_number before options
-end_number-ge before [] fits = omega arith
-end_number-ge before (option ∷ options) fits =
-    let rises : before ≤ option.0 = fits.0 in
-    omega (arith, end_number-ge option.0 options fits.4)
+-- ---- which numbers stand among them
 
--- Of options in order, one of a number that is not below the last stands there exactly where the last one has it.
-pub stands_in-ascending : (first : Opt) (options : List Opt) (number : ℕ) → AreOptionsAfter first.0 options → end_number first.0 options ≤ number → stands_in number (first ∷ options) ≡ (end_number first.0 options == number)
-stands_in-ascending first [] number fits most = or-false (first.0 == number)
-stands_in-ascending first (option ∷ options) number fits most =
-    let rises : first.0 ≤ option.0 = fits.0 in
-    let ends = end_number-ge option.0 options fits.4 in
-    let others : stands_in number (option ∷ options) ≡ (end_number option.0 options == number) = stands_in-ascending option options number fits.4 most in
+-- Options after one of the number before, none with a lower number than the one before it.
+abbrev pub AreAscending : ℕ → List Opt → Type 0
+AreAscending before [] = ⊤
+AreAscending before (option ∷ options) = (before ≤ option.0) × AreAscending option.0 options
+
+pub end_number-ge : (before : ℕ) (options : List Opt) → AreAscending before options → before ≤ end_number before options
+end_number-ge before [] rise = omega arith
+end_number-ge before (option ∷ options) rise =
+    let rises : before ≤ option.0 = rise.0 in
+    omega (arith, end_number-ge option.0 options rise.1)
+
+-- Of ascending options, one of a number that is not below the last stands there exactly where the last one has it.
+pub stands_in-ascending : (first : Opt) (options : List Opt) (number : ℕ) → AreAscending first.0 options → end_number first.0 options ≤ number → stands_in number (first ∷ options) ≡ (end_number first.0 options == number)
+stands_in-ascending first [] number rise most = or-false (first.0 == number)
+stands_in-ascending first (option ∷ options) number rise most =
+    let rises : first.0 ≤ option.0 = rise.0 in
+    let ends = end_number-ge option.0 options rise.1 in
+    let others : stands_in number (option ∷ options) ≡ (end_number option.0 options == number) = stands_in-ascending option options number rise.1 most in
     elim (cases_Bool (eqb first.0 number)) [
       | inl same ↦
           let all_same : end_number option.0 options ≡ number = omega (arith, eqb-true _ _ same) in
