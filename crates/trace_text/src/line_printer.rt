@@ -1,10 +1,10 @@
-// Lines are printed.
+//! Lines as they are printed.
 ghost use Rattle.std.specs.Prelude.{◌≡◌, IfOk, Ok};
 ghost use Rattle.std.specs.String.{string_bytes};
 ghost use Rattle.line_model.specs.Lines as lines;
 ghost use Rattle.line_model.specs.declared.lines.Line.TheVariants as line_kind;
 
-use crate::octets::datagram_text;
+use crate::datagrams::datagram_text;
 use line_model::Line;
 use rd_base::{Bytes, Moment, Peer, Starved, peer_text};
 use std::alloc::Global;
@@ -67,7 +67,7 @@ fn printed(alloc: Global, line: &Line) -> Result<String, Starved>
 }
 
 /// A line as it is printed, without its line feed: digits in lower case, and a word of 0 left out.
-/// The line is one that [`crate::line_read`] can give, and what is printed is read back as it.
+/// The line is one that [`crate::line_read`] can give, and what is printed is read back as it. `Starved`: out of memory.
 pub fn line_print(alloc: Global, line: &Line) -> Result<Bytes, Starved>
     requires { lines.IsLine line.now }
     ensures text { IfOk result (λ text. text ≡ lines.line_text line.now) }
@@ -77,7 +77,7 @@ pub fn line_print(alloc: Global, line: &Line) -> Result<Bytes, Starved>
     Ok(Bytes::of(text.into_bytes()))
 }
 
-/// The line of a datagram that is sent: `out`, the worker, the peer and the octets in lower case, without its line feed.
+/// The line of a datagram that is sent: `out`, the worker, the peer and the octets in lower case, without its line feed. `Starved`: out of memory.
 #[tactic(auto, unfolding(line_model::specs::Lines::out_text))]
 pub fn out_print(alloc: Global, worker: u8, peer: &Peer, datagram: &[u8]) -> Result<Bytes, Starved>
     ensures { IfOk result (λ text. text ≡ lines.out_text worker peer.now datagram.now) }

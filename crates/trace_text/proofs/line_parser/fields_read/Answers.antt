@@ -1,5 +1,5 @@
-use Rattle.trace_text.proofs.Saying.{one_says_nothing, two_say_nothing, six_say_nothing}
-use Rattle.trace_text.proofs.reading.fields_read.Goals as goal
+use Rattle.trace_text.proofs.LineFields.{one_says_nothing, two_say_nothing, six_say_nothing}
+use Rattle.trace_text.proofs.line_parser.fields_read.Goals as goal
 
 pub returns-in_default : goal.returns-in_default
 returns-in_default c = one_says_nothing c.args.line.now c.in_default.ensures

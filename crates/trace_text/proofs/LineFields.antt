@@ -7,8 +7,8 @@ use Rattle.hex.proofs.HexLemmas.{decode_of-ok}
 use Rattle.line_model.specs.declared.lines.Line.{Line}
 use Rattle.line_model.specs.Datagrams.{max_datagram, IsDatagramText}
 use Rattle.line_model.specs.Lines.{space, fields, said_by, line_of, line_text, IsLine, come, go, tick, AreFieldsOf, comes, goes, ticks, ticks_alone}
-use Rattle.line_model.proofs.Readings.{said_by-found}
-use Rattle.line_model.proofs.ReadBack.{line_of-line_text}
+use Rattle.line_model.proofs.LineTexts.{said_by-found}
+use Rattle.line_model.proofs.PrintedLines.{line_of-line_text}
 
 module _ (text : List ℕ) where
   -- one field

@@ -1,20 +1,20 @@
-// A text at its first space.
+//! The fields of a line: a text is cut at its first space.
 ghost use Rattle.std.specs.Prelude.{◌≡◌, ◌<◌, ◌==◌, option_map, IfSome, length, position};
 ghost use Rattle.line_model.specs.Lines.{fields, space};
-ghost use Rattle.trace_text.specs.Fields.{fields_by};
+ghost use Rattle.trace_text.specs.Fields.{fields_of_cut};
 
 /// What stands before the first space, and what stands after it; nothing where there is no space.
 pub fn cut(text: &[u8]) -> Option<(&[u8], &[u8])>
-    ensures { fields text.now ≡ fields_by text.now (option_map (λ p. (p.0.now, p.1.now)) result) }
+    ensures { fields text.now ≡ fields_of_cut text.now (option_map (λ p. (p.0.now, p.1.now)) result) }
 {
-    match place_of_space(text) {
+    match offset_of_space(text) {
         None => None,
         Some(at) => Some((&text[..at], &text[at + 1..])),
     }
 }
 
-/// Where the first space stands.
-fn place_of_space(text: &[u8]) -> Option<usize>
+/// The offset of the first space.
+fn offset_of_space(text: &[u8]) -> Option<usize>
     ensures value { result ≡ position (λ b. b == space) text.now }
     ensures within { IfSome result (λ at. at < length text.now) }
 {

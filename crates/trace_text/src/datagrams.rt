@@ -1,8 +1,8 @@
-// Datagrams in hexadecimal digits.
+//! Datagrams in hexadecimal digits.
 ghost use Rattle.std.specs.Prelude.{◌≡◌, IfOk};
 ghost use Rattle.std.specs.String.{string_bytes};
 ghost use Rattle.line_model.specs.Datagrams as datagrams;
-ghost use Rattle.trace_text.specs.Answers.{IsSaid};
+ghost use Rattle.trace_text.specs.LineResults.{IsSaid};
 
 use crate::faults::FieldFault;
 use rd_base::{Bytes, Starved};
@@ -11,7 +11,8 @@ use std::alloc::Global;
 /// The most octets of a datagram.
 const MAX_DATAGRAM: usize = 4096;
 
-/// The datagram that a text writes: `-` for the empty one, or 1 to 4,096 octets in digits of either case.
+/// The datagram that a text writes: `-` for the empty one, or 1 to 4,096 octets in digits of either case. `Starved`: out of memory;
+/// `Form`: it is neither.
 #[tactic(auto, unfolding(line_model::specs::Datagrams::datagram_of))]
 pub fn datagram_read(alloc: Global, text: &[u8]) -> Result<Bytes, FieldFault>
     ensures { IsSaid result (datagrams.datagram_of text.now) }
@@ -39,7 +40,7 @@ fn sized(octets: Vec<u8>) -> Result<Bytes, FieldFault>
     Ok(Bytes::of(octets))
 }
 
-/// A datagram in digits of lower case, the empty one as `-`.
+/// A datagram in digits of lower case, the empty one as `-`. `Starved`: out of memory.
 pub fn datagram_text(alloc: Global, octets: &[u8]) -> Result<String, Starved>
     ensures { IfOk result (λ text. string_bytes text ≡ datagrams.datagram_text octets.now) }
 {

@@ -15,7 +15,7 @@ use Rattle.rd_base.proofs.PeerBounds.{peer_of-IsPeerText}
 use Rattle.line_model.proofs.Datagrams.{datagram_of-found, datagram_of-IsDatagramText}
 use Rattle.line_model.proofs.Spaces.{HasNoSpace, decimal_spaceless, peer_spaceless, IsDatagramText_spaceless}
 use Rattle.line_model.proofs.Fields.{fields-joined, joined-fields}
-use Rattle.line_model.proofs.ReadBack.{line_of_fields}
+use Rattle.line_model.proofs.PrintedLines.{line_of_fields}
 use Rattle.rd_base.proofs.lemmas.Choices.{either_of}
 
 -- a word is what it was compared with
@@ -142,5 +142,6 @@ line_again text l h =
     line_of_fields text l h.short (ap said_by (ap fields h.spelled ∙ fields_of_line h.parts l h.said) ∙ said_by-AreFieldsOf h.parts l h.said)
 
 -- a text is read as a line exactly where it is that line
+-- An end theorem: nothing here cites it.
 pub line_of-IsLineText : (text : List ℕ) (l : Line) → (line_of text ≡ Ok l) ↔ IsLineText text l
 line_of-IsLineText text l = (line_found text l, line_again text l)

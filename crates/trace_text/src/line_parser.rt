@@ -1,13 +1,13 @@
-// Lines are read.
+//! Lines as they are read.
 ghost use Rattle.std.specs.Prelude.{◌≡◌, ◌≤◌, [], ◌∷◌, IfOk, IfSome, Some, option_map};
 ghost use Rattle.line_model.specs.Lines as lines;
 ghost use Rattle.line_model.specs.Numbers as numbers;
-ghost use Rattle.trace_text.specs.Answers.{IsSaid, IsRead};
+ghost use Rattle.trace_text.specs.LineResults.{IsSaid, IsRead};
 
-use crate::cutting::cut;
+use crate::datagrams::datagram_read;
 use crate::faults::{FieldFault, LineFault};
+use crate::fields::cut;
 use crate::numbers::number_read;
-use crate::octets::datagram_read;
 use line_model::Line;
 use rd_base::{Moment, Peer, peer_read_ascii};
 use std::alloc::Global;
@@ -151,9 +151,9 @@ fn fields_read(alloc: Global, line: &[u8]) -> Result<Line, FieldFault>
     }
 }
 
-/// The line that a text is, without its line feed. `Long` comes exactly where it has more than 8,600 bytes,
-/// and `Form` exactly where it has not and is none of the three forms: `in`, a worker, a moment, a peer and octets; `go`, a worker and a moment;
-/// `tick`, a worker, a moment and maybe a word.
+/// The line that a text is, without its line feed. `Starved`: out of memory. `Long` comes exactly where it has more than
+/// 8,600 bytes, and `Form` exactly where it has not and is none of the three forms: `in`, a worker, a moment, a peer and
+/// octets; `go`, a worker and a moment; `tick`, a worker, a moment and maybe a word.
 #[tactic(auto, unfolding(line_model::specs::Lines::line_of))]
 pub fn line_read(alloc: Global, line: &[u8]) -> Result<Line, LineFault>
     ensures read { IsRead result (lines.line_of line.now) }
