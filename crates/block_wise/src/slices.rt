@@ -4,7 +4,7 @@ ghost use Rattle.std.specs.Prelude.{◌≡◌, ◌≤◌, ◌<◌, IfSome};
 ghost use Rattle.std.specs.Option.{option_map};
 ghost use Rattle.message_model.specs.Blocks as blocks;
 
-// The size of a block (RFC 7959 section 2.2).
+/// The size of a block (RFC 7959 section 2.2).
 fn block_size(szx: u8) -> usize
     requires { szx < blocks.reserved_szx }
     ensures value { result ≡ blocks.block_size szx }
@@ -13,7 +13,7 @@ fn block_size(szx: u8) -> usize
     1usize << (szx + 4)
 }
 
-// The block with this number, and whether more follow (RFC 7959 section 2.2).
+/// The block with this number, and whether more follow (RFC 7959 section 2.2).
 #[tactic(auto, unfolding(message_model::specs::Blocks::block_of))]
 fn block_of(body: &[u8], num: u32, szx: u8) -> Option<(&[u8], bool)>
     requires { szx < blocks.reserved_szx }

@@ -10,7 +10,7 @@ use message_model::Block;
 #[derive(Clone, Copy, Debug, PartialEq, Eq)]
 pub struct Szx7;
 
-// The number that at most three octets give, the most significant first (RFC 7252 section 3.2).
+/// The number that at most three octets give, the most significant first (RFC 7252 section 3.2).
 fn uint_of(value: &[u8]) -> u32
     requires { length value.now ≤ 3 }
     ensures value { result ≡ numbers.uint_of value.now }
@@ -48,7 +48,7 @@ pub fn block_read(value: &[u8]) -> Result<Block, Szx7>
     })
 }
 
-// The bit that says whether more blocks follow (RFC 7959 section 2.2).
+/// The bit that says whether more blocks follow (RFC 7959 section 2.2).
 fn more_bit(more: bool) -> u32
     ensures value { result ≡ blocks.more_bit more }
     ensures few { result < 2 }
@@ -56,7 +56,7 @@ fn more_bit(more: bool) -> u32
     if more { 1 } else { 0 }
 }
 
-// One octet behind those that are there.
+/// One octet after those that are there.
 fn put_byte(octets: &mut [u8], at: usize, byte: u8) -> usize
     requires { at < length octets.old }
     ensures end { result ≡ at + 1 }
@@ -66,7 +66,7 @@ fn put_byte(octets: &mut [u8], at: usize, byte: u8) -> usize
     at + 1
 }
 
-// The fewest octets that give a number, at the front (RFC 7252 section 3.2).
+/// The fewest octets that give a number, at the front (RFC 7252 section 3.2).
 #[tactic(auto, unfolding(message_model::specs::Numbers::uint_bytes))]
 fn put_uint(octets: &mut [u8], n: u32) -> usize
     requires room { 3 ≤ length octets.old }

@@ -1,3 +1,3 @@
-pub mod FrontLemmas
-pub mod WalkLemmas
-pub mod WritingLemmas
+pub mod OptionsAtLemmas
+pub mod ViewLemmas
+pub mod WriterLemmas

@@ -1,8 +1,8 @@
-pub mod Fronts
+pub mod OptionsAt
 pub mod Views
 pub mod Headers
-pub mod Left
-pub mod Written
-pub mod Seen
-pub mod Writing
-pub mod Ends
+pub mod OptionsLeft
+pub mod PartialMessages
+pub mod SpelledMessages
+pub mod Writers
+pub mod WriterEnds

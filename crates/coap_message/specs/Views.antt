@@ -1,7 +1,7 @@
 -- The message that a view shows.
 use Rattle.message_model.specs.Message.{Message}
 use Rattle.coap_message.specs.declared.views.View.{View}
-use Rattle.coap_message.specs.Fronts.{options_at}
+use Rattle.coap_message.specs.OptionsAt.{options_at}
 
 -- Its parts are those of the view, and its options are those that are spelled there (RFC 7252 section 3).
 abbrev pub message_in : View → Message

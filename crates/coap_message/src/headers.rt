@@ -8,7 +8,7 @@ ghost use Rattle.coap_message.specs.Headers.{header_in};
 
 use message_model::{Kind4, Unread};
 
-// What a header says.
+/// What a header says.
 #[derive(Clone, Copy)]
 pub(crate) struct Header {
     pub kind: Kind4,
@@ -17,7 +17,7 @@ pub(crate) struct Header {
     pub mid: u16,
 }
 
-// The type with these two bits (RFC 7252 section 3).
+/// The type with these two bits (RFC 7252 section 3).
 fn kind_of(bits: u8) -> Kind4
     ensures { result ≡ reading.kind_of bits }
 {
@@ -29,7 +29,7 @@ fn kind_of(bits: u8) -> Kind4
     }
 }
 
-// The header and the octets behind it (RFC 7252 section 3).
+/// The header and the octets after it (RFC 7252 section 3).
 #[tactic(auto, unfolding(message_model::specs::Reading::header_at))]
 pub(crate) fn header_at(bytes: &[u8]) -> Result<(Header, &[u8]), Unread>
     ensures { result_map_both (λ x. (header_in x.0, x.1.now)) (λ fault. fault) result ≡ reading.header_at bytes.now }
@@ -51,7 +51,7 @@ pub(crate) fn header_at(bytes: &[u8]) -> Result<(Header, &[u8]), Unread>
     }
 }
 
-// Classes 1, 6 and 7 of codes are reserved (RFC 7252 section 3).
+/// Classes 1, 6 and 7 of codes are reserved (RFC 7252 section 3).
 fn is_reserved(code: u8) -> bool
     ensures { result ≡ codes_of.is_reserved code }
 {
@@ -59,15 +59,15 @@ fn is_reserved(code: u8) -> bool
     class == 1 || class == 6 || class == 7
 }
 
-// More than a header: a token, or octets behind the header (RFC 7252 section 4.1).
+/// More than a header: a token, or octets after the header (RFC 7252 section 4.1).
 fn is_filled(header: &Header, bytes: &[u8]) -> bool
     ensures { result ≡ reading.is_filled (header_in header.now) bytes.now }
 {
     !(header.token_length == 0 && bytes.len() == 0)
 }
 
-// No message has a reserved class, a token of nine octets or more, or more than a header at 0.00
-// (RFC 7252 sections 3 and 4.1).
+/// No message has a reserved class, a token of nine octets or more, or more than a header at 0.00
+/// (RFC 7252 sections 3 and 4.1).
 pub(crate) fn is_bad_header(header: &Header, bytes: &[u8]) -> bool
     ensures { result ≡ reading.is_bad_header (header_in header.now) bytes.now }
 {

@@ -1,21 +1,19 @@
 //! Reading and writing of CoAP messages (RFC 7252 section 3), in borrowed octets and without memory.
 #![tactic(auto)]
 
-mod fronts;
+mod datagrams;
 mod headers;
-mod iterating;
-mod opts;
-mod placing;
-mod viewing;
+mod options;
+mod prefixes;
+mod spellings;
 mod views;
-mod writing;
+mod writers;
 
-pub use iterating::{OptionsIter, options_of};
+pub use datagrams::view;
 pub use message_model::{Kind4, Unread};
-pub use opts::Opt;
-pub use viewing::view;
+pub use options::{Opt, OptionsIter, options_of};
 pub use views::View;
-pub use writing::{TooLong, Writer};
+pub use writers::{TooLong, Writer};
 
 #[cfg(test)]
 mod tests;

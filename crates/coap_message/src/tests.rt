@@ -5,7 +5,7 @@ use std::test::Fail;
 
 const LINKS: &[u8] = b"</temp>;rt=\"temperature\";ct=0,</light>;rt=\"light-lux\";if=\"sensor\"";
 
-// The number of the last option, or 0 where there is none.
+/// The number of the last option, or 0 where there is none.
 fn last_number(view: &View<'_>) -> u32 {
     let mut last = 0;
     for option in options_of(view) {
@@ -26,7 +26,7 @@ fn datagrams_are_read(rt: HostRuntime) -> Result<(), Fail> {
         (b"\x49\x01\x12\x34", con(0x1234)),
         (b"\x49\x01\x12\x34123456789", con(0x1234)),
         (b"\x42\x01\x12\x34a", con(0x1234)),
-        // a marker with nothing behind it
+        // a marker with nothing after it
         (
             b"\x50\x01\x12\x35\xff",
             Err(Unread::Format(Kind4::Non, 0x1235)),

@@ -5,11 +5,16 @@ use message_model::Kind4;
 /// A message in a datagram: its type, code and Message ID, and where the rest of it stands there (RFC 7252 section 3).
 #[derive(Clone, Copy, Debug)]
 pub struct View<'a> {
+    /// The type.
     pub kind: Kind4,
+    /// The code, class.detail in one octet.
     pub code: u8,
+    /// The Message ID.
     pub mid: u16,
+    /// The token, of at most eight octets.
     pub token: &'a [u8],
     /// The options as they are spelled, which [`options_of`](crate::options_of) reads.
     pub options: &'a [u8],
+    /// The payload, empty where there is none.
     pub payload: &'a [u8],
 }

@@ -7,10 +7,10 @@ use Rattle.message_model.specs.Message.{Opt}
 use Rattle.message_model.specs.OptionTable as table
 use Rattle.message_model.specs.OptionTable.{definition_of, is_allowed_by}
 use Rattle.message_model.specs.RequestKey.{path_bytes, query_bytes, key_of}
-use Rattle.coap_options.specs.Left.{values_left}
+use Rattle.coap_options.specs.ValuesLeft.{values_left}
 use Rattle.coap_options.proofs.ValuesLemmas.{is_value, values_left-first, values_left-passed}
 
--- The code and the path, with the query options behind them, are the key.
+-- The code and the path, with the query options after them, are the key.
 pub key_begun : (none coded begun : List ℕ) (code : ℕ) (path : Path) (queries same : List (List ℕ)) → none ≡ [] → coded ≡ none ++ code ∷ [] → begun ≡ coded ++ path_bytes path → same ≡ queries → begun ++ flat_map query_bytes same ≡ key_of code path queries
 unfolding key_of
 key_begun none coded begun code path queries same e f g h = rw (g, f, e, h) refl

@@ -1,8 +1,8 @@
 mod PathLemmas
-mod FoundLemmas
-mod AscendLemmas
-mod WalkLemmas
-mod ShortLemmas
+mod FindingLemmas
+mod OptionOrder
+mod OptionWalks
+mod ValueLengths
 mod ValuesLemmas
 mod RefusalLemmas
 mod KeyLemmas

@@ -1,8 +1,9 @@
 -- The number that few digits say is small.
-use Rattle.std.proofs.Common.{◌≡◌, ℕ, ◌+◌, ◌-◌, ◌*◌, ◌^◌, ◌<◌, ◌≤◌, zero, suc, Bool, true, false, ◌&&◌, List, [], ◌∷◌, length, take, refl, rules, arith}
+use Rattle.std.proofs.Common.{◌≡◌, ℕ, ◌+◌, ◌-◌, ◌*◌, ◌^◌, ◌<◌, ◌≤◌, zero, suc, true, List, [], ◌∷◌, length, take, refl, rules, arith}
 use Rattle.std.specs.Prelude.{fold}
 use Rattle.std.specs.List.{list_all}
 use Rattle.std.specs.Char.{is_ascii_digit}
+use Rattle.std.proofs.lemmas.Bool.{and_parts}
 use Rattle.std.proofs.lemmas.List.{length-take}
 use Rattle.std.proofs.lemmas.Str.Parse.{IsNumeralModel, numerals_by_fold, digits_value_short}
 use Rattle.message_model.specs.Request.{decimal_value}
@@ -10,17 +11,12 @@ use Rattle.message_model.specs.Request.{decimal_value}
 own : IsNumeralModel (λ text. list_all is_ascii_digit text ≡ true) decimal_value
 own = numerals_by_fold _ (search rules) (λ n text. fold (λ m digit. m * 10 + (digit - 48)) n text) (search rules)
 
-and_both : (a b : Bool) → (a && b) ≡ true → (a ≡ true) × (b ≡ true)
-and_both true true e = (refl, refl)
-and_both true false e = absurd cc
-and_both false b e = absurd cc
-
 -- The first of some digits are digits.
 pub front_digits : (k : ℕ) (text : List ℕ) → list_all is_ascii_digit text ≡ true → list_all is_ascii_digit (take k text) ≡ true
 front_digits zero text e = refl
 front_digits (suc k) [] e = refl
 front_digits (suc k) (b ∷ text) e =
-    let h = and_both (is_ascii_digit b) (list_all is_ascii_digit text) e in
+    let h = and_parts (is_ascii_digit b) (list_all is_ascii_digit text) e in
     rw (h.0, front_digits k text h.1) refl
 
 -- At most 15 digits but the last say a number below 10 ^ 14.

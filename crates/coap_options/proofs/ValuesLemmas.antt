@@ -6,9 +6,9 @@ use Rattle.std.proofs.lemmas.List.{append-nil}
 use Rattle.std.proofs.Math.Bool.{and-false, and-true}
 use Rattle.message_model.specs.Message.{Opt}
 use Rattle.message_model.specs.OptionTable as table
-use Rattle.message_model.specs.OptionTable.{definition_of, stands_in, is_allowed_by, is_recognized, placed_options, recognized_options, values}
+use Rattle.message_model.specs.OptionTable.{definition_of, stands_in, is_allowed_by, is_recognized, preceded_options, recognized_options, values}
 use Rattle.message_model.proofs.TableLemmas.{values-push}
-use Rattle.coap_options.specs.Left.{values_left}
+use Rattle.coap_options.specs.ValuesLeft.{values_left}
 
 -- the test of a value of a number that may be repeated
 abbrev pub is_value : ℕ → Opt → Bool
@@ -55,13 +55,10 @@ same_test number before option repeats =
       | inr other ↦ rw other (and-false (is_recognized before option.0 (length option.1)))
     ]
 
-further : (before : List Opt) (option : Opt) (left : List Opt) → (before ++ option ∷ []) ++ left ≡ before ++ option ∷ left
-further before option left = append_assoc before (option ∷ []) left
-
 values_onward : (number : ℕ) (before left : List Opt) → MayRepeat number → values number (before ++ left) ≡ values number before ++ values_left number left
 values_onward number before [] repeats = ap (values number) (append-nil before) ∙ sym (append-nil (values number before))
 values_onward number before (option ∷ left) repeats =
-    ap (values number) (sym (further before option left))
+    ap (values number) (sym (append_assoc before (option ∷ []) left))
     ∙ values_onward number (before ++ option ∷ []) left repeats
     ∙ ap (λ (vs : List (List ℕ)). vs ++ values_left number left) (values-push number before option)
     ∙ append_assoc (values number before) (cond (is_recognized before option.0 (length option.1) && (option.0 == number)) (option.1 ∷ []) []) (values_left number left)
@@ -69,7 +66,7 @@ values_onward number before (option ∷ left) repeats =
     ∙ ap (λ (vs : List (List ℕ)). values number before ++ vs) (left_more number option left)
 
 no_values : (number : ℕ) → values number [] ≡ []
-unfolding values recognized_options placed_options
+unfolding values recognized_options preceded_options
 no_values number = refl
 
 -- The recognized values of a number that may be repeated are those of a length that the table allows.

@@ -1,6 +1,6 @@
 pub mod Definitions
 pub mod Segments
-pub mod Found
+pub mod Findings
 pub mod Meanings
-pub mod Left
-pub mod Refusing
+pub mod ValuesLeft
+pub mod PartRefusals

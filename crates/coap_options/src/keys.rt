@@ -13,7 +13,7 @@ use message_model::Path;
 use rd_base::{Bytes, Key, Starved};
 use std::alloc::Global;
 
-// One octet for the resource, and the number of a registration in eight behind it, the most significant first.
+/// One octet for the resource, and the number of a registration in eight after it, the most significant first.
 fn push_path(octets: &mut Vec<u8>, path: &Path) -> Result<(), Starved>
     ensures { OnOk result (octets.new.items ≡ octets.old.items ++ keys.path_bytes path.now) }
 {
@@ -33,7 +33,7 @@ fn push_path(octets: &mut Vec<u8>, path: &Path) -> Result<(), Starved>
     Ok(())
 }
 
-// A query option: its length, which fits an octet, and its octets.
+/// A query option: its length, which fits an octet, and its octets.
 fn push_query(octets: &mut Vec<u8>, query: &[u8]) -> Result<(), Starved>
     requires { length query.now ≤ 255 }
     ensures { OnOk result (octets.new.items ≡ octets.old.items ++ keys.query_bytes query.now) }
@@ -44,10 +44,10 @@ fn push_query(octets: &mut Vec<u8>, query: &[u8]) -> Result<(), Starved>
 }
 
 /// The key of a request (RFC 7959 section 2.4): its code, one octet for the resource with eight for the number of a
-/// registration behind it, and each query option as its length and its octets. Two requests have the same key exactly
+/// registration after it, and each query option as its length and its octets. Two requests have the same key exactly
 /// where they have the same method, path and query options.
 ///
-/// `Starved`: memory is wanted for it.
+/// `Starved`: out of memory.
 pub fn request_key(alloc: Global, meaning: &Meaning<'_>) -> Result<Key, Starved>
     ensures parts { IfOk result (λ key. key ≡ keys.key_of meaning.now.view.code meaning.now.path
         (request.queries_in (message_in meaning.now.view))) }

@@ -1,26 +1,25 @@
 //! What the options of a CoAP request mean, and the first refusal that a request alone decides (RFC 7252 section 5.4).
 #![tactic(auto)]
 
-mod found;
-mod heeding;
+mod findings;
 mod keys;
 mod meanings;
 mod methods;
+mod option_walks;
 mod paths;
-mod reading;
 mod requests;
 mod segments;
 mod table;
-mod uints;
+mod uint_values;
 mod values;
 
 pub use coap_message::View;
-pub use heeding::BadOption;
+pub use findings::BadOption;
 pub use keys::request_key;
 pub use meanings::Meaning;
 pub use message_model::{Path, Refusal};
 pub use methods::allowed;
-pub use reading::meaning;
+pub use option_walks::meaning;
 pub use requests::request;
 pub use values::{EtagIter, QueryIter, etags, queries};
 

@@ -11,9 +11,11 @@ pub struct Meaning<'a> {
     pub view: View<'a>,
     /// The resource that its path names.
     pub path: Path,
+    /// The number in Observe.
     pub observe: Option<u32>,
+    /// The format that is accepted.
     pub accept: Option<u16>,
-    /// Content-Format.
+    /// The format of the payload, by Content-Format.
     pub format: Option<u16>,
     /// The value of Block1, of at most three octets.
     pub block1: Option<&'a [u8]>,

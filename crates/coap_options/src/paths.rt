@@ -8,17 +8,17 @@ ghost use Rattle.message_model.specs.declared.requests.Path.TheVariants as path;
 
 use message_model::Path;
 
-// The most digits of a registration's number.
+/// The most digits of a registration's number.
 const MOST_DIGITS: usize = 15;
 
-// Whether all of them are decimal digits.
+/// Whether all of them are decimal digits.
 fn are_digits(text: &[u8]) -> bool
     ensures { result ≡ list_all is_ascii_digit text.now }
 {
     text.iter().all(|byte| byte.is_ascii_digit())
 }
 
-// A zero that other digits follow.
+/// A zero that other digits follow.
 fn has_leading_zero(text: &[u8]) -> bool
     ensures { result ≡ request.has_leading_zero text.now }
 {
@@ -28,14 +28,14 @@ fn has_leading_zero(text: &[u8]) -> bool
     }
 }
 
-// Some digits, and no more than a registration's number has.
+/// Some digits, and no more than a registration's number has.
 fn has_good_length(text: &[u8]) -> bool
     ensures { result ≡ (nat_le 1 (length text.now) && nat_le (length text.now) request.most_digits) }
 {
     1 <= text.len() && text.len() <= MOST_DIGITS
 }
 
-// A decimal number of 1 to 15 digits without leading zero.
+/// A decimal number of 1 to 15 digits without leading zero.
 fn is_location(text: &[u8]) -> bool
     ensures value { result ≡ request.is_location text.now }
     ensures few { result ≡ true → length text.now ≤ 15 }
@@ -50,7 +50,7 @@ fn is_location(text: &[u8]) -> bool
     !has_leading_zero(text)
 }
 
-// The number that at most 15 digits say.
+/// The number that at most 15 digits say.
 fn decimal_value(text: &[u8]) -> u64
     requires few { length text.now ≤ 15 }
     requires digits { list_all is_ascii_digit text.now ≡ true }
@@ -62,7 +62,7 @@ fn decimal_value(text: &[u8]) -> u64
     }
 }
 
-// The registration that is named by the segment behind `rd` (RFC 9176 section 5.3).
+/// The registration that is named by the segment after `rd` (RFC 9176 section 5.3).
 #[tactic(auto, unfolding(message_model::specs::Request::location_of))]
 fn location_of(text: &[u8]) -> Path
     ensures { result ≡ request.location_of text.now }
@@ -73,7 +73,7 @@ fn location_of(text: &[u8]) -> Path
     Path::Location(decimal_value(text))
 }
 
-// The resource that the segment behind `.well-known` names (RFC 9176 sections 4.3 and 5.1).
+/// The resource that the segment after `.well-known` names (RFC 9176 sections 4.3 and 5.1).
 fn well_known_of(segment: &[u8]) -> Path
     ensures { result ≡ request.well_known_of segment.now }
 {
@@ -86,7 +86,7 @@ fn well_known_of(segment: &[u8]) -> Path
     Path::Other
 }
 
-// The resource that the segment behind `rd-lookup` names (RFC 9176 section 6).
+/// The resource that the segment after `rd-lookup` names (RFC 9176 section 6).
 fn lookup_of(segment: &[u8]) -> Path
     ensures { result ≡ request.lookup_of segment.now }
 {
@@ -99,7 +99,7 @@ fn lookup_of(segment: &[u8]) -> Path
     Path::Other
 }
 
-// The resource that one segment names.
+/// The resource that one segment names.
 pub(crate) fn path_of_one(segment: &[u8]) -> Path
     ensures { result ≡ (if bytes_eq segment.now (codes "rd") then path.Rd else path.Other) }
 {
@@ -109,7 +109,7 @@ pub(crate) fn path_of_one(segment: &[u8]) -> Path
     Path::Other
 }
 
-// The resource that two segments name.
+/// The resource that two segments name.
 pub(crate) fn path_of_two(first: &[u8], second: &[u8]) -> Path
     ensures { result ≡ request.path_of_two first.now second.now }
 {

@@ -7,20 +7,20 @@ ghost use Rattle.message_model.specs.Refusals as refusals;
 ghost use Rattle.message_model.specs.Refusals.{refusal_of};
 ghost use Rattle.coap_message.specs.Views.{message_in};
 ghost use Rattle.coap_options.specs.Meanings.{IsMeaning};
-ghost use Rattle.coap_options.specs.Refusing.{registers, has_bad_block, refusal_by};
+ghost use Rattle.coap_options.specs.PartRefusals.{registers, has_bad_block, refusal_of_parts};
 
-use crate::heeding::BadOption;
+use crate::findings::BadOption;
 use crate::meanings::Meaning;
 use crate::methods::{GET, POST, allowed};
-use crate::reading::meaning;
-use crate::uints::uint_of;
+use crate::option_walks::meaning;
+use crate::uint_values::uint_of;
 use coap_message::View;
 use message_model::{Block, Path, Refusal};
 
-// The format of link documents (RFC 7252 section 12.3).
+/// The format of link documents (RFC 7252 section 12.3).
 const LINK_FORMAT: u16 = 40;
 
-// A path that names no resource.
+/// A path that names no resource.
 fn is_nowhere(path: &Path) -> bool
     ensures { result ≡ refusals.is_nowhere path.now }
 {
@@ -30,7 +30,7 @@ fn is_nowhere(path: &Path) -> bool
     }
 }
 
-// A registration is a POST to `/rd` (RFC 9176 section 5).
+/// A registration is a POST to `/rd` (RFC 9176 section 5).
 fn registers(code: u8, path: &Path) -> bool
     ensures { result ≡ registers code path.now }
 {
@@ -40,7 +40,7 @@ fn registers(code: u8, path: &Path) -> bool
     }
 }
 
-// The block that the value of a Block option says (RFC 7959 section 2.2).
+/// The block that the value of a Block option says (RFC 7959 section 2.2).
 #[tactic(auto, unfolding(message_model::specs::Blocks::block_read))]
 fn block_read(value: &[u8]) -> Option<Block>
     requires { length value.now ≤ 3 }
@@ -58,7 +58,7 @@ fn block_read(value: &[u8]) -> Option<Block>
     })
 }
 
-// The size of a block (RFC 7959 section 2.2).
+/// The size of a block (RFC 7959 section 2.2).
 fn block_size(szx: u8) -> usize
     requires { szx < blocks.reserved_szx }
     ensures { result ≡ blocks.block_size szx }
@@ -66,7 +66,7 @@ fn block_size(szx: u8) -> usize
     1usize << (szx + 4)
 }
 
-// A Block option with the reserved exponent (RFC 7959 section 2.2).
+/// A Block option with the reserved exponent (RFC 7959 section 2.2).
 fn says_no_block(value: Option<&[u8]>) -> bool
     requires { ForSome value (λ v. length v.now ≤ 3) }
     ensures { result ≡ refusals.says_no_block (option_map (λ v. v.now) value.entry) }
@@ -77,7 +77,7 @@ fn says_no_block(value: Option<&[u8]>) -> bool
     }
 }
 
-// A block that more follow has exactly the block size, and the last is no longer (RFC 7959 section 2.2).
+/// A block that more follow has exactly the block size, and the last is no longer (RFC 7959 section 2.2).
 fn is_misfit(block: &Block, size: usize) -> bool
     requires { block.now.szx < blocks.reserved_szx }
     ensures { result ≡ blocks.is_misfit block.now size }
@@ -89,7 +89,7 @@ fn is_misfit(block: &Block, size: usize) -> bool
     most < size
 }
 
-// A payload of this length does not fit the block that it is said to be.
+/// A payload of this length does not fit the block that it is said to be.
 fn is_misfit_of(value: Option<&[u8]>, size: usize) -> bool
     requires { ForSome value (λ v. length v.now ≤ 3) }
     ensures { result ≡ refusals.is_misfit_of (option_map (λ v. v.now) value.entry) size }
@@ -103,7 +103,7 @@ fn is_misfit_of(value: Option<&[u8]>, size: usize) -> bool
     is_misfit(&block, size)
 }
 
-// A Block option says no block, or the payload of a registration does not fit its Block1 (RFC 7959 sections 2.2 and 2.5).
+/// A Block option says no block, or the payload of a registration does not fit its Block1 (RFC 7959 sections 2.2 and 2.5).
 fn has_bad_block(
     registration: bool,
     block1: Option<&[u8]>,
@@ -123,7 +123,7 @@ fn has_bad_block(
     registration && is_misfit_of(block1, size)
 }
 
-// A format is named, and it is not that of link documents.
+/// A format is named, and it is not that of link documents.
 fn is_other_format(format: Option<u16>) -> bool
     ensures { result ≡ refusals.is_other_format format }
 {
@@ -133,12 +133,12 @@ fn is_other_format(format: Option<u16>) -> bool
     }
 }
 
-// The first refusal behind that of an unrecognized critical option.
-#[tactic(auto, unfolding(crate::specs::Refusing::refusal_by))]
+/// The first refusal after that of an unrecognized critical option.
+#[tactic(auto, unfolding(crate::specs::PartRefusals::refusal_of_parts))]
 fn refusal_after_options(meaning: &Meaning<'_>) -> Option<Refusal>
     requires block1 { ForSome meaning.now.block1 (λ v. length v.now ≤ 3) }
     requires block2 { ForSome meaning.now.block2 (λ v. length v.now ≤ 3) }
-    ensures { result ≡ refusal_by meaning.now.view.code meaning.now.path meaning.now.proxy
+    ensures { result ≡ refusal_of_parts meaning.now.view.code meaning.now.path meaning.now.proxy
         (option_map (λ v. v.now) meaning.now.block1) (option_map (λ v. v.now) meaning.now.block2)
         meaning.now.accept meaning.now.format (length meaning.now.view.payload.now) }
 {

@@ -7,16 +7,20 @@ ghost use Rattle.coap_options.specs.Segments.{AreSegments};
 use crate::paths::{path_of_one, path_of_two};
 use message_model::Path;
 
-// The segments of a path, of which no resource has more than two.
+/// The segments of a path, of which no resource has more than two.
 #[derive(Clone, Copy)]
 pub(crate) enum Segments<'a> {
+    /// None.
     None,
+    /// One.
     One(&'a [u8]),
+    /// Two, in order.
     Two(&'a [u8], &'a [u8]),
+    /// Three or more, which name no resource.
     More,
 }
 
-// One segment more.
+/// One segment more.
 pub(crate) fn with_segment<'a>(segments: Segments<'a>, segment: &'a [u8]) -> Segments<'a>
     ensures { (values : List (List ℕ)) → AreSegments segments.entry values → AreSegments result (values ++ segment.now ∷ []) }
 {
@@ -28,7 +32,7 @@ pub(crate) fn with_segment<'a>(segments: Segments<'a>, segment: &'a [u8]) -> Seg
     }
 }
 
-// The resource that they name.
+/// The resource that they name.
 #[tactic(auto, unfolding(message_model::specs::Request::path_of))]
 pub(crate) fn path_of(segments: Segments<'_>) -> Path
     ensures { (values : List (List ℕ)) → AreSegments segments.entry values → result ≡ request.path_of values }

@@ -5,37 +5,52 @@ ghost use Rattle.std.specs.Option.{option_map};
 ghost use Rattle.message_model.specs.OptionTable as table;
 ghost use Rattle.coap_options.specs.Definitions.{definition_in};
 
+/// The number of Uri-Host (RFC 7252 section 5.10).
 pub(crate) const URI_HOST: u32 = 3;
 
+/// The number of ETag (RFC 7252 section 5.10).
 pub(crate) const ETAG: u32 = 4;
 
+/// The number of Observe (RFC 7641 section 2).
 pub(crate) const OBSERVE: u32 = 6;
 
+/// The number of Uri-Port (RFC 7252 section 5.10).
 pub(crate) const URI_PORT: u32 = 7;
 
+/// The number of Location-Path (RFC 7252 section 5.10).
 pub(crate) const LOCATION_PATH: u32 = 8;
 
+/// The number of Uri-Path (RFC 7252 section 5.10).
 pub(crate) const URI_PATH: u32 = 11;
 
+/// The number of Content-Format (RFC 7252 section 5.10).
 pub(crate) const CONTENT_FORMAT: u32 = 12;
 
+/// The number of Uri-Query (RFC 7252 section 5.10).
 pub(crate) const URI_QUERY: u32 = 15;
 
+/// The number of Accept (RFC 7252 section 5.10).
 pub(crate) const ACCEPT: u32 = 17;
 
+/// The number of Block2 (RFC 7959 section 2.1).
 pub(crate) const BLOCK2: u32 = 23;
 
+/// The number of Block1 (RFC 7959 section 2.1).
 pub(crate) const BLOCK1: u32 = 27;
 
+/// The number of Size2 (RFC 7959 section 4).
 pub(crate) const SIZE2: u32 = 28;
 
+/// The number of Proxy-Uri (RFC 7252 section 5.10).
 pub(crate) const PROXY_URI: u32 = 35;
 
+/// The number of Proxy-Scheme (RFC 7252 section 5.10).
 pub(crate) const PROXY_SCHEME: u32 = 39;
 
+/// The number of Size1 (RFC 7959 section 4).
 pub(crate) const SIZE1: u32 = 60;
 
-// Of an option: the least and greatest length of its value, and whether it may be repeated.
+/// Of an option: the least and greatest length of its value, and whether it may be repeated.
 #[derive(Clone, Copy)]
 pub(crate) struct Definition {
     pub least: usize,
@@ -43,7 +58,7 @@ pub(crate) struct Definition {
     pub repeatable: bool,
 }
 
-// An option that stands at most once.
+/// An option that stands at most once.
 fn at_most_once(least: usize, most: usize) -> Option<Definition>
     ensures { option_map definition_in result ≡ table.at_most_once least most }
 {
@@ -54,7 +69,7 @@ fn at_most_once(least: usize, most: usize) -> Option<Definition>
     })
 }
 
-// An option that may stand more than once.
+/// An option that may stand more than once.
 fn any_number(least: usize, most: usize) -> Option<Definition>
     ensures { option_map definition_in result ≡ table.any_number least most }
 {
@@ -65,7 +80,7 @@ fn any_number(least: usize, most: usize) -> Option<Definition>
     })
 }
 
-// The definition of the option with this number, where the table has it.
+/// The definition of the option with this number, where the table has it.
 #[tactic(auto, unfolding(message_model::specs::OptionTable::definition_of))]
 fn definition_of(number: u32) -> Option<Definition>
     ensures { option_map definition_in result ≡ table.definition_of number }
@@ -90,15 +105,15 @@ fn definition_of(number: u32) -> Option<Definition>
     }
 }
 
-// A length between the least and the greatest.
+/// A length between the least and the greatest.
 fn has_length(definition: &Definition, size: usize) -> bool
     ensures { result ≡ (nat_le definition.now.least size && nat_le size definition.now.most) }
 {
     definition.least <= size && size <= definition.most
 }
 
-// The table has the option and allows this length, and that it is a further one where it is (RFC 7252 sections 5.4.3 and
-// 5.4.5).
+/// The table has the option and allows this length, and that it is a further one where it is (RFC 7252 sections 5.4.3 and
+/// 5.4.5).
 pub(crate) fn is_recognized(number: u32, is_further: bool, size: usize) -> bool
     ensures { result ≡ table.is_allowed_by (table.definition_of number) is_further size }
 {
@@ -108,7 +123,7 @@ pub(crate) fn is_recognized(number: u32, is_further: bool, size: usize) -> bool
     has_length(&definition, size) && (definition.repeatable || !is_further)
 }
 
-// Odd numbers are critical (RFC 7252 section 5.4.6).
+/// Odd numbers are critical (RFC 7252 section 5.4.6).
 pub(crate) fn is_critical(number: u32) -> bool
     ensures { result ≡ table.is_critical number }
 {

@@ -1,13 +1,14 @@
-//! Requests against what is refused and what is heeded of them.
+//! Requests against what is refused and what counts of them.
 
 use super::*;
 use coap_message::view;
 use std::test::Fail;
 
-// What a request is refused for, or its path, observe, accept and format.
-type Heeded = Result<(Path, Option<u32>, Option<u16>, Option<u16>), Refusal>;
+//// What a request is refused for, or its path, observe, accept and format.
+type Outcome = Result<(Path, Option<u32>, Option<u16>, Option<u16>), Refusal>;
 
-fn heeded(datagram: &[u8]) -> Option<Heeded> {
+/// What is read of a datagram, where it is a message.
+fn outcome(datagram: &[u8]) -> Option<Outcome> {
     let Ok(read) = view(datagram) else {
         return None;
     };
@@ -18,8 +19,8 @@ fn heeded(datagram: &[u8]) -> Option<Heeded> {
 }
 
 #[test]
-fn requests_are_heeded_or_refused(rt: HostRuntime) -> Result<(), Fail> {
-    let cases: [(&[u8], Heeded); 43] = [
+fn requests_are_read_or_refused(rt: HostRuntime) -> Result<(), Fail> {
+    let cases: [(&[u8], Outcome); 43] = [
         // the refusals in their order
         (b"@\x01\x00\x01\x90", Err(Refusal::BadOption(9))),
         (
@@ -156,14 +157,14 @@ fn requests_are_heeded_or_refused(rt: HostRuntime) -> Result<(), Fail> {
         (b"@\x01\x00\x01\xb9rd-lookup\x02ep\x00", Err(Refusal::Path)),
     ];
     for (datagram, want) in cases {
-        assert_eq!(rt; heeded(datagram), Some(want), "at {datagram:?}");
+        assert_eq!(rt; outcome(datagram), Some(want), "at {datagram:?}");
     }
-    // an elective option of 1,000 octets behind the path
+    // an elective option of 1,000 octets after the path
     let mut long = Vec::from_slice(rt.alloc(), b"@\x02\x00\x01\xb2rd^\x02\xdb")?;
     for _ in 0..1000 {
         long.push(b'x')?;
     }
-    assert_eq!(rt; heeded(&long), Some(Ok((Path::Rd, None, None, None))));
+    assert_eq!(rt; outcome(&long), Some(Ok((Path::Rd, None, None, None))));
     Ok(())
 }
 

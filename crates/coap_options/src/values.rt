@@ -5,8 +5,8 @@ ghost use Rattle.std.specs.Option.{IfNone};
 ghost use Rattle.message_model.specs.Request as request;
 ghost use Rattle.message_model.specs.OptionTable.{definition_of, is_allowed_by};
 ghost use Rattle.coap_message.specs.Views.{message_in};
-ghost use Rattle.coap_message.specs.Left.{options_left};
-ghost use Rattle.coap_options.specs.Left.{values_left, queries_left, etags_left};
+ghost use Rattle.coap_message.specs.OptionsLeft.{options_left};
+ghost use Rattle.coap_options.specs.ValuesLeft.{values_left, queries_left, etags_left};
 
 use crate::meanings::Meaning;
 use crate::table::{ETAG, URI_QUERY, is_recognized};
@@ -24,7 +24,7 @@ pub struct EtagIter<'a> {
     options: OptionsIter<'a>,
 }
 
-// Whether the option has this number, which may be repeated, and is recognized.
+/// Whether the option has this number, which may be repeated, and is recognized.
 fn is_value(number: u32, option: &Opt<'_>) -> bool
     ensures { result ≡ (option.now.number == number && is_allowed_by (definition_of number) false (length option.now.value.now)) }
 {
@@ -34,7 +34,7 @@ fn is_value(number: u32, option: &Opt<'_>) -> bool
     is_recognized(number, false, option.value.len())
 }
 
-// The next value of a number that may be repeated, and the options behind it.
+/// The next value of a number that may be repeated, and the options after it.
 fn next_value<'a>(options: OptionsIter<'a>, number: u32) -> Option<(&'a [u8], OptionsIter<'a>)>
     ensures some { IfSome result (λ x. values_left number (options_left options.entry) ≡ x.0.now ∷ values_left number (options_left x.1)) }
     ensures none { IfNone result (values_left number (options_left options.entry) ≡ []) }
@@ -68,7 +68,7 @@ pub fn etags<'a>(meaning: &Meaning<'a>) -> EtagIter<'a>
 
 impl<'a> Iterator for QueryIter<'a> {
     ghost use Rattle.std.specs.Iterator.{YieldsFirstBy, item_count};
-    ghost use Rattle.coap_options.specs.Left.{queries_left};
+    ghost use Rattle.coap_options.specs.ValuesLeft.{queries_left};
 
     type Item = &'a [u8];
 
@@ -85,7 +85,7 @@ impl<'a> Iterator for QueryIter<'a> {
 
 impl<'a> Iterator for EtagIter<'a> {
     ghost use Rattle.std.specs.Iterator.{YieldsFirstBy, item_count};
-    ghost use Rattle.coap_options.specs.Left.{etags_left};
+    ghost use Rattle.coap_options.specs.ValuesLeft.{etags_left};
 
     type Item = &'a [u8];
 

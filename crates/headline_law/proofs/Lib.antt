@@ -15,7 +15,7 @@
 --   and ObserversKnow, the sentence.
 --
 -- AnswersAsFormed: each lookup answers the listing of the row that formed it.
---   sends: ReadAgain (what is spelled is read as it was), BodyAnswers (an answer bears a block of its body), LookupSends (looks, lookups, keeps), PlainSteps
+--   sends: BodyAnswers (an answer bears a block of its body), LookupSends (looks, lookups, keeps), PlainSteps
 --   and PlainCommits (what is neither 2.05 nor 2.03), TickSends (what is sent again), StepOutcomes (one table of what each step but a tick sends);
 --   ValidSends, RowSends and ValidLaw have that 2.03 is sent exactly where a look names the tag.
 --   flights: notices in flight. WaitedPeers and NoticesAgain (the first part of a tick), TickNotices, FreshNotices and TickFolds (one record of what a tick

@@ -1,4 +1,3 @@
-pub mod ReadAgain
 pub mod BodyAnswers
 pub mod PlainSteps
 pub mod PlainCommits

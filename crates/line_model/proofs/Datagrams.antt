@@ -7,7 +7,7 @@ use Rattle.std.proofs.lemmas.Slice.Eq.{bytes_eq-Decides}
 use Rattle.hex.specs.Hex.{IsBytes, decode_of, encode_lower, lower_digits}
 use Rattle.hex.proofs.HexLemmas.{length-encode_with, decode_of-encode_lower, decode_of-ok}
 use Rattle.line_model.specs.Datagrams.{max_datagram, no_octets, datagram_text, datagram_of, if_sized, IsDatagramText}
-use Rattle.rd_base.proofs.Tests.{passed, failed, chosen, either_of}
+use Rattle.rd_base.proofs.lemmas.Choices.{let_through, chosen_true, chosen_false, either_of}
 
 -- lists of different lengths are not equal
 not_same : (xs ys : List ℕ) → length xs ≢ length ys → bytes_eq xs ys ≡ false
@@ -25,15 +25,15 @@ unfolding datagram_of
 datagram_of-datagram_text [] small bytes = refl
 datagram_of-datagram_text (octet ∷ octets) small bytes =
     let all = octet ∷ octets in
-    failed (bytes_eq (encode_lower all) no_octets) (Some []) (if_sized (decode_of (encode_lower all))) (not_dash octet octets)
+    chosen_false (bytes_eq (encode_lower all) no_octets) (Some []) (if_sized (decode_of (encode_lower all))) (not_dash octet octets)
     ∙ ap if_sized (decode_of-encode_lower all bytes)
-    ∙ passed (nat_le 1 (length all) && nat_le (length all) max_datagram) (Some all) None
+    ∙ chosen_true (nat_le 1 (length all) && nat_le (length all) max_datagram) (Some all) None
     (and_from (nat_le 1 (length all)) (nat_le (length all) max_datagram) (le-leb 1 (length all) (omega arith)) (le-leb (length all) max_datagram small))
 
 -- what was decoded and let through is 1 to 4,096 octets
 sized : (r : Result (List ℕ) FromHexError) (octets : List ℕ) → if_sized r ≡ Some octets → (r ≡ Ok octets) × (1 ≤ length octets) × (length octets ≤ max_datagram)
 sized (Ok found) octets e =
-    let (test, same) = chosen (nat_le 1 (length found) && nat_le (length found) max_datagram) found octets e in
+    let (test, same) = let_through (nat_le 1 (length found) && nat_le (length found) max_datagram) found octets e in
     let parts = and_parts (nat_le 1 (length found)) (nat_le (length found) max_datagram) test in
     let low : 1 ≤ length found = leb-true 1 (length found) parts.0 in
     let high : length found ≤ max_datagram = leb-true (length found) max_datagram parts.1 in
@@ -57,9 +57,9 @@ digits_no_dash text octets e = not_same text no_octets (λ len. let even = (deco
 pub datagram_of-IsDatagramText : (text octets : List ℕ) → IsDatagramText text octets → datagram_of text ≡ Some octets
 unfolding datagram_of
 datagram_of-IsDatagramText text octets (inl h) =
-    passed (bytes_eq text no_octets) (Some []) (if_sized (decode_of text)) ((bytes_eq-Decides text no_octets).1 h.0) ∙ ap (λ (xs : List ℕ). Some xs) (sym h.1)
+    chosen_true (bytes_eq text no_octets) (Some []) (if_sized (decode_of text)) ((bytes_eq-Decides text no_octets).1 h.0) ∙ ap (λ (xs : List ℕ). Some xs) (sym h.1)
 datagram_of-IsDatagramText text octets (inr h) =
-    failed (bytes_eq text no_octets) (Some []) (if_sized (decode_of text)) (digits_no_dash text octets h.0)
+    chosen_false (bytes_eq text no_octets) (Some []) (if_sized (decode_of text)) (digits_no_dash text octets h.0)
     ∙ ap if_sized h.0
-    ∙ passed (nat_le 1 (length octets) && nat_le (length octets) max_datagram) (Some octets) None
+    ∙ chosen_true (nat_le 1 (length octets) && nat_le (length octets) max_datagram) (Some octets) None
     (and_from (nat_le 1 (length octets)) (nat_le (length octets) max_datagram) (le-leb 1 (length octets) h.1) (le-leb (length octets) max_datagram h.2))

@@ -4,6 +4,6 @@ pub mod Datagrams
 pub mod Spaces
 pub mod Lengths
 pub mod Fields
-pub mod ReadBack
-pub mod Readings
+pub mod PrintedLines
+pub mod LineTexts
 mod examples

@@ -1,4 +1,4 @@
--- What a proof opens to compute this crate's definitions on texts that are given.
+-- What a proof opens to compute this crate's definitions on texts that are written out.
 use Rattle.std.specs.Prelude.{⊤}
 use Rattle.std.specs.Fmt.{digits}
 use Rattle.std.specs.Net.Text.{hex, hex_groups_text, ipv6_text}

@@ -1,4 +1,4 @@
-// The lines of a trace, and what is wrong with one.
+//! The lines of a trace, and what is wrong with one.
 use rd_base::{Bytes, Moment, Peer};
 
 /// A line of a trace.

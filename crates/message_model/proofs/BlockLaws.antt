@@ -1,5 +1,5 @@
 -- Numbers and block values are read as they are written, and the blocks of a body are its parts.
-use Rattle.std.proofs.Common.{◌≡◌, ℕ, zero, suc, ◌+◌, ◌*◌, ◌/◌, ◌%◌, ◌^◌, ◌<◌, ◌≤◌, Bool, true, false, ◌&&◌, ltb, leb, eqb, List, [], ◌∷◌, ◌++◌, length, take, drop, Option, Some, None, refl, sym, ap, subst, ◌∙◌, arith, inl, inr}
+use Rattle.std.proofs.Common.{◌≡◌, ℕ, zero, suc, ◌+◌, ◌*◌, ◌/◌, ◌%◌, ◌^◌, ◌<◌, ◌≤◌, Bool, true, false, ◌&&◌, ltb, leb, eqb, List, [], ◌∷◌, ◌++◌, length, take, drop, Some, None, refl, sym, ap, subst, ◌∙◌, arith, inl, inr}
 use Rattle.std.proofs.lemmas.Bool.{cases_lt, cases_eq, ltb-true, ltb-false, lt-ltb, le-ltb, eqb-false, ne_eqb, and_parts, le-leb, leb-true}
 use Rattle.std.proofs.lemmas.List.{take-append-drop, length-take, length-drop, drop-drop, drop_all}
 use Rattle.std.proofs.Math.Nat.{add-mul, one-mul}
@@ -7,7 +7,7 @@ use Rattle.std.proofs.lemmas.Option.{same_Some, none-some}
 use Rattle.message_model.specs.declared.blocks.Block.{Block}
 use Rattle.message_model.specs.Numbers.{AreBytes, uint_of, uint_bytes}
 use Rattle.message_model.specs.Blocks.{IsBlock, block_size, block_from, block_read, more_bit, block_value, block_of, IsPiece}
-use Rattle.message_model.proofs.ByteLemmas.{chosen, passed}
+use Rattle.rd_base.proofs.lemmas.Choices.{either_of, not_refused}
 
 -- ---- numbers
 
@@ -50,9 +50,6 @@ uint_small (a ∷ b ∷ c ∷ []) fits few =
 uint_small (a ∷ b ∷ c ∷ d ∷ bytes) fits few = absurd (omega arith)
 
 -- ---- values of Block options
-
-block_same : (b : Block) (num szx : ℕ) (more : Bool) → num ≡ b.num → more ≡ b.more → szx ≡ b.szx → ◌≡◌ {A = Option Block} (Some (record { num = num; more = more; szx = szx })) (Some b)
-block_same b num szx more h i j = rw (h, i, j) refl
 
 more_bit-lt : (more : Bool) → more_bit more < 2
 more_bit-lt true = omega arith
@@ -100,7 +97,7 @@ unfolding block_read block_value
 block_found value b fits few e =
     let n : ℕ = uint_of value in
     let small : uint_of value < 2 ^ 24 = uint_small value fits few in
-    let p = passed (eqb (uint_of value % 8) 7) _ b e in
+    let p = not_refused (eqb (uint_of value % 8) 7) _ b e in
     let free : uint_of value % 8 ≡ 7 → ⊥ = eqb-false (uint_of value % 8) 7 p.0 in
     let bit : more_bit (eqb (uint_of value / 8 % 2) 1) ≡ uint_of value / 8 % 2 = more_bit-eqb (uint_of value / 8 % 2) (omega arith) in
     let found : IsFound value (record { num = uint_of value / 16; more = eqb (uint_of value / 8 % 2) 1; szx = uint_of value % 8 }) = record {
@@ -118,7 +115,7 @@ piece_of body num size =
     let split : take size (drop (num * size) body) ++ drop size (drop (num * size) body) ≡ drop (num * size) body = take-append-drop size (drop (num * size) body) in
     let joined : drop size (drop (num * size) body) ≡ drop ((num + 1) * size) body = drop-drop size (num * size) body ∙ ap (λ (k : ℕ). drop k body) (sym next) in
     record {
-      place = sym (ap (λ (t : List ℕ). take size (drop (num * size) body) ++ t) (sym joined) ∙ split);
+      offset = sym (ap (λ (t : List ℕ). take size (drop (num * size) body) ++ t) (sym joined) ∙ split);
       full = λ more.
           let longer : (num + 1) * size < length body = ltb-true _ _ more in
           omega (arith, next, length-take size (drop (num * size) body), length-drop (num * size) body);
@@ -129,22 +126,24 @@ piece_of body num size =
 pair_same : (x y : List ℕ × Bool) → Some x ≡ Some y → x ≡ y
 pair_same x y e = same_Some x y e
 
--- A block that there is stands at its place in the body.
+-- A block that there is stands at its offset in the body.
 pub block_of_piece : (body : List ℕ) (num szx : ℕ) (x : List ℕ × Bool) → block_of body num szx ≡ Some x → IsPiece body num (block_size szx) x.0 x.1
 unfolding block_of
 block_of_piece body num szx x e =
-    let p = passed (ltb 0 num && leb (length body) (num * block_size szx)) _ x e in
+    let p = not_refused (ltb 0 num && leb (length body) (num * block_size szx)) _ x e in
     subst (λ (y : List ℕ × Bool). IsPiece body num (block_size szx) y.0 y.1) (pair_same _ x p.1) (piece_of body num (block_size szx))
 
 -- There is none exactly where the number is above 0 and begins at the body's end or past it.
+-- An end theorem: nothing here cites it.
 pub block_of_none : (body : List ℕ) (num szx : ℕ) → 0 < num → length body ≤ num * block_size szx → block_of body num szx ≡ None
 unfolding block_of
 block_of_none body num szx above past = rw (lt-ltb 0 num above, le-leb (length body) (num * block_size szx) past) refl
 
+-- An end theorem: nothing here cites it.
 pub block_of_some : (body : List ℕ) (num szx : ℕ) → block_of body num szx ≡ None → (0 < num) × (length body ≤ num * block_size szx)
 unfolding block_of
 block_of_some body num szx e =
-    elim (chosen (ltb 0 num && leb (length body) (num * block_size szx)) None _ None e) [
+    elim (either_of (ltb 0 num && leb (length body) (num * block_size szx)) None _ None e) [
       | inl past ↦
           let h = and_parts (ltb 0 num) (leb (length body) (num * block_size szx)) past.0 in
           (ltb-true _ _ h.0, leb-true _ _ h.1)

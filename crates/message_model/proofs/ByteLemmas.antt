@@ -1,12 +1,12 @@
--- Bytes at the front of bytes, and steps that each take some.
-use Rattle.std.proofs.Common.{◌≡◌, ℕ, suc, ◌<◌, ◌≤◌, Bool, true, false, cond, ltb, List, [], ◌∷◌, ◌++◌, length, get_or, take, drop, Option, Some, None, refl, sym, ap, subst, ◌∙◌, append_assoc, Fits, w8, arith, inl, inr}
-use Rattle.std.specs.Prelude.{◌⊎◌}
+-- Bytes that bytes begin with, and steps that each take some.
+use Rattle.std.proofs.Common.{◌≡◌, ℕ, suc, ◌<◌, ◌≤◌, false, ltb, List, [], ◌∷◌, ◌++◌, length, get_or, take, drop, Option, Some, None, refl, sym, ap, subst, ◌∙◌, append_assoc, Fits, w8, arith}
 use Rattle.std.proofs.Math.Facts.{Fits-lt-pow}
 use Rattle.std.proofs.lemmas.Bool.{ltb-false, le-ltb}
 use Rattle.std.proofs.lemmas.List.{take_at, drop_at, take-append-drop, length-append, length-take}
 use Rattle.std.proofs.lemmas.Option.{same_Some}
 use Rattle.message_model.specs.Numbers.{AreBytes}
 use Rattle.message_model.specs.Reading.{◌>>=◌, byte_at, bytes_at}
+use Rattle.rd_base.proofs.lemmas.Choices.{not_refused}
 
 -- ---- bytes
 
@@ -22,7 +22,7 @@ pub AreBytes-back : (xs ys : List ℕ) → AreBytes (xs ++ ys) → AreBytes ys
 AreBytes-back [] ys h = h
 AreBytes-back (x ∷ xs) ys h = AreBytes-back xs ys h.1
 
--- from the same fact at each place
+-- from the same fact at each index
 pub AreBytes-from_places : (bytes : List ℕ) → ((i : ℕ) → get_or bytes i 0 < 256) → AreBytes bytes
 AreBytes-from_places [] h = tt
 AreBytes-from_places (b ∷ bytes) h = (h 0, AreBytes-from_places bytes (λ i. h (suc i)))
@@ -46,17 +46,7 @@ pub bind_some : {A B : Type 0} (o : Option A) (f : A → Option B) (y : B) → (
 bind_some (Some x) f y e = (x, refl, e)
 bind_some None f y e = absurd cc
 
--- which side a test chose
-pub chosen : {A : Type 0} (b : Bool) (x y z : A) → cond b x y ≡ z → ((b ≡ true) × (x ≡ z)) ⊎ ((b ≡ false) × (y ≡ z))
-chosen true x y z e = inl (refl, e)
-chosen false x y z e = inr (refl, e)
-
--- a test that did not refuse
-pub passed : {A : Type 0} (b : Bool) (x : Option A) (y : A) → cond b None x ≡ Some y → (b ≡ false) × (x ≡ Some y)
-passed true x y e = absurd cc
-passed false x y e = (refl, e)
-
--- what a step took from the front
+-- what a step took of the bytes
 pub record Takes (bytes text rest : List ℕ) : Type 0 where
   pub parts : bytes ≡ text ++ rest
   pub text_fits : AreBytes text
@@ -81,7 +71,7 @@ byte_takes (b ∷ bytes) x fits e =
 
 pub bytes_takes : (n : ℕ) (bytes : List ℕ) (x : List ℕ × List ℕ) → AreBytes bytes → bytes_at n bytes ≡ Some x → Takes bytes x.0 x.1 × (length x.0 ≡ n)
 bytes_takes n bytes x fits e =
-    let p = passed (ltb (length bytes) n) (Some (take n bytes, drop n bytes)) x e in
+    let p = not_refused (ltb (length bytes) n) (Some (take n bytes, drop n bytes)) x e in
     let long : n ≤ length bytes = ltb-false _ _ p.0 in
     subst (λ (y : List ℕ × List ℕ). Takes bytes y.0 y.1 × (length y.0 ≡ n)) (same_Some (take n bytes, drop n bytes) x p.1)
     (Takes-from bytes (take n bytes) (drop n bytes) (sym (take-append-drop n bytes)) fits, omega (arith, length-take n bytes))

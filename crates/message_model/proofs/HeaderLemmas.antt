@@ -1,14 +1,14 @@
 -- A header that is read is spelled so, and a header that is spelled is read again.
-use Rattle.std.proofs.Common.{◌≡◌, ℕ, zero, suc, ◌+◌, ◌*◌, ◌/◌, ◌%◌, ◌^◌, ◌<◌, ◌≤◌, eqb, List, [], ◌∷◌, ◌++◌, length, Result, Ok, Err, refl, subst, arith, inl, inr}
+use Rattle.std.proofs.Common.{◌≡◌, ℕ, zero, suc, ◌+◌, ◌*◌, ◌/◌, ◌%◌, ◌<◌, ◌≤◌, eqb, List, [], ◌∷◌, ◌++◌, length, Result, Ok, Err, refl, subst, arith, inl, inr}
 use Rattle.std.proofs.lemmas.Bool.{eqb-true}
 use Rattle.message_model.specs.declared.messages.Kind4.{Kind4}
 use Rattle.message_model.specs.declared.messages.Kind4.TheVariants.{Con, Non, Ack, Rst}
 use Rattle.message_model.specs.declared.messages.Unread.{Unread}
 use Rattle.message_model.specs.declared.messages.Unread.TheVariants as unread
-use Rattle.message_model.specs.Message.{Message, IsMessage}
+use Rattle.message_model.specs.Message.{Message, longest_token}
 use Rattle.message_model.specs.Spelling.{version, kind_number, header_spelling}
 use Rattle.message_model.specs.Reading.{kind_of, Header, header_of, header_at}
-use Rattle.message_model.proofs.ByteLemmas.{chosen}
+use Rattle.rd_base.proofs.lemmas.Choices.{either_of}
 
 -- ---- types
 
@@ -25,6 +25,7 @@ kind_of-kind_number Non = refl
 kind_of-kind_number Ack = refl
 kind_of-kind_number Rst = refl
 
+-- A type has two bits.
 kind_number-lt : (kind : Kind4) → kind_number kind < 4
 kind_number-lt Con = omega arith
 kind_number-lt Non = omega arith
@@ -33,6 +34,7 @@ kind_number-lt Rst = omega arith
 
 -- ---- when a header is read
 
+-- An end theorem: nothing here cites it.
 pub header_at-short : (bytes : List ℕ) → length bytes < 4 → header_at bytes ≡ Err unread.Short
 unfolding header_at
 header_at-short [] h = refl
@@ -64,7 +66,7 @@ header_taken (a ∷ []) x e = absurd (err_is_no_ok unread.Short x e)
 header_taken (a ∷ b ∷ []) x e = absurd (err_is_no_ok unread.Short x e)
 header_taken (a ∷ b ∷ c ∷ []) x e = absurd (err_is_no_ok unread.Short x e)
 header_taken (first ∷ code ∷ high ∷ low ∷ bytes) x e =
-    elim (chosen (eqb (first / 64) 1) _ _ (Ok x) e) [
+    elim (either_of (eqb (first / 64) 1) _ _ (Ok x) e) [
       | inl good ↦ subst (λ (y : Header × List ℕ). IsHeader (first ∷ code ∷ high ∷ low ∷ bytes) y) (ok_same (header_of first code high low, bytes) x good.1)
           (record { first = first; code = code; high = high; low = low; parts = refl; version_is = eqb-true _ _ good.0; header_is = refl })
       | inr other ↦ absurd (err_is_no_ok unread.Version x other.1)
@@ -76,15 +78,11 @@ header_taken (first ∷ code ∷ high ∷ low ∷ bytes) x e =
 abbrev pub header_in : Message → Header
 header_in m = record { kind = m.kind; token_length = length m.token; code = m.code; mid = m.mid }
 
-header_same : (m : Message) (kind : Kind4) (size mid : ℕ) → kind ≡ m.kind → size ≡ length m.token → mid ≡ m.mid → ◌≡◌ {A = Header} (record { kind = kind; token_length = size; code = m.code; mid = mid }) (header_in m)
-header_same m kind size mid h i j = rw (h, i, j) refl
-
-pub header_again : (m : Message) (rest : List ℕ) → IsMessage m → header_at (header_spelling m ++ rest) ≡ Ok (header_in m, rest)
+-- The header of a message whose token is short enough is read again.
+pub header_again : (m : Message) (rest : List ℕ) → length m.token ≤ longest_token → header_at (header_spelling m ++ rest) ≡ Ok (header_in m, rest)
 unfolding header_at header_spelling
-header_again m rest fits =
+header_again m rest short =
     let small : kind_number m.kind < 4 = kind_number-lt m.kind in
-    let short : length m.token ≤ 8 = fits.token_length in
-    let in_range : m.mid < 2 ^ 16 = fits.mid in
     let first : (1 * 64 + kind_number m.kind * 16 + length m.token) / 64 ≡ 1 = omega arith in
     let kind : (1 * 64 + kind_number m.kind * 16 + length m.token) / 16 % 4 ≡ kind_number m.kind = omega arith in
     let size : (1 * 64 + kind_number m.kind * 16 + length m.token) % 16 ≡ length m.token = omega arith in

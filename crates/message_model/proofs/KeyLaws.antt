@@ -1,4 +1,4 @@
--- A key tells method, path and query options.
+-- A key has its method, its path and its query options: no two requests that differ in them have one key.
 use Rattle.std.proofs.Common.{◌≡◌, ℕ, ◌^◌, ◌<◌, List, [], ◌∷◌, ◌++◌, length, take, drop, Option, Some, None, refl, sym, ap, ◌∙◌}
 use Rattle.std.specs.Prelude.{flat_map, if◌then◌else◌, ◌==◌, ⊤}
 use Rattle.std.specs.Int.{w64, from_be_bytes}
@@ -21,7 +21,7 @@ FitsKey path.Res = ⊤
 FitsKey path.Ep = ⊤
 FitsKey path.Other = ⊤
 
--- the path at the front of bytes
+-- the path that bytes begin with
 path_at : List ℕ → Option (Path × List ℕ)
 path_at [] = None
 path_at (b ∷ bytes) =

@@ -1,5 +1,5 @@
 -- A location is the decimal text of its number, and no other text names it.
-use Rattle.std.proofs.Common.{◌≡◌, ℕ, ◌+◌, ◌-◌, ◌*◌, ◌^◌, ◌<◌, ◌≤◌, Bool, true, false, not, ◌&&◌, leb, eqb, List, [], ◌∷◌, length, get_or, refl, sym, ap, subst, ◌∙◌, arith, inl, inr}
+use Rattle.std.proofs.Common.{◌≡◌, ℕ, ◌+◌, ◌-◌, ◌*◌, ◌^◌, ◌<◌, ◌≤◌, Bool, true, false, not, leb, eqb, List, [], ◌∷◌, length, get_or, refl, sym, ap, subst, ◌∙◌, arith, inl, inr}
 use Rattle.std.specs.Prelude.{fold}
 use Rattle.std.specs.Fmt.{decimal, digits}
 use Rattle.std.specs.List.{list_all}
@@ -10,8 +10,8 @@ use Rattle.std.proofs.lemmas.Fmt.{decimal-digits_value, digits_decimal, digits_v
 use Rattle.std.proofs.lemmas.Str.Parse.{IsNumeralModel, numerals_by_fold, digits_value_short}
 use Rattle.message_model.specs.declared.requests.Path.TheVariants as path
 use Rattle.message_model.specs.Request.{has_leading_zero, is_location, decimal_value, location_of}
-use Rattle.message_model.proofs.ByteLemmas.{chosen}
 use Rattle.rd_base.proofs.lemmas.Booleans.{and_four}
+use Rattle.rd_base.proofs.lemmas.Choices.{either_of}
 
 abbrev are_digits : List ℕ → Bool
 are_digits text = list_all is_ascii_digit text
@@ -46,10 +46,11 @@ same_number : (a b : ℕ) → path.Location a ≡ path.Location b → a ≡ b
 same_number a b e = cc
 
 -- What is read as a location is the decimal text of its number.
+-- An end theorem: nothing here cites it.
 pub location_found : (text : List ℕ) (n : ℕ) → location_of text ≡ path.Location n → (text ≡ decimal n) × (n < 10 ^ 15)
 unfolding location_of
 location_found text n e =
-    elim (chosen (is_location text) _ _ (path.Location n) e) [
+    elim (either_of (is_location text) _ _ (path.Location n) e) [
       | inl named ↦
           let h = location_parts text named.0 in
           let small = value_small text h in
@@ -81,6 +82,7 @@ plain_decimal n small =
     ]
 
 -- The decimal text of a number of at most 15 digits is read as its location.
+-- An end theorem: nothing here cites it.
 pub location_again : (n : ℕ) → n < 10 ^ 15 → location_of (decimal n) ≡ path.Location n
 unfolding location_of
 location_again n small =

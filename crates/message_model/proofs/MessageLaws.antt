@@ -6,21 +6,22 @@ use Rattle.std.proofs.lemmas.Option.{same_Some}
 use Rattle.std.proofs.Math.Bool.{and-false}
 use Rattle.message_model.specs.declared.messages.Unread.{Unread}
 use Rattle.message_model.specs.Numbers.{AreBytes}
-use Rattle.message_model.specs.Codes.{is_reserved}
+use Rattle.message_model.specs.Codes.{is_reserved, empty}
 use Rattle.message_model.specs.Message.{Message, Opt, IsBare, IsMessage, AreOptionsAfter, longest_token}
 use Rattle.message_model.specs.Spelling.{kind_number, header_spelling, option_spelling, options_spelling, payload_spelling, spelling}
 use Rattle.message_model.specs.Reading.{Header, header_of, header_at, bytes_at, tail_at, is_filled, is_bad_header, message_of, body_at, or_format, with_body, reading}
-use Rattle.message_model.proofs.ByteLemmas.{bind_some, passed, bytes_takes, bytes_again}
-use Rattle.message_model.proofs.TailLemmas.{tail_taken, tail_again}
+use Rattle.message_model.proofs.ByteLemmas.{bind_some, bytes_takes, bytes_again}
+use Rattle.message_model.proofs.TailLemmas.{AreInOrder, are_in_order, tail_taken, tail_in_order}
 use Rattle.message_model.proofs.HeaderLemmas.{kind_number-kind_of, header_taken, header_in, header_again}
+use Rattle.rd_base.proofs.lemmas.Choices.{not_refused}
 
--- What stands behind the header of a message.
+-- What stands after the header of a message.
 abbrev pub body_spelling : Message → List ℕ
 body_spelling m = m.token ++ (options_spelling 0 m.options ++ payload_spelling m.payload)
 
 -- ---- what is read is spelled so
 
--- what was read behind a header
+-- what was read after a header
 record IsBody (header : Header) (bytes : List ℕ) (m : Message) : Type 0 where
   header_is : header_in m ≡ header
   parts : bytes ≡ body_spelling m
@@ -32,7 +33,7 @@ record IsBody (header : Header) (bytes : List ℕ) (m : Message) : Type 0 where
 body_taken : (header : Header) (bytes : List ℕ) (m : Message) → AreBytes bytes → body_at header bytes ≡ Some m → IsBody header bytes m
 unfolding body_at
 body_taken header bytes m fits e =
-    let p = passed (is_bad_header header bytes) _ m e in
+    let p = not_refused (is_bad_header header bytes) _ m e in
     let a = bind_some (bytes_at header.token_length bytes) _ m p.1 in
     let b = bind_some (tail_at 0 a.0.1) _ m a.2 in
     let token = bytes_takes header.token_length bytes a.0 fits a.1 in
@@ -63,8 +64,8 @@ good_parts true b c e = absurd cc
 good_parts false true c e = absurd cc
 good_parts false false c e = (refl, refl, e)
 
-nothing_behind : (code size n : ℕ) → (eqb code 0 && not (eqb size 0 && eqb n 0)) ≡ false → code ≡ 0 → n ≡ 0
-nothing_behind code size n e none =
+nothing_after : (code size n : ℕ) → (eqb code 0 && not (eqb size 0 && eqb n 0)) ≡ false → code ≡ 0 → n ≡ 0
+nothing_after code size n e none =
     let same : eqb code 0 ≡ true = eq-eqb code 0 none in
     let unfilled : not (eqb size 0 && eqb n 0) ≡ false = rw same at e in
     eqb-true n 0 (and_parts (eqb size 0) (eqb n 0) (not-false _ unfilled)).1
@@ -114,16 +115,18 @@ made_of m first code high low bytes fits version body =
         token = body.token;
         options = body.options;
         payload = body.payload;
-        empty = λ none. bare_of m (sym body.parts ∙ nil_from_length bytes (nothing_behind code (first % 16) (length bytes) good.2 (sym code_is ∙ none)));
+        empty = λ none. bare_of m (sym body.parts ∙ nil_from_length bytes (nothing_after code (first % 16) (length bytes) good.2 (sym code_is ∙ none)));
       };
       spelled = ap (λ (t : List ℕ). t ++ body_spelling m) (header_spelled m first code high low body.header_is version small_low) ∙ ap (λ (t : List ℕ). first ∷ code ∷ high ∷ low ∷ t) (sym body.parts);
     }
 
+-- A message that was read after a header was no format error.
 format_ok : (header : Header) (o : Option Message) (m : Message) → or_format header o ≡ Ok m → o ≡ Some m
 format_ok header None m e = absurd cc
 format_ok header (Some n) m e = cc
 
-body_ok : (r : Result (Header × List ℕ) Unread) (m : Message) → with_body r ≡ Ok m → (x : Header × List ℕ) × (r ≡ Ok x) × (body_at x.0 x.1 ≡ Some m)
+-- A message that was read was read after a header.
+pub body_ok : (r : Result (Header × List ℕ) Unread) (m : Message) → with_body r ≡ Ok m → (x : Header × List ℕ) × (r ≡ Ok x) × (body_at x.0 x.1 ≡ Some m)
 body_ok (Ok x) m e = (x, refl, format_ok x.0 (body_at x.0 x.1) m e)
 body_ok (Err fault) m e = absurd cc
 
@@ -145,33 +148,46 @@ reading_takes bytes m fits e =
 
 -- ---- what is spelled is read again
 
-ok_is : (m n : Message) → ◌≡◌ {A = Result Message Unread} (Ok m) (Ok n) → m ≡ n
+-- A message that is read again, whatever its octets are: only the order and the lengths of its options, the length of its token and the class of its code matter, and that an empty message is its header alone.
+pub record IsReadable (m : Message) : Type 0 where
+  pub class : is_reserved m.code ≡ false
+  pub token : length m.token ≤ longest_token
+  pub options : AreInOrder 0 m.options
+  pub empty : m.code ≡ empty → IsBare m
+
+-- One message is read of octets.
+pub ok_is : (m n : Message) → ◌≡◌ {A = Result Message Unread} (Ok m) (Ok n) → m ≡ n
 ok_is m n e = cc
 
 unfilled : (m : Message) → IsBare m → is_filled (header_in m) (body_spelling m) ≡ false
 unfolding options_spelling payload_spelling
 unfilled m bare = rw (bare.token, bare.options, bare.payload) refl
 
-is_good : (m : Message) → IsMessage m → is_bad_header (header_in m) (body_spelling m) ≡ false
+is_good : (m : Message) → IsReadable m → is_bad_header (header_in m) (body_spelling m) ≡ false
 is_good m fits =
-    let small : ltb 8 (length m.token) ≡ false = le-ltb 8 (length m.token) fits.token_length in
+    let small : ltb 8 (length m.token) ≡ false = le-ltb 8 (length m.token) fits.token in
     let third : (eqb m.code 0 && is_filled (header_in m) (body_spelling m)) ≡ false = elim (cases_Bool (eqb m.code 0)) [
       | inl none ↦ rw (unfilled m (fits.empty (eqb-true _ _ none))) (and-false (eqb m.code 0))
       | inr some ↦ rw some refl
     ] in
     rw (fits.class, small, third) refl
 
-body_again : (m : Message) → IsMessage m → body_at (header_in m) (body_spelling m) ≡ Some m
+body_again : (m : Message) → IsReadable m → body_at (header_in m) (body_spelling m) ≡ Some m
 unfolding body_at
 body_again m fits =
-    rw (is_good m fits, bytes_again (length m.token) m.token (options_spelling 0 m.options ++ payload_spelling m.payload) refl, tail_again 0 m.options m.payload fits.options) refl
+    rw (is_good m fits, bytes_again (length m.token) m.token (options_spelling 0 m.options ++ payload_spelling m.payload) refl, tail_in_order 0 m.options m.payload fits.options) refl
+
+-- What spells a message that can be read again is read as it.
+pub reading_in_order : (m : Message) → IsReadable m → reading (spelling m) ≡ Ok m
+unfolding reading spelling
+reading_in_order m fits = rw (header_again m (body_spelling m) fits.token, body_again m fits) refl
 
 -- What spells a message is read as it.
 pub reading_again : (m : Message) → IsMessage m → reading (spelling m) ≡ Ok m
-unfolding reading spelling
-reading_again m fits = rw (header_again m (body_spelling m) fits, body_again m fits) refl
+reading_again m fits = reading_in_order m (record { class = fits.class; token = fits.token_length; options = are_in_order 0 m.options fits.options; empty = fits.empty })
 
 -- Two messages with one spelling are one message.
+-- An end theorem: nothing here cites it.
 pub spelling_once : (m n : Message) → IsMessage m → IsMessage n → spelling m ≡ spelling n → m ≡ n
 spelling_once m n fits fit e =
     let same : ◌≡◌ {A = Result Message Unread} (Ok m) (Ok n) = sym (reading_again m fits) ∙ ap reading e ∙ reading_again n fit in

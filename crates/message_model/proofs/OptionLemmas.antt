@@ -6,7 +6,8 @@ use Rattle.message_model.specs.Numbers.{AreBytes}
 use Rattle.message_model.specs.Message.{Opt, longest_value, last_number}
 use Rattle.message_model.specs.Spelling.{nibble_of, extension_of, option_spelling}
 use Rattle.message_model.specs.Reading.{◌>>=◌, byte_at, bytes_at, extended_at, option_at}
-use Rattle.message_model.proofs.ByteLemmas.{bind_some, chosen, passed, Takes, Takes-from, Takes-then, byte_takes, bytes_takes, bytes_again}
+use Rattle.message_model.proofs.ByteLemmas.{bind_some, Takes, Takes-from, Takes-then, byte_takes, bytes_takes, bytes_again}
+use Rattle.rd_base.proofs.lemmas.Choices.{either_of, not_refused}
 
 -- ---- the three forms of a delta or a length
 
@@ -96,11 +97,11 @@ long_takes (a ∷ b ∷ bytes) x fits e =
 pub extended_takes : (nibble : ℕ) (bytes : List ℕ) (x : ℕ × List ℕ) → AreBytes bytes → extended_at nibble bytes ≡ Some x → Extends nibble bytes x
 unfolding extended_at
 extended_takes nibble bytes x fits e =
-    elim (chosen (ltb nibble 13) (Some (nibble, bytes)) _ (Some x) e) [
+    elim (either_of (ltb nibble 13) (Some (nibble, bytes)) _ (Some x) e) [
       | inl short ↦ short_takes nibble bytes x fits (ltb-true _ _ short.0) short.1
-      | inr longer ↦ elim (chosen (eqb nibble 13) _ _ (Some x) longer.1) [
+      | inr longer ↦ elim (either_of (eqb nibble 13) _ _ (Some x) longer.1) [
         | inl middle ↦ subst (λ (k : ℕ). Extends k bytes x) (sym (eqb-true _ _ middle.0)) (middle_takes bytes x fits middle.1)
-        | inr other ↦ elim (chosen (eqb nibble 14) _ _ (Some x) other.1) [
+        | inr other ↦ elim (either_of (eqb nibble 14) _ _ (Some x) other.1) [
           | inl long ↦ subst (λ (k : ℕ). Extends k bytes x) (sym (eqb-true _ _ long.0)) (long_takes bytes x fits long.1)
           | inr none ↦ absurd (none-some x none.1)
         ]
@@ -161,7 +162,7 @@ option_takes before bytes x fits e =
     let b = bind_some (extended_at (a.0.0 / 16) a.0.1) _ x a.2 in
     let c = bind_some (extended_at (a.0.0 % 16) b.0.1) _ x b.2 in
     let d = bind_some (bytes_at c.0.0 c.0.1) _ x c.2 in
-    let p = passed (ltb last_number (before + b.0.0)) (Some ((before + b.0.0, d.0.0), d.0.1)) x d.2 in
+    let p = not_refused (ltb last_number (before + b.0.0)) (Some ((before + b.0.0, d.0.0), d.0.1)) x d.2 in
     let first = byte_takes bytes a.0 fits a.1 in
     let delta = extended_takes (a.0.0 / 16) a.0.1 b.0 first.rest_fits b.1 in
     let size = extended_takes (a.0.0 % 16) b.0.1 c.0 delta.takes.rest_fits c.1 in
@@ -169,14 +170,10 @@ option_takes before bytes x fits e =
     let made = option_made before a.0.0 bytes a.0.1 b.0 c.0 d.0.0 d.0.1 first delta size value.0 value.1 (ltb-false _ _ p.0) in
     subst (λ (y : Opt × List ℕ). Takes bytes (option_spelling before y.0) y.1 × IsOptionAfter before y.0) (same_Some ((before + b.0.0, d.0.0), d.0.1) x p.1) made
 
-pub option_again : (before : ℕ) (option : Opt) (rest : List ℕ) → IsOptionAfter before option → option_at before (option_spelling before option ++ rest) ≡ Some (option, rest)
+-- Where an option does not fall, and its number and its length can be written, it is read again, whatever the octets of its value are.
+pub option_in_order : (before : ℕ) (option : Opt) (rest : List ℕ) → before ≤ option.0 → option.0 ≤ last_number → length option.1 ≤ longest_value → option_at before (option_spelling before option ++ rest) ≡ Some (option, rest)
 unfolding option_at option_spelling
-option_again before option rest fits =
-    let ascends : before ≤ option.0 = fits.ascends in
-    let number : option.0 ≤ 65535 = fits.number in
-    let size : length option.1 ≤ 65804 = fits.size in
-    let delta : ℕ = option.0 - before in
-    let n : ℕ = length option.1 in
+option_in_order before option rest ascends number size =
     let low_delta : nibble_of (option.0 - before) ≤ 14 = nibble-le (option.0 - before) in
     let low_size : nibble_of (length option.1) ≤ 14 = nibble-le (length option.1) in
     let high : (nibble_of (option.0 - before) * 16 + nibble_of (length option.1)) / 16 ≡ nibble_of (option.0 - before) = omega arith in
@@ -185,3 +182,7 @@ option_again before option rest fits =
     let back : before + (option.0 - before) ≡ option.0 = omega arith in
     let small : ltb 65535 option.0 ≡ false = le-ltb 65535 option.0 number in
     rw (high, low, regrouped, extended_again (option.0 - before) (extension_of (length option.1) ++ (option.1 ++ rest)) (omega arith), extended_again (length option.1) (option.1 ++ rest) size, bytes_again (length option.1) option.1 rest refl, back, small) refl
+
+-- So it is with an option whose value is bytes.
+pub option_again : (before : ℕ) (option : Opt) (rest : List ℕ) → IsOptionAfter before option → option_at before (option_spelling before option ++ rest) ≡ Some (option, rest)
+option_again before option rest fits = option_in_order before option rest fits.ascends fits.number fits.size

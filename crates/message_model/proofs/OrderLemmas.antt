@@ -1,30 +1,34 @@
 -- Options in order: what one more at the end adds to their spelling, and which numbers stand among them.
-use Rattle.std.proofs.Common.{◌≡◌, ℕ, ◌≤◌, Bool, true, false, ◌||◌, eqb, List, [], ◌∷◌, ◌++◌, Some, refl, sym, ap, ◌∙◌, append_assoc, arith, inl, inr}
-use Rattle.std.specs.Prelude.{◌==◌}
+use Rattle.std.proofs.Common.{◌≡◌, ℕ, ◌≤◌, eqb, List, [], ◌∷◌, ◌++◌, refl, sym, ap, ◌∙◌, append_assoc, arith, inl, inr}
+use Rattle.std.specs.Prelude.{⊤, ◌==◌}
 use Rattle.std.proofs.lemmas.Bool.{cases_Bool, eqb-true, eq-eqb}
 use Rattle.std.proofs.lemmas.List.{append-nil}
 use Rattle.std.proofs.Math.Bool.{or-false}
 use Rattle.message_model.specs.Message.{Opt, AreOptionsAfter, end_number}
-use Rattle.message_model.specs.Spelling.{marker, option_spelling, options_spelling, payload_spelling}
+use Rattle.message_model.specs.Spelling.{option_spelling, options_spelling}
 use Rattle.message_model.specs.OptionTable.{stands_in}
-use Rattle.message_model.specs.Reading.{option_at, Tail, with_option, tail_at}
-use Rattle.message_model.proofs.ByteLemmas.{bind_some}
 use Rattle.message_model.proofs.OptionLemmas.{IsOptionAfter}
-use Rattle.message_model.proofs.TailLemmas.{tail_at-option, tail_again}
 
-pub end_number-ge : (before : ℕ) (options : List Opt) → AreOptionsAfter before options → before ≤ end_number before options
-end_number-ge before [] fits = omega arith
-end_number-ge before (option ∷ options) fits =
-    let rises : before ≤ option.0 = fits.0 in
-    omega (arith, end_number-ge option.0 options fits.4)
+-- ---- which numbers stand among them
 
--- Of options in order, one of a number that is not below the last stands there exactly where the last one has it.
-pub stands_in-ascending : (first : Opt) (options : List Opt) (number : ℕ) → AreOptionsAfter first.0 options → end_number first.0 options ≤ number → stands_in number (first ∷ options) ≡ (end_number first.0 options == number)
-stands_in-ascending first [] number fits most = or-false (first.0 == number)
-stands_in-ascending first (option ∷ options) number fits most =
-    let rises : first.0 ≤ option.0 = fits.0 in
-    let ends = end_number-ge option.0 options fits.4 in
-    let others : stands_in number (option ∷ options) ≡ (end_number option.0 options == number) = stands_in-ascending option options number fits.4 most in
+-- Options after one of the number before, none with a lower number than the one before it.
+abbrev pub AreAscending : ℕ → List Opt → Type 0
+AreAscending before [] = ⊤
+AreAscending before (option ∷ options) = (before ≤ option.0) × AreAscending option.0 options
+
+pub end_number-ge : (before : ℕ) (options : List Opt) → AreAscending before options → before ≤ end_number before options
+end_number-ge before [] rise = omega arith
+end_number-ge before (option ∷ options) rise =
+    let rises : before ≤ option.0 = rise.0 in
+    omega (arith, end_number-ge option.0 options rise.1)
+
+-- Of ascending options, one of a number that is not below the last stands there exactly where the last one has it.
+pub stands_in-ascending : (first : Opt) (options : List Opt) (number : ℕ) → AreAscending first.0 options → end_number first.0 options ≤ number → stands_in number (first ∷ options) ≡ (end_number first.0 options == number)
+stands_in-ascending first [] number rise most = or-false (first.0 == number)
+stands_in-ascending first (option ∷ options) number rise most =
+    let rises : first.0 ≤ option.0 = rise.0 in
+    let ends = end_number-ge option.0 options rise.1 in
+    let others : stands_in number (option ∷ options) ≡ (end_number option.0 options == number) = stands_in-ascending option options number rise.1 most in
     elim (cases_Bool (eqb first.0 number)) [
       | inl same ↦
           let all_same : end_number option.0 options ≡ number = omega (arith, eqb-true _ _ same) in
@@ -50,23 +54,3 @@ options_spelling-push before (first ∷ options) option =
     ∙ sym (append_assoc (option_spelling before first) (options_spelling first.0 options) (option_spelling (end_number first.0 options) option))
 
 -- ---- options with no payload behind them
-
--- The spelling of options alone is a tail without payload.
-pub options_again : (before : ℕ) (options : List Opt) → AreOptionsAfter before options → tail_at before (options_spelling before options) ≡ Some (options, [])
-unfolding payload_spelling
-options_again before options fits = ap (tail_at before) (sym (append-nil (options_spelling before options))) ∙ tail_again before options [] fits
-
--- What a tail that begins with an option is made of: that option, and the tail behind it.
-pub record IsMore (before : ℕ) (bytes : List ℕ) (tail : Tail) : Type 0 where
-  pub option : Opt
-  pub rest : List ℕ
-  pub others : Tail
-  pub first_is : option_at before bytes ≡ Some (option, rest)
-  pub others_is : tail_at option.0 rest ≡ Some others
-  pub tail_is : Some (with_option option others) ≡ Some tail
-
-pub tail_parts : (before b : ℕ) (bytes : List ℕ) (tail : Tail) → (b ≡ marker → ⊥) → tail_at before (b ∷ bytes) ≡ Some tail → IsMore before (b ∷ bytes) tail
-tail_parts before b bytes tail other e =
-    let a = bind_some (option_at before (b ∷ bytes)) _ tail (sym (tail_at-option before b bytes other) ∙ e) in
-    let c = bind_some (tail_at a.0.0.0 a.0.1) _ tail a.2 in
-    record { option = a.0.0; rest = a.0.1; others = c.0; first_is = a.1; others_is = c.1; tail_is = c.2 }

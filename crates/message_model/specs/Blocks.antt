@@ -42,9 +42,9 @@ block_of body num szx =
     if nat_lt 0 num && nat_le (length body) (num * block_size szx) then None
     else Some (take (block_size szx) (drop (num * block_size szx) body), nat_lt ((num + 1) * block_size szx) (length body))
 
--- What the block of a body with this number is, by its place and its end (RFC 7959 section 2.2).
+-- What the block of a body with this number is, by its offset and its end (RFC 7959 section 2.2).
 pub record IsPiece (body : List ℕ) (num size : ℕ) (piece : List ℕ) (more : Bool) : Type 0 where
-  pub place : drop (num * size) body ≡ piece ++ drop ((num + 1) * size) body
+  pub offset : drop (num * size) body ≡ piece ++ drop ((num + 1) * size) body
   pub full : more ≡ true → length piece ≡ size
   pub last : more ≡ false → drop ((num + 1) * size) body ≡ []
   pub most : length piece ≤ size

@@ -101,27 +101,27 @@ is_recognized before number size = is_allowed_by (definition_of number) (stands_
 abbrev pub is_critical : ℕ → Bool
 is_critical number = number % 2 == 1
 
--- An option where it stands: the options before it, and the option itself.
-abbrev pub Placed : Type 0
-Placed = List Opt × Opt
+-- An option with those that stand before it: first these, then the option itself.
+abbrev pub Preceded : Type 0
+Preceded = List Opt × Opt
 
 -- Each option with the options that stand before it.
-unfoldable pub placed_options : List Opt → List Placed
-placed_options [] = []
-placed_options (option ∷ options) = ([], option) ∷ map (λ p. (option ∷ p.0, p.1)) (placed_options options)
+unfoldable pub preceded_options : List Opt → List Preceded
+preceded_options [] = []
+preceded_options (option ∷ options) = ([], option) ∷ map (λ p. (option ∷ p.0, p.1)) (preceded_options options)
 
 -- It is recognized where it stands.
-abbrev pub is_recognized_there : Placed → Bool
+abbrev pub is_recognized_there : Preceded → Bool
 is_recognized_there p = is_recognized p.0 p.1.0 (length p.1.1)
 
 -- The recognized options, in order (RFC 7252 section 5.4.1).
 unfoldable pub recognized_options : List Opt → List Opt
-recognized_options options = map (λ p. p.1) (filter is_recognized_there (placed_options options))
+recognized_options options = map (λ p. p.1) (filter is_recognized_there (preceded_options options))
 
 -- The number of the first critical option that is not recognized (RFC 7252 section 5.4.1).
 unfoldable pub first_bad_option : List Opt → Option ℕ
 first_bad_option options =
-    option_map (λ p. p.1.0) (find (λ p. is_critical p.1.0 && not (is_recognized_there p)) (placed_options options))
+    option_map (λ p. p.1.0) (find (λ p. is_critical p.1.0 && not (is_recognized_there p)) (preceded_options options))
 
 -- The values of the recognized options of a number, in order.
 unfoldable pub values : ℕ → List Opt → List (List ℕ)

@@ -9,10 +9,11 @@ use Rattle.message_model.specs.Codes.{is_reserved, empty}
 use Rattle.message_model.specs.Message.{Message, Opt, longest_token, last_number}
 use Rattle.message_model.specs.Spelling.{version, marker, first_extended, first_long, long_nibble}
 
--- A value that bytes begin with, and the bytes behind it; nothing where they begin with none.
+-- A value that bytes begin with, and the bytes after it; nothing where they begin with none.
 abbrev pub Read : Type 0 → Type 0
 Read A = Option (A × List ℕ)
 
+-- The second step, where the first gave something.
 infixl 10 ◌>>=◌
 abbrev pub ◌>>=◌ : {A B : Type 0} → Option A → (A → Option B) → Option B
 o >>= f = option_and_then f o
@@ -46,13 +47,13 @@ header_of first code high low = record {
   mid = high * byte_values + low;
 }
 
--- The header and the bytes behind it, unless it is cut off or has another version (RFC 7252 section 3).
+-- The header and the bytes after it, unless it is cut off or has another version (RFC 7252 section 3).
 unfoldable pub header_at : List ℕ → Result (Header × List ℕ) Unread
 header_at (first ∷ code ∷ high ∷ low ∷ bytes) =
     if first / 64 == version then Ok (header_of first code high low, bytes) else Err unread.Version
 header_at bytes = Err unread.Short
 
--- A delta or a length: its nibble, extended by the bytes behind; 15 is kept for the marker (RFC 7252 section 3.1).
+-- A delta or a length: its nibble, extended by the bytes after it; 15 is kept for the marker (RFC 7252 section 3.1).
 unfoldable pub extended_at : ℕ → List ℕ → Read ℕ
 extended_at nibble bytes =
     if nat_lt nibble first_extended then Some (nibble, bytes)
@@ -83,7 +84,7 @@ abbrev pub payload_at : List ℕ → Option Tail
 payload_at [] = None
 payload_at (b ∷ bytes) = Some ([], b ∷ bytes)
 
--- A tail with one more option in front.
+-- A tail with one more option before it.
 abbrev pub with_option : Opt → Tail → Tail
 with_option option tail = (option ∷ tail.0, tail.1)
 
@@ -100,7 +101,7 @@ short_tail (suc n) before (b ∷ bytes) = if b == marker then payload_at bytes e
 unfoldable pub tail_at : ℕ → List ℕ → Option Tail
 tail_at before bytes = short_tail (length bytes) before bytes
 
--- More than a header: a token, or bytes behind the header (RFC 7252 section 4.1).
+-- More than a header: a token, or bytes after the header (RFC 7252 section 4.1).
 abbrev pub is_filled : Header → List ℕ → Bool
 is_filled header bytes = not (header.token_length == 0 && length bytes == 0)
 
@@ -120,7 +121,7 @@ message_of header token tail = record {
   payload = tail.1;
 }
 
--- The message with this header that the bytes behind it give: a token, then a tail (RFC 7252 section 3).
+-- The message with this header that the bytes after it give: a token, then a tail (RFC 7252 section 3).
 unfoldable pub body_at : Header → List ℕ → Option Message
 body_at header bytes = if is_bad_header header bytes then None else do
   token ← bytes_at header.token_length bytes

@@ -25,6 +25,7 @@ is_nowhere (path.Location n) = false
 is_nowhere path.Res = false
 is_nowhere path.Ep = false
 
+-- The path of registrations.
 abbrev pub is_rd : Path → Bool
 is_rd path.Rd = true
 is_rd path.Core = false
@@ -43,11 +44,12 @@ abbrev pub says_no_block : Option (List ℕ) → Bool
 says_no_block None = false
 says_no_block (Some value) = is_none (block_read value)
 
--- A payload of this length does not fit the block that it is said to be.
+-- A payload of this length does not fit the block that it is said to be, where it is said to be one.
 abbrev pub does_not_fit : Option Block → ℕ → Bool
 does_not_fit None size = false
 does_not_fit (Some b) size = is_misfit b size
 
+-- It does not fit the block that the value of a Block option says.
 abbrev pub is_misfit_of : Option (List ℕ) → ℕ → Bool
 is_misfit_of None size = false
 is_misfit_of (Some value) size = does_not_fit (block_read value) size
@@ -63,7 +65,7 @@ abbrev pub is_other_format : Option ℕ → Bool
 is_other_format None = false
 is_other_format (Some format) = not (format == link_format)
 
--- The first refusal behind that of an unrecognized critical option: proxy, path, method, block, accept, format.
+-- The first refusal after that of an unrecognized critical option: proxy, path, method, block, accept, format.
 unfoldable pub refusal_after_options : Message → Option Refusal
 refusal_after_options m =
     if has_proxy m then Some refusal.Proxy

@@ -33,18 +33,18 @@ is_location text =
 abbrev pub decimal_value : List ℕ → ℕ
 decimal_value digits = fold (λ n digit. n * 10 + (digit - digit_zero)) 0 digits
 
--- The registration that is named by the segment behind `rd` (RFC 9176 section 5.3).
+-- The registration that is named by the segment after `rd` (RFC 9176 section 5.3).
 unfoldable pub location_of : List ℕ → Path
 location_of text = if is_location text then path.Location (decimal_value text) else path.Other
 
--- The resource that the segment behind `.well-known` names (RFC 9176 sections 4.3 and 5.1).
+-- The resource that the segment after `.well-known` names (RFC 9176 sections 4.3 and 5.1).
 abbrev pub well_known_of : List ℕ → Path
 well_known_of segment =
     if bytes_eq segment (codes "core") then path.Core
     else if bytes_eq segment (codes "rd") then path.SimpleRd
     else path.Other
 
--- The resource that the segment behind `rd-lookup` names (RFC 9176 section 6).
+-- The resource that the segment after `rd-lookup` names (RFC 9176 section 6).
 abbrev pub lookup_of : List ℕ → Path
 lookup_of segment =
     if bytes_eq segment (codes "res") then path.Res

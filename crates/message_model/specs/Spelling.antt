@@ -59,7 +59,7 @@ unfoldable pub options_spelling : ℕ → List Opt → List ℕ
 options_spelling before [] = []
 options_spelling before (option ∷ options) = option_spelling before option ++ options_spelling option.0 options
 
--- The payload behind its marker; an empty one has no marker (RFC 7252 section 3).
+-- The payload after its marker; an empty one has no marker (RFC 7252 section 3).
 unfoldable pub payload_spelling : List ℕ → List ℕ
 payload_spelling [] = []
 payload_spelling (b ∷ bytes) = marker ∷ b ∷ bytes

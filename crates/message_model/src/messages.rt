@@ -26,7 +26,7 @@ pub enum Role {
     Request,
     /// A response: confirmable, not confirmable, or in an acknowledgement.
     Response,
-    /// Nothing that is heeded.
+    /// Nothing: it is ignored.
     Ignored,
 }
 

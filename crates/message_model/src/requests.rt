@@ -19,7 +19,9 @@ pub enum Path {
     Other,
 }
 
-/// Why a request is refused before its query is looked at, in the order in which it is looked for.
+/// Why a request is refused before its query is looked at, in the order in which it is looked for. It is decided by the
+/// request alone, with no query, no body and no registration looked at; a change of the registrations is refused by the
+/// `Refusal` of `history_model`.
 #[derive(Clone, Copy, Debug, PartialEq, Eq)]
 pub enum Refusal {
     /// 4.02: an unrecognized critical option of this number stands in it.

@@ -13,8 +13,8 @@ use Rattle.std.proofs.NetLemmas.Sockets.{read_socket_v4_sound, read_socket_v6_so
 use Rattle.rd_base.specs.declared.peers.Host.TheVariants as host
 use Rattle.rd_base.specs.declared.peers.Peer.{Peer}
 use Rattle.rd_base.specs.Peers.{IsHost, IsPeer, IsPeerText, named_peer, named, if_printed, peer_of}
-use Rattle.rd_base.proofs.Tests.{chosen, failed}
 use Rattle.rd_base.proofs.PeerTexts.{v4_of, peer_of-found, peer_of-peer_text}
+use Rattle.rd_base.proofs.lemmas.Choices.{let_through, chosen_false}
 
 -- every group is of 16 bits
 and_more : (s : ℕ) (rest : List ℕ) → s < 2 ^ 16 → AllSegments rest → AllSegments (s ∷ rest)
@@ -86,7 +86,7 @@ dotted_fits text octets h =
 pub whole_read : {A : Type 0} (r : Option (A × List ℕ)) (x : A) → whole_value r ≡ Some x → r ≡ Some (x, [])
 whole_read None x e = absurd (none-some x e)
 whole_read (Some (y, [])) x e = ap (λ z. Some (z, [])) (same_Some y x e)
-whole_read (Some (y, b ∷ rest)) x e = absurd (none-some x (sym (failed (suc (length rest) == 0) (Some y) None (ne_eqb (suc (length rest)) 0 (λ z. omega (arith, z)))) ∙ e))
+whole_read (Some (y, b ∷ rest)) x e = absurd (none-some x (sym (chosen_false (suc (length rest) == 0) (Some y) None (ne_eqb (suc (length rest)) 0 (λ z. omega (arith, z)))) ∙ e))
 
 -- a host and a port that are read fit
 v4_fits : (text : List ℕ) (v : List ℕ × ℕ) → whole_value (read_socket_v4 text) ≡ Some v → IsHost (host.V4 v.0) × (v.1 < 2 ^ 16)
@@ -110,7 +110,7 @@ pub peer_of-IsPeer : (text : List ℕ) (peer : Peer) → peer_of text ≡ Some p
 unfolding peer_of named_peer
 peer_of-IsPeer text peer e =
     option_and_then_some (if_printed text) (named_peer text) peer e λ p read shown.
-    let (test, same) = chosen _ p peer shown in
+    let (test, same) = let_through _ p peer shown in
     let (fits, small) = named_fits text _ _ p refl refl read in
     let low = (peer_of-found text peer e).1 in
     record { host = subst (λ q. IsHost q.host) same fits; port_low = low; port_high = subst (λ q. q.port < 2 ^ 16) same small }

@@ -13,14 +13,15 @@ use Rattle.rd_base.specs.declared.peers.Host.TheVariants as host
 use Rattle.rd_base.specs.declared.peers.Peer.{Peer}
 use Rattle.rd_base.specs.Peers.{min_port}
 use Rattle.rd_base.specs.Peers.{IsHost, IsPeer, peer_text, named_peer, named, if_printed, peer_of}
-use Rattle.rd_base.proofs.Tests.{chosen, passed, both_parts, both_from}
+use Rattle.rd_base.proofs.lemmas.Choices.{let_through, chosen_true}
+use Rattle.rd_base.proofs.lemmas.Booleans.{both_parts, both_from}
 
 -- what is read is the peer whose text it is, and its port is not 0
 pub peer_of-found : (text : List ℕ) (peer : Peer) → peer_of text ≡ Some peer → (text ≡ peer_text peer) × (min_port ≤ peer.port)
 unfolding peer_of
 peer_of-found text peer e =
     option_and_then_some (if_printed text) (named_peer text) peer e λ p read shown.
-    let (test, same) = chosen (nat_le min_port p.port && bytes_eq text (peer_text p)) p peer shown in
+    let (test, same) = let_through (nat_le min_port p.port && bytes_eq text (peer_text p)) p peer shown in
     let (low, printed) = both_parts min_port p.port text (peer_text p) test in
     (printed ∙ ap (λ q. peer_text q) same, subst (λ q. min_port ≤ q.port) same low)
 
@@ -76,4 +77,4 @@ unfolding peer_of
 peer_of-peer_text peer fits =
     let read = named_peer-peer_text peer.host peer.port fits.host fits.port_high in
     ap (option_and_then (if_printed (peer_text peer))) read
-    ∙ passed (nat_le min_port peer.port && bytes_eq (peer_text peer) (peer_text peer)) (Some peer) None (both_from min_port peer.port (peer_text peer) (peer_text peer) fits.port_low refl)
+    ∙ chosen_true (nat_le min_port peer.port && bytes_eq (peer_text peer) (peer_text peer)) (Some peer) None (both_from min_port peer.port (peer_text peer) (peer_text peer) fits.port_low refl)

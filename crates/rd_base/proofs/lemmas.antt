@@ -1,4 +1,5 @@
 pub mod Booleans
+pub mod Choices
 pub mod Numbers
 pub mod Options
 pub mod Each

@@ -1,4 +1,4 @@
 pub mod Outside
 pub mod Peers
 pub mod Bases
-pub mod Fronts
+pub mod Prefixes

@@ -8,12 +8,9 @@ use Rattle.rd_base.specs.declared.peers.Host.{Host}
 use Rattle.rd_base.specs.declared.peers.Host.TheVariants as host
 use Rattle.rd_base.specs.declared.peers.Peer.{Peer}
 
--- the least and the greatest port that a peer can have
+-- the least port that a peer can have
 abbrev pub min_port : ℕ
 min_port = 1
-
-abbrev pub max_port : ℕ
-max_port = 65_535
 
 -- the numbers of an address fit: four octets, or eight groups of 16 bits (RFC 4291 section 2.2)
 abbrev pub IsHost : Host → Type 0

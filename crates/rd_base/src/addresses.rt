@@ -1,49 +1,49 @@
-// What stands behind an address as it is printed (RFC 5952).
+//! What stands after an address as it is printed (RFC 5952).
 ghost use Rattle.std.specs.Prelude.{◌≡◌, ◌+◌, ◌≤◌, ◌++◌, length, codes, flat_map, option_map};
 ghost use Rattle.std.specs.Net.Text.{hex, ipv4_text, ipv6_text, groups_text, hex_groups_text, zero_run, longest_zero_run};
-ghost use Rattle.rd_base.specs.Fronts.{behind};
+ghost use Rattle.rd_base.specs.Prefixes.{after_prefix};
 
-use crate::matching::{behind, behind_hex, behind_number};
+use crate::prefixes::{after_hex, after_number, after_prefix};
 use std::net::Ipv6Addr;
 
-/// What stands behind an IPv4 address.
-#[tactic(auto, using(crate::proofs::Fronts::behind_append))]
-pub fn behind_ipv4(octets: [u8; 4], text: &[u8]) -> Option<&[u8]>
-    ensures { option_map (λ t. t.now) result ≡ behind (ipv4_text octets) text.now }
+/// What stands after an IPv4 address.
+#[tactic(auto, using(crate::proofs::PrefixLemmas::after_two))]
+pub fn after_ipv4(octets: [u8; 4], text: &[u8]) -> Option<&[u8]>
+    ensures { option_map (λ t. t.now) result ≡ after_prefix (ipv4_text octets) text.now }
 {
     let [a, b, c, d] = octets;
-    let rest = behind_number(u16::from(a), text)?;
-    let rest = behind(b".", rest)?;
-    let rest = behind_number(u16::from(b), rest)?;
-    let rest = behind(b".", rest)?;
-    let rest = behind_number(u16::from(c), rest)?;
-    let rest = behind(b".", rest)?;
-    behind_number(u16::from(d), rest)
+    let rest = after_number(u16::from(a), text)?;
+    let rest = after_prefix(b".", rest)?;
+    let rest = after_number(u16::from(b), rest)?;
+    let rest = after_prefix(b".", rest)?;
+    let rest = after_number(u16::from(c), rest)?;
+    let rest = after_prefix(b".", rest)?;
+    after_number(u16::from(d), rest)
 }
 
-/// What stands behind groups with a colon before each.
-#[tactic(auto, using(crate::proofs::Groups::further_none, crate::proofs::Groups::further_more))]
-fn behind_further_groups<'a>(groups: &[u16], text: &'a [u8]) -> Option<&'a [u8]>
-    ensures { option_map (λ t. t.now) result ≡ behind (flat_map (λ g. codes ":" ++ hex g) groups.now) text.now }
+/// What stands after groups with a colon before each.
+#[tactic(auto, using(crate::proofs::GroupLemmas::further_none, crate::proofs::GroupLemmas::further_more))]
+fn after_further_groups<'a>(groups: &[u16], text: &'a [u8]) -> Option<&'a [u8]>
+    ensures { option_map (λ t. t.now) result ≡ after_prefix (flat_map (λ g. codes ":" ++ hex g) groups.now) text.now }
 {
     let Some((first, more)) = groups.split_first() else {
         return Some(text);
     };
-    let rest = behind(b":", text)?;
-    let rest = behind_hex(*first, rest)?;
-    behind_further_groups(more, rest)
+    let rest = after_prefix(b":", text)?;
+    let rest = after_hex(*first, rest)?;
+    after_further_groups(more, rest)
 }
 
-/// What stands behind groups with colons between them.
-#[tactic(auto, using(crate::proofs::Groups::groups_none, crate::proofs::Groups::groups_more))]
-fn behind_groups<'a>(groups: &[u16], text: &'a [u8]) -> Option<&'a [u8]>
-    ensures { option_map (λ t. t.now) result ≡ behind (groups_text groups.now) text.now }
+/// What stands after groups with colons between them.
+#[tactic(auto, using(crate::proofs::GroupLemmas::groups_none, crate::proofs::GroupLemmas::groups_more))]
+fn after_groups<'a>(groups: &[u16], text: &'a [u8]) -> Option<&'a [u8]>
+    ensures { option_map (λ t. t.now) result ≡ after_prefix (groups_text groups.now) text.now }
 {
     let Some((first, more)) = groups.split_first() else {
         return Some(text);
     };
-    let rest = behind_hex(*first, text)?;
-    behind_further_groups(more, rest)
+    let rest = after_hex(*first, text)?;
+    after_further_groups(more, rest)
 }
 
 /// How many zeros the groups begin with.
@@ -76,27 +76,27 @@ fn longest_zeros(groups: &[u16]) -> (usize, usize)
     (start + 1, count)
 }
 
-/// What stands behind groups, the longest run of zeros as two colons (RFC 5952 section 4.2).
-#[tactic(auto, using(crate::proofs::Fronts::behind_append), unfolding(std::specs::Net::Text::hex_groups_text))]
-fn behind_hex_groups<'a>(groups: &[u16], text: &'a [u8]) -> Option<&'a [u8]>
-    ensures { option_map (λ t. t.now) result ≡ behind (hex_groups_text groups.now) text.now }
+/// What stands after groups, the longest run of zeros as two colons (RFC 5952 section 4.2).
+#[tactic(auto, using(crate::proofs::PrefixLemmas::after_two), unfolding(std::specs::Net::Text::hex_groups_text))]
+fn after_hex_groups<'a>(groups: &[u16], text: &'a [u8]) -> Option<&'a [u8]>
+    ensures { option_map (λ t. t.now) result ≡ after_prefix (hex_groups_text groups.now) text.now }
 {
     let (start, count) = longest_zeros(groups);
     if count <= 1 {
-        return behind_groups(groups, text);
+        return after_groups(groups, text);
     }
-    let rest = behind_groups(&groups[..start], text)?;
-    let rest = behind(b"::", rest)?;
-    behind_groups(&groups[start + count..], rest)
+    let rest = after_groups(&groups[..start], text)?;
+    let rest = after_prefix(b"::", rest)?;
+    after_groups(&groups[start + count..], rest)
 }
 
-/// What stands behind an IPv6 address, one that maps an IPv4 address with dots (RFC 5952 section 5).
-#[tactic(auto, using(crate::proofs::Fronts::behind_append), unfolding(std::specs::Net::Text::ipv6_text))]
-pub fn behind_ipv6(groups: [u16; 8], text: &[u8]) -> Option<&[u8]>
-    ensures { option_map (λ t. t.now) result ≡ behind (ipv6_text groups) text.now }
+/// What stands after an IPv6 address, one that maps an IPv4 address with dots (RFC 5952 section 5).
+#[tactic(auto, using(crate::proofs::PrefixLemmas::after_two), unfolding(std::specs::Net::Text::ipv6_text))]
+pub fn after_ipv6(groups: [u16; 8], text: &[u8]) -> Option<&[u8]>
+    ensures { option_map (λ t. t.now) result ≡ after_prefix (ipv6_text groups) text.now }
 {
     match Ipv6Addr::from(groups).to_ipv4_mapped() {
-        Some(mapped) => behind_ipv4(mapped.octets(), behind(b"::ffff:", text)?),
-        None => behind_hex_groups(&groups, text),
+        Some(mapped) => after_ipv4(mapped.octets(), after_prefix(b"::ffff:", text)?),
+        None => after_hex_groups(&groups, text),
     }
 }

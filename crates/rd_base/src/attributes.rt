@@ -1,4 +1,4 @@
-// Names with values: the attributes of links and of registrations.
+//! Names with values: the attributes of links and of registrations.
 ghost use Rattle.std.specs.Prelude.{◌≡◌};
 ghost use lib.Pointwise.{pointwise};
 ghost use Rattle.std.proofs.Common.{rules};

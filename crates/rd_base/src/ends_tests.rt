@@ -1,4 +1,4 @@
-// Sources and sinks, called once each.
+//! Sources and sinks, called once each.
 use crate::{
     Bytes, Got, MemSink, MemSource, Put, Sink, Source, StdSink, StdSource, SureSink, SureSource,
 };

@@ -1,4 +1,4 @@
-// The key of a request, which names uploads, kept answers and watched queries.
+//! The key of a request, which names uploads, kept answers and watched queries.
 ghost use Rattle.std.specs.Prelude.{◌≡◌, IfOk, nat_eq};
 ghost use Rattle.std.proofs.Common.{rules};
 ghost use Rattle.std.specs.Cmp.Rules.{comparing, hashing};
@@ -40,7 +40,7 @@ impl Key {
         self.bytes.as_slice()
     }
 
-    /// An equal key.
+    /// An equal key. `Starved`: out of memory.
     pub fn copy(&self, alloc: Global) -> Result<Key, Starved>
         ensures { IfOk result (λ k. k ≡ self.now) }
     {

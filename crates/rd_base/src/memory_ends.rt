@@ -1,4 +1,4 @@
-// A source and a sink in memory, of which chosen calls fail.
+//! A source and a sink in memory, of which chosen calls fail.
 ghost use Rattle.std.specs.Prelude.{◌≡◌, ◌-◌, ◌^◌, ◌<◌, ◌≤◌, Some, [], length, take, drop, min};
 
 use crate::{Bytes, Got, Put, Sink, Source};
@@ -12,11 +12,12 @@ struct Plan {
 }
 
 impl Plan {
+    /// A plan before the first call.
     fn of(fail: Bytes) -> Plan {
         Plan { calls: 0, fail }
     }
 
-    /// Counts a call, and tells whether it fails.
+    /// Counts a call: true where it is one of those that fail.
     fn fails_now(&mut self) -> bool {
         let call = self.calls;
         self.calls = call.saturating_add(1);
@@ -24,7 +25,7 @@ impl Plan {
     }
 }
 
-/// Copies octets of `bytes` from place `at` on to the beginning of `into`, as many as there are and fit.
+/// Copies octets of `bytes` from offset `at` on to the beginning of `into`, as many as there are and fit.
 pub(crate) fn copy_at(bytes: &[u8], at: usize, into: &mut [u8]) -> usize
     requires { at ≤ length bytes.now }
     ensures count { result ≡ min (length bytes.now - at) (length into.old) }
@@ -114,7 +115,7 @@ impl Sink for MemSink {
 
     ghost faults = { λ s. s.faults };
 
-    /// Takes the whole piece. Where memory is wanted the writing fails.
+    /// Takes the whole piece. Out of memory, the writing fails.
     fn write(&mut self, piece: &[u8]) -> Put {
         if !self.plan.fails_now() && self.bytes.append(piece).is_ok() {
             return Put::Took(piece.len());

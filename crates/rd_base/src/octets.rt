@@ -1,4 +1,4 @@
-// Owned octets, seen by contracts as their list.
+//! Owned octets, seen by contracts as their list.
 ghost use Rattle.std.specs.Prelude.{◌≡◌, ◌↔◌, ◌^◌, ◌<◌, [], ◌++◌, length, take, IsTrue, IfOk, OnOk, OnErr, nat_eq};
 ghost use Rattle.std.proofs.Common.{rules};
 ghost use Rattle.std.specs.Cmp.{partial_order_from_own_ties};
@@ -46,7 +46,7 @@ impl Bytes {
         }
     }
 
-    /// A copy of the octets of a slice.
+    /// A copy of the octets of a slice. `Starved`: out of memory.
     pub fn copy_of(alloc: Global, slice: &[u8]) -> Result<Bytes, Starved>
         ensures { IfOk result (λ b. b ≡ slice.now) }
     {
@@ -92,7 +92,7 @@ impl Bytes {
         self.items.truncate(len);
     }
 
-    /// Appends the octets of a slice. Where memory is wanted the octets are as before.
+    /// Appends the octets of a slice. `Starved`: out of memory, and the octets are as before.
     pub fn append(&mut self, slice: &[u8]) -> Result<(), Starved>
         ensures ok { OnOk result (self.new ≡ self.old ++ slice.now) }
         ensures err { OnErr result (self.new ≡ self.old) }

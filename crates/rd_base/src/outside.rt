@@ -1,4 +1,4 @@
-// The outside: where octets come from and go to.
+//! The outside: where octets come from and go to.
 ghost use Rattle.std.specs.Prelude.{ℕ, List, Option, length, ◌<◌, ◌^◌, IfSome};
 ghost use Rattle.rd_base.specs.Outside.{IsWithinRoom, Gives, RunsDown, CountsRead, IsWithinPiece, Takes, CountsWritten};
 

@@ -1,4 +1,4 @@
-// The parameters of registrations and updates (RFC 9176 sections 5 and 5.3.1).
+//! The parameters of registrations and updates (RFC 9176 sections 5 and 5.3.1).
 use crate::{Name, Pairs, Text};
 
 /// The parameters of a registration (RFC 9176 section 5).

@@ -1,13 +1,13 @@
-// How a peer is written: its one text is printed, and read (RFC 5952 sections 4 to 6).
+//! How a peer is written: its one text is printed, and read (RFC 5952 sections 4 to 6).
 ghost use Rattle.std.specs.Prelude.{◌≡◌, ◌↔◌, Ok, option_map, IfOk, ok_or, bytes_eq, decimal};
 ghost use Rattle.std.specs.String.{string_bytes};
 ghost use Rattle.rd_base.specs.Peers as peers;
 ghost use Rattle.rd_base.specs.Bases as bases;
-ghost use Rattle.rd_base.specs.Fronts.{behind};
+ghost use Rattle.rd_base.specs.Prefixes.{after_prefix};
 ghost use Rattle.rd_base.specs.declared.peers.Peer.{Peer};
 
-use crate::addresses::{behind_ipv4, behind_ipv6};
-use crate::matching::{behind, behind_number};
+use crate::addresses::{after_ipv4, after_ipv6};
+use crate::prefixes::{after_number, after_prefix};
 use crate::{Host, Peer, Starved, Text};
 use std::alloc::Global;
 use std::net::{Ipv4Addr, Ipv6Addr, SocketAddr, SocketAddrV4, SocketAddrV6};
@@ -28,7 +28,7 @@ fn socket_of(peer: &Peer) -> SocketAddr
     }
 }
 
-/// A peer as text, as 192.0.2.1:5683 or [2001:db8::1]:61616. An IPv6 address is dotted where it maps an IPv4 address.
+/// A peer as text, as 192.0.2.1:5683 or [2001:db8::1]:61616. An IPv6 address is dotted where it maps an IPv4 address. `Starved`: out of memory.
 #[tactic(auto, unfolding(crate::specs::Peers::peer_text))]
 pub fn peer_text(alloc: Global, peer: &Peer) -> Result<Text, Starved>
     ensures { IfOk result (λ text. text ≡ peers.peer_text peer.now) }
@@ -57,35 +57,35 @@ fn named_peer(text: &[u8]) -> Option<Peer>
     None
 }
 
-/// What stands behind an address as a host, an IPv6 address in brackets.
-#[tactic(auto, using(crate::proofs::Fronts::behind_append))]
-fn behind_host(host: Host, text: &[u8]) -> Option<&[u8]>
-    ensures { option_map (λ t. t.now) result ≡ behind (bases.host_text host) text.now }
+/// What stands after an address as a host, an IPv6 address in brackets.
+#[tactic(auto, using(crate::proofs::PrefixLemmas::after_two))]
+fn after_host(host: Host, text: &[u8]) -> Option<&[u8]>
+    ensures { option_map (λ t. t.now) result ≡ after_prefix (bases.host_text host) text.now }
 {
     match host {
-        Host::V4(octets) => behind_ipv4(octets, text),
+        Host::V4(octets) => after_ipv4(octets, text),
         Host::V6(groups) => {
-            let rest = behind(b"[", text)?;
-            let rest = behind_ipv6(groups, rest)?;
-            behind(b"]", rest)
+            let rest = after_prefix(b"[", text)?;
+            let rest = after_ipv6(groups, rest)?;
+            after_prefix(b"]", rest)
         }
     }
 }
 
-/// What stands behind a peer.
-fn behind_peer<'a>(peer: &Peer, text: &'a [u8]) -> Option<&'a [u8]>
-    ensures { option_map (λ t. t.now) result ≡ behind (peers.peer_text peer.now) text.now }
+/// What stands after a peer.
+fn after_peer<'a>(peer: &Peer, text: &'a [u8]) -> Option<&'a [u8]>
+    ensures { option_map (λ t. t.now) result ≡ after_prefix (peers.peer_text peer.now) text.now }
 {
-    let rest = behind_host(peer.host, text)?;
-    let rest = behind(b":", rest)?;
-    behind_number(peer.port, rest)
+    let rest = after_host(peer.host, text)?;
+    let rest = after_prefix(b":", rest)?;
+    after_number(peer.port, rest)
 }
 
 /// Whether a text is that of a peer.
 fn is_printed(text: &[u8], peer: &Peer) -> bool
     ensures { result ≡ bytes_eq text.now (peers.peer_text peer.now) }
 {
-    match behind_peer(peer, text) {
+    match after_peer(peer, text) {
         Some(rest) => rest.is_empty(),
         None => false,
     }
@@ -146,7 +146,7 @@ fn port_text(alloc: Global, port: u16) -> Result<String, Starved>
     Ok(format!(in alloc; ":{port}")?)
 }
 
-/// The base of what a peer registers without giving one (RFC 9176 section 5): `coap://` and its address, and its port where that is not 5683.
+/// The base of what a peer registers without giving one (RFC 9176 section 5): `coap://` and its address, and its port where that is not 5683. `Starved`: out of memory.
 #[tactic(auto, unfolding(crate::specs::Bases::base_of))]
 pub fn base_of(alloc: Global, peer: &Peer) -> Result<Text, Starved>
     ensures { IfOk result (λ text. text ≡ bases.base_of peer.now) }

@@ -1,4 +1,4 @@
-// Where a datagram comes from and goes to.
+//! Where a datagram comes from and goes to.
 
 /// An address of the Internet Protocol. IPv4 stands before IPv6 in the order.
 #[derive(Clone, Copy, Debug, PartialEq, Eq, PartialOrd, Ord, Hash)]

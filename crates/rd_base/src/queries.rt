@@ -1,4 +1,4 @@
-// What a lookup asks for (RFC 9176 section 6).
+//! What a lookup asks for (RFC 9176 section 6).
 ghost use Rattle.std.specs.Prelude.{◌≡◌};
 ghost use lib.Pointwise.{pointwise};
 ghost use Rattle.std.proofs.Common.{rules};

@@ -1,4 +1,4 @@
-// Registrations (RFC 9176 section 5).
+//! Registrations (RFC 9176 section 5).
 ghost use Rattle.std.specs.Prelude.{◌+◌, ◌*◌, ◌^◌, ◌≤◌};
 ghost use Rattle.std.specs.Prelude.{◌≡◌};
 ghost use lib.Pointwise.{pointwise};

@@ -1,4 +1,4 @@
-// std's readers and writers as a source and a sink.
+//! std's readers and writers as a source and a sink.
 ghost use Rattle.std.specs.Prelude.{◌≡◌, ◌^◌};
 ghost use Rattle.rd_base.specs.Outside.{told_below};
 

@@ -1,4 +1,4 @@
-// A count of steps, which contracts alone see.
+//! A count of steps, which contracts alone see.
 ghost use Rattle.std.specs.Prelude.{◌≡◌, ◌+◌, ◌<◌};
 
 use std::marker::Model;

@@ -1,4 +1,4 @@
-// A source and a sink that never fail.
+//! A source and a sink that never fail.
 ghost use Rattle.std.specs.Prelude.{◌≡◌, ◌≤◌, ◌-◌, Some, None, length, drop};
 
 use crate::memory_ends::copy_at;

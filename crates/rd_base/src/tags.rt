@@ -1,4 +1,4 @@
-// Entity tags (RFC 7252 section 5.10.6).
+//! Entity tags (RFC 7252 section 5.10.6).
 
 /// The entity tag of a listing.
 #[derive(Clone, Copy, Debug, PartialEq, Eq, Hash)]

@@ -1,4 +1,4 @@
-// Owned UTF-8 text, seen by contracts as its list of octets.
+//! Owned UTF-8 text, seen by contracts as its list of octets.
 ghost use Rattle.std.specs.Prelude.{◌≡◌, ◌↔◌, ◌^◌, ◌<◌, [], ◌++◌, length, IsTrue, IfOk, OnOk, OnErr, nat_eq};
 ghost use Rattle.std.specs.String.{string_bytes};
 ghost use Rattle.std.proofs.Common.{rules};
@@ -48,7 +48,7 @@ impl Text {
         }
     }
 
-    /// A copy of a text.
+    /// A copy of a text. `Starved`: out of memory.
     pub fn copy_of(alloc: Global, text: &str) -> Result<Text, Starved>
         ensures { IfOk result (λ t. t ≡ text.now) }
     {
@@ -93,7 +93,7 @@ impl Text {
         text
     }
 
-    /// Appends a text. Where memory is wanted this text is as before.
+    /// Appends a text. `Starved`: out of memory, and this text is as before.
     pub fn append(&mut self, more: &str) -> Result<(), Starved>
         ensures ok { OnOk result (self.new ≡ self.old ++ more.now) }
         ensures err { OnErr result (self.new ≡ self.old) }

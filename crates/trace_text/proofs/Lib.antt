@@ -1,3 +1,3 @@
-pub mod NumberReading
-pub mod Cuts
-pub mod Saying
+pub mod NumberTexts
+pub mod FieldCuts
+pub mod LineFields

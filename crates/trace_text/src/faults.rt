@@ -1,4 +1,4 @@
-// Why a line, or a field of one, is not read.
+//! Why a line, or a field of one, is not read.
 use rd_base::Starved;
 
 /// Why a line is not read.
@@ -8,7 +8,7 @@ pub enum LineFault {
     Long,
     /// It is not too long, and it is none of the three forms.
     Form,
-    /// Memory was wanted.
+    /// Out of memory.
     Starved,
 }
 
@@ -17,7 +17,7 @@ pub enum LineFault {
 pub enum FieldFault {
     /// It is not of its form.
     Form,
-    /// Memory was wanted.
+    /// Out of memory.
     Starved,
 }
 

@@ -1,16 +1,17 @@
 //! Traces as text: each line is read in one way or refused with its reason, and what is printed is read back.
 #![tactic(auto)]
 
-mod cutting;
+mod datagrams;
 mod faults;
+mod fields;
+mod line_parser;
+mod line_printer;
 mod numbers;
-mod octets;
-mod printing;
-mod reading;
-#[cfg(test)]
-mod tests;
 
 pub use faults::LineFault;
 pub use line_model::{Line, LineBad, Reason};
-pub use printing::{line_print, out_print};
-pub use reading::line_read;
+pub use line_parser::line_read;
+pub use line_printer::{line_print, out_print};
+
+#[cfg(test)]
+mod tests;

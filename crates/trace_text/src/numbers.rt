@@ -1,4 +1,4 @@
-// Numbers in decimal.
+//! Numbers in decimal.
 ghost use Rattle.std.specs.Prelude.{◌≡◌, ◌≤◌, IfSome, bytes_eq, decimal};
 ghost use Rattle.line_model.specs.Numbers as numbers;
 

@@ -1,3 +1,4 @@
+//! Lines that are read and printed, against their texts.
 use super::*;
 use rd_base::{Bytes, Host, Peer, base_of, peer_read, peer_text};
 use std::alloc::Global;

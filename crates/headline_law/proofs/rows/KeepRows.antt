@@ -24,7 +24,7 @@ use Rattle.journal_model.proofs.StepNotes.{keep_effects-notes}
 use Rattle.headline_law.proofs.notes.SilentSteps.{looked_notes}
 use Rattle.headline_law.proofs.entries.JournalLaws.{Made, each_row, entries-none_noted}
 use Rattle.journal_model.proofs.Jobs.{KeepsOf, keeps_of}
-use Rattle.headline_law.proofs.sends.ReadAgain.{header_read}
+use Rattle.message_model.proofs.ReadingLaws.{header_read}
 use Rattle.headline_law.proofs.sends.BodyAnswers.{Bears, IsBodyOf, tag-length, same_message, bears_carries}
 use Rattle.headline_law.proofs.sends.LookupSends.{keep_bears}
 use Rattle.headline_law.proofs.notes.LookupNotes.{look_fits, KeptAt}

@@ -23,7 +23,7 @@ use Rattle.journal_model.specs.Meantime.{is_heard}
 use Rattle.journal_model.specs.Headline.{Placed, former_of_body, former_of_kept, former_noted, query_read, Carries}
 use Rattle.journal_model.proofs.EntriesNoted.{entries_in}
 use Rattle.headline_law.proofs.entries.QuietSteps.{lookup_effects-entries_in}
-use Rattle.headline_law.proofs.sends.ReadAgain.{header_read}
+use Rattle.message_model.proofs.ReadingLaws.{header_read}
 use Rattle.headline_law.proofs.sends.BodyAnswers.{Bears, IsBodyOf, tag-length, bears_carries}
 use Rattle.headline_law.proofs.sends.LookupSends.{AreListings, AreBodiesOf, names_earlier_row, LookupOutcome, now, kept, lookup_outcome}
 use Rattle.journal_model.proofs.EventRows.{AllRows, row_of, row_within, said_by}

@@ -19,7 +19,7 @@ use Rattle.journal_model.specs.Meantime.{is_heard}
 use Rattle.journal_model.specs.Headline.{Placed, former_of_body, former_noted, former_at, query_read, query_answered}
 use Rattle.journal_model.proofs.EntriesNoted.{entries_in}
 use Rattle.journal_model.proofs.StepNotes.{look_effects-notes}
-use Rattle.headline_law.proofs.sends.ReadAgain.{header_read}
+use Rattle.message_model.proofs.ReadingLaws.{header_read}
 use Rattle.headline_law.proofs.sends.BodyAnswers.{Bears, IsBodyOf, other_code, bears_carries}
 use Rattle.headline_law.proofs.sends.PlainSteps.{ArePlain, IsPlain}
 use Rattle.headline_law.proofs.sends.LookupSends.{AreListings, look_lists, names_earlier_row}

@@ -17,6 +17,9 @@ use Rattle.message_model.specs.Refusals.{link_format}
 use Rattle.message_model.specs.Request.{etags_in}
 use Rattle.message_model.specs.Spelling.{header_spelling, spelling}
 use Rattle.message_model.specs.Reading.{reading}
+use Rattle.message_model.proofs.TailLemmas.{AreInOrder}
+use Rattle.message_model.proofs.MessageLaws.{reading_in_order}
+use Rattle.message_model.proofs.ReadingLaws.{header_read}
 use Rattle.rd_base.specs.declared.queries.Query.{Query}
 use Rattle.history_model.specs.declared.entries.Entry.{Entry}
 use Rattle.history_model.specs.Listing.{listing, tag, tag_from}
@@ -24,7 +27,6 @@ use Rattle.journal_model.specs.Effects.{Reply}
 use Rattle.journal_model.specs.Requests.{number_of, szx_of}
 use Rattle.journal_model.specs.Bodies.{tag_option, observe_option, block2_option, answered_block, part_reply, body_reply}
 use Rattle.journal_model.specs.Headline.{has_listing, Carries, code_at}
-use Rattle.headline_law.proofs.sends.ReadAgain.{AreInOrder, reading_in_order, code_read}
 
 -- a message with the code, options and payload of a reply
 abbrev pub with_reply : Kind4 → ℕ → List ℕ → Reply → Message
@@ -125,7 +127,7 @@ part_again : (kind : Kind4) (mid : ℕ) (token : List ℕ) (tag : Option (List �
     → reading (spelling (with_reply kind mid token (part_of tag observe asked part))) ≡ Ok (with_reply kind mid token (part_of tag observe asked part))
 part_again kind mid token tag observe asked part small short =
     reading_in_order (with_reply kind mid token (part_of tag observe asked part))
-    (record { class = refl; filled = refl; token = small; options = options_in_order tag observe (answered_block asked part.1) short })
+    (record { class = refl; token = small; options = options_in_order tag observe (answered_block asked part.1) short; empty = λ none. absurd (omega arith) })
 
 -- the tag of what was read
 tagged : (kind : Kind4) (mid : ℕ) (token tag : List ℕ) (observe : Option ℕ) (asked : Option Block) (part : List ℕ × Bool) → length tag ≡ 8
@@ -155,6 +157,10 @@ IsBodyOf token body tag octets = (m : Message) → reading octets ≡ Ok m → h
 -- a datagram is read to have no listing
 abbrev pub HasNone : List ℕ → Type 0
 HasNone octets = (m : Message) → reading octets ≡ Ok m → has_listing m ≡ false
+
+-- the code of what is read is the second octet
+code_read : (octets : List ℕ) (m : Message) → reading octets ≡ Ok m → m.code ≡ code_at octets
+code_read octets m e = let h = header_read octets m e in sym (ap code_at h.octets_are)
 
 -- a datagram with another code than 2.05
 pub other_code : (octets : List ℕ) → (code_at octets == codes_of.content) ≡ false → HasNone octets

@@ -114,7 +114,7 @@ two_spaces : line_of (codes "go  0 10") ≡ Err reason.Form
 unfolding trace_on_literals
 two_spaces = refl
 
--- a space at the front
+-- a space at the beginning
 space_first : line_of (codes " go 0 10") ≡ Err reason.Form
 unfolding trace_on_literals
 space_first = refl

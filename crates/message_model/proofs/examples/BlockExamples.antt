@@ -84,9 +84,9 @@ whole_block : block_of (replicate 16 120) 0 0 ≡ Some (replicate 16 120, false)
 unfolding messages_on_literals
 whole_block = refl
 
-behind_whole_block : block_of (replicate 16 120) 1 0 ≡ None
+after_whole_block : block_of (replicate 16 120) 1 0 ≡ None
 unfolding messages_on_literals
-behind_whole_block = refl
+after_whole_block = refl
 
 empty_body : block_of [] 0 6 ≡ Some ([], false)
 unfolding messages_on_literals

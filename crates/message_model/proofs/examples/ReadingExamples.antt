@@ -137,7 +137,7 @@ token_is_refused : reading (hex (codes "4201123401")) ≡ Err (unread.Format Con
 unfolding messages_on_literals
 token_is_refused = refl
 
--- a marker with nothing behind it
+-- a marker with nothing after it
 marker_is_refused : reading (hex (codes "50011235ff")) ≡ Err (unread.Format Non 0x1235)
 unfolding messages_on_literals
 marker_is_refused = refl

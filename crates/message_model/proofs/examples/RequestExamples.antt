@@ -107,14 +107,14 @@ if_none_match_is_refused : first_bad_option ((5, []) ∷ []) ≡ Some 5
 unfolding messages_on_literals
 if_none_match_is_refused = refl
 
--- a first Observe of a bad length and a second that is a further occurrence: neither is heeded
-neither_observe_is_heeded : observe_in (request get ((table.observe, hex (codes "00000000")) ∷ (table.observe, []) ∷ []) []) ≡ None
+-- a first Observe of a bad length and a second that is a further occurrence: neither counts
+neither_observe_counts : observe_in (request get ((table.observe, hex (codes "00000000")) ∷ (table.observe, []) ∷ []) []) ≡ None
 unfolding messages_on_literals
-neither_observe_is_heeded = refl
+neither_observe_counts = refl
 
-observe_is_heeded : observe_in (request get ((table.observe, []) ∷ (table.observe, hex (codes "01")) ∷ []) []) ≡ Some 0
+observe_counts : observe_in (request get ((table.observe, []) ∷ (table.observe, hex (codes "01")) ∷ []) []) ≡ Some 0
 unfolding messages_on_literals
-observe_is_heeded = refl
+observe_counts = refl
 
 -- a second Uri-Host is critical and a further occurrence; a Uri-Host of no byte has a bad length
 second_host_is_refused : first_bad_option ((table.uri_host, codes "a") ∷ (table.uri_host, codes "a") ∷ []) ≡ Some table.uri_host

@@ -9,7 +9,7 @@ pub filter_all : {X : Type 0} (test : X → Bool) (xs : List X) → AllByRecursi
 filter_all test [] h = refl
 filter_all test (x ∷ xs) h = rw (h.0) (ap (λ rest. x ∷ rest) (filter_all test xs h.1))
 
--- a filter behind one that keeps more
+-- a filter after one that keeps more
 pub filter_stronger : {X : Type 0} (test other : X → Bool) → ((x : X) → test x ≡ true → other x ≡ true) → (xs : List X) → filter test (filter other xs) ≡ filter test xs
 filter_stronger test other stronger [] = refl
 filter_stronger test other stronger (x ∷ xs) = by (other x) (test x) refl refl (filter_stronger test other stronger xs)
@@ -66,7 +66,7 @@ sum_by-filter-le f test (x ∷ xs) = by (test x) (sum_by-filter-le f test xs) (s
     by true more all = let kept = sum_by-cons f x (filter test xs) in omega (arith, more, all, kept)
     by false more all = omega (arith, more, all)
 
--- what is looked for is found behind a filter that keeps it
+-- what is looked for is found after a filter that keeps it
 pub find-filter : {X : Type 0} (wanted test : X → Bool) → ((x : X) → wanted x ≡ true → test x ≡ true) → (xs : List X) → find wanted (filter test xs) ≡ find wanted xs
 find-filter wanted test kept [] = refl
 find-filter wanted test kept (x ∷ xs) = by (test x) (wanted x) refl refl (find-filter wanted test kept xs)

@@ -1,8 +1,8 @@
 use Rattle.std.proofs.Common.{ap, ◌∙◌}
-use Rattle.coap_message.specs.Left.{options_left}
+use Rattle.coap_message.specs.OptionsLeft.{options_left}
 use Rattle.coap_message.specs.Views.{message_in}
 use Rattle.message_model.specs.Request.{queries_in}
-use Rattle.coap_options.specs.Left.{queries_left}
+use Rattle.coap_options.specs.ValuesLeft.{queries_left}
 use Rattle.coap_options.proofs.KeyLemmas.{key_begun, query_short}
 use Rattle.coap_options.proofs.keys.request_key.Goals as goal
 

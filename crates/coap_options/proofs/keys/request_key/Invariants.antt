@@ -3,7 +3,7 @@ use Rattle.std.specs.Prelude.{flat_map}
 use Rattle.message_model.specs.RequestKey as keys
 use Rattle.message_model.specs.Request as request
 use Rattle.coap_message.specs.Views.{message_in}
-use Rattle.coap_options.specs.Left.{queries_left}
+use Rattle.coap_options.specs.ValuesLeft.{queries_left}
 use Rattle.coap_options.proofs.keys.request_key.Given as goal
 
 -- the octets that are written and those of the queries that are left are the key

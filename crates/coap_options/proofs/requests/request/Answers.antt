@@ -1,6 +1,6 @@
 use Rattle.std.proofs.Common.{◌∙◌}
 use Rattle.coap_message.specs.Views.{message_in}
-use Rattle.coap_options.proofs.ShortLemmas.{block1_short, block2_short}
+use Rattle.coap_options.proofs.ValueLengths.{block1_short, block2_short}
 use Rattle.coap_options.proofs.RefusalLemmas.{refused_later, refused_option}
 use Rattle.coap_options.proofs.requests.request.Goals as goal
 

@@ -1,7 +1,7 @@
 use Rattle.std.proofs.Common.{ap, ◌∙◌}
 use Rattle.message_model.specs.OptionTable.{etag}
 use Rattle.coap_message.specs.Views.{message_in}
-use Rattle.coap_options.specs.Left.{values_left}
+use Rattle.coap_options.specs.ValuesLeft.{values_left}
 use Rattle.coap_options.proofs.ValuesLemmas.{etags_all}
 use Rattle.coap_options.proofs.values.etags.Goals as goal
 

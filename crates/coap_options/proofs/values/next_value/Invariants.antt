@@ -1,6 +1,6 @@
 use Rattle.std.proofs.Common.{◌≡◌, length}
-use Rattle.coap_message.specs.Left.{options_left}
-use Rattle.coap_options.specs.Left.{values_left}
+use Rattle.coap_message.specs.OptionsLeft.{options_left}
+use Rattle.coap_options.specs.ValuesLeft.{values_left}
 use Rattle.coap_options.proofs.values.next_value.Given as goal
 
 -- what was passed holds no value

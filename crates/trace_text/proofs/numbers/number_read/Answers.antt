@@ -1,5 +1,5 @@
 use Rattle.std.proofs.Common.{sym, arith}
-use Rattle.trace_text.proofs.NumberReading.{not_text, not_parsed, too_great, other_text, is_number}
+use Rattle.trace_text.proofs.NumberTexts.{not_text, not_parsed, too_great, other_text, is_number}
 use Rattle.trace_text.proofs.numbers.number_read.Goals as goal
 
 pub returns-in_default-clause-value : goal.returns-in_default-clause-value

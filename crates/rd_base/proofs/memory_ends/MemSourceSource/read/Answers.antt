@@ -1,5 +1,5 @@
 use Rattle.std.proofs.Common.{sym}
-use Rattle.rd_base.proofs.Pieces.{copied_front}
+use Rattle.rd_base.proofs.CopyLemmas.{copied_front}
 use Rattle.rd_base.proofs.memory_ends.MemSourceSource.read.Goals as goal
 
 pub returns-clause-bytes : goal.returns-clause-bytes

@@ -1,0 +1,53 @@
+//! The options of a message, one after the other.
+
+ghost use Rattle.std.specs.Prelude.{◌≡◌};
+ghost use Rattle.coap_message.specs.Views.{message_in};
+ghost use Rattle.coap_message.specs.OptionsLeft.{options_left};
+
+use super::prefixes::option_at;
+use super::views::View;
+
+/// An option: its number and its value (RFC 7252 section 3.1).
+#[derive(Clone, Copy, Debug)]
+pub struct Opt<'a> {
+    /// The number, which the deltas before it add up to.
+    pub number: u32,
+    /// The value, as octets.
+    pub value: &'a [u8],
+}
+
+/// The options that are left, in order (RFC 7252 section 3.1): a contract sees them by `options_left`.
+#[derive(Clone, Copy, Debug)]
+pub struct OptionsIter<'a> {
+    /// The number of the option before.
+    before: u16,
+    rest: &'a [u8],
+}
+
+/// The options of a message that [`view`](crate::view) read, in order.
+pub fn options_of<'a>(view: &View<'a>) -> OptionsIter<'a>
+    ensures { options_left result ≡ (message_in view.now).options }
+{
+    OptionsIter {
+        before: 0,
+        rest: view.options,
+    }
+}
+
+impl<'a> Iterator for OptionsIter<'a> {
+    ghost use Rattle.std.specs.Iterator.{YieldsFirstBy, item_count};
+    ghost use Rattle.coap_message.specs.OptionsLeft.{option_in, options_left};
+
+    type Item = Opt<'a>;
+
+    ghost next_gives = { YieldsFirstBy option_in options_left };
+
+    ghost remaining = { item_count options_left };
+
+    fn next(&mut self) -> Option<Opt<'a>> {
+        let (option, rest) = option_at(self.before, self.rest)?;
+        self.before = option.number as u16;
+        self.rest = rest;
+        Some(option)
+    }
+}

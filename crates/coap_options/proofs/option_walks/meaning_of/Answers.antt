@@ -1,0 +1,12 @@
+use Rattle.coap_message.specs.Views.{message_in}
+use Rattle.coap_options.proofs.ValueLengths.{observe_short, accept_short, format_short}
+use Rattle.coap_options.proofs.option_walks.meaning_of.Goals as goal
+
+pub uint_in-requires : goal.uint_in-requires
+uint_in-requires c = observe_short (message_in c.args.view.now).options c.args.found.now.observe c.requires.observe
+
+pub short_uint_in-requires : goal.short_uint_in-requires
+short_uint_in-requires c = accept_short (message_in c.args.view.now).options c.args.found.now.accept c.requires.accept
+
+pub short_uint_in-requires-2 : goal.short_uint_in-requires-2
+short_uint_in-requires-2 c = format_short (message_in c.args.view.now).options c.args.found.now.format c.requires.format

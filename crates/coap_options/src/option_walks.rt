@@ -1,0 +1,71 @@
+//! The options of a message one after the other, and what the message means by them.
+
+ghost use Rattle.std.specs.Prelude.{◌≡◌, ◌≤◌, Some, None, length, IfOk, IfErr, OnOk};
+ghost use Rattle.std.specs.Option.{option_map, ForSome};
+ghost use Rattle.message_model.specs.Numbers as numbers;
+ghost use Rattle.message_model.specs.OptionTable.{first_bad_option};
+ghost use Rattle.coap_message.specs.Views.{message_in};
+ghost use Rattle.coap_options.specs.Findings.{IsFound};
+ghost use Rattle.coap_options.specs.Meanings.{IsMeaning};
+
+use crate::findings::{BadOption, Found, nothing_found, with_option};
+use crate::meanings::Meaning;
+use crate::segments::path_of;
+use crate::uint_values::{short_uint_of, uint_of};
+use coap_message::{View, options_of};
+
+/// The number that a value of at most two octets gives.
+fn short_uint_in(value: Option<&[u8]>) -> Option<u16>
+    requires { ForSome value (λ v. length v.now ≤ 2) }
+    ensures { result ≡ option_map numbers.uint_of (option_map (λ v. v.now) value.entry) }
+{
+    match value {
+        Some(octets) => Some(short_uint_of(octets)),
+        None => None,
+    }
+}
+
+/// The number that a value of at most three octets gives.
+fn uint_in(value: Option<&[u8]>) -> Option<u32>
+    requires { ForSome value (λ v. length v.now ≤ 3) }
+    ensures { result ≡ option_map numbers.uint_of (option_map (λ v. v.now) value.entry) }
+{
+    match value {
+        Some(octets) => Some(uint_of(octets)),
+        None => None,
+    }
+}
+
+/// The meaning of a message whose options say this.
+fn meaning_of<'a>(view: &View<'a>, found: &Found<'a>) -> Meaning<'a>
+    requires { IsFound (message_in view.now).options found.now }
+    ensures { IsMeaning (message_in view.now) result }
+{
+    Meaning {
+        view: *view,
+        path: path_of(found.segments),
+        observe: uint_in(found.observe),
+        accept: short_uint_in(found.accept),
+        format: short_uint_in(found.format),
+        block1: found.block1,
+        block2: found.block2,
+        proxy: found.proxy,
+    }
+}
+
+/// What the options of a message say (RFC 7252 section 5.4). An option is recognized where the table has its number and
+/// allows the length of its value, and where it is no second one of a number that may stand once. An elective option that
+/// is not recognized is passed over.
+///
+/// `BadOption(n)`: a critical option is not recognized, and `n` is the number of the first one.
+pub fn meaning<'a>(view: &View<'a>) -> Result<Meaning<'a>, BadOption>
+    ensures meaning { IfOk result (λ meaning. IsMeaning (message_in view.now) meaning) }
+    ensures good { OnOk result (first_bad_option (message_in view.now).options ≡ None) }
+    ensures bad { IfErr result (λ bad. first_bad_option (message_in view.now).options ≡ Some bad.0) }
+{
+    let mut found = nothing_found();
+    'options: for option in options_of(view) {
+        found = with_option(&found, &option)?;
+    }
+    Ok(meaning_of(view, &found))
+}

@@ -1,6 +1,0 @@
-use Rattle.std.proofs.Common.{length}
-use Rattle.rd_base.proofs.addresses.+behind_further_groups.Given as goal
-
--- proposed from what the function passes where it calls itself
-abbrev pub decreases-behind_further_groups : goal.decreases-behind_further_groups
-decreases-behind_further_groups l = length l.groups.now

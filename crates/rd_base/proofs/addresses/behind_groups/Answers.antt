@@ -1,9 +1,0 @@
-use Rattle.std.proofs.Common.{ap, ◌∙◌, option_map}
-use Rattle.rd_base.proofs.Groups.{groups_no_group, groups_goes}
-use Rattle.rd_base.proofs.addresses.behind_groups.Goals as goal
-
-pub returns-in_err-rest : goal.returns-in_err-rest
-returns-in_err-rest c = ap (option_map (λ b. b.now)) c.from_residual.ensures ∙ groups_no_group _ _ _ _ c.in-Some.ensures.cases.0 c.in_err-rest.ensures
-
-pub returns : goal.returns
-returns c = c.behind_further_groups.ensures ∙ groups_goes _ _ _ _ c.in-Some.ensures.cases.0 _ c.in_ok-rest.ensures

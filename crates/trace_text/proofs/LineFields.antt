@@ -1,0 +1,58 @@
+-- What fields say, by their number, and that what is said is a line.
+use Rattle.std.proofs.Common.{◌≡◌, ℕ, ◌<◌, ◌≤◌, List, [], ◌∷◌, length, Some, None, Ok, refl, sym, ap, subst, inl, inr, ◌∙◌, arith}
+use Rattle.std.proofs.lemmas.List.Splits.{length-slice_split}
+use Rattle.std.specs.Prelude.{◌==◌}
+use Rattle.hex.specs.Hex.{IsBytes}
+use Rattle.hex.proofs.HexLemmas.{decode_of-ok}
+use Rattle.line_model.specs.declared.lines.Line.{Line}
+use Rattle.line_model.specs.Datagrams.{max_datagram, IsDatagramText}
+use Rattle.line_model.specs.Lines.{space, fields, said_by, line_of, line_text, IsLine, come, go, tick, AreFieldsOf, comes, goes, ticks, ticks_alone}
+use Rattle.line_model.proofs.LineTexts.{said_by-found}
+use Rattle.line_model.proofs.PrintedLines.{line_of-line_text}
+
+module _ (text : List ℕ) where
+  -- one field
+  pub one_says_nothing : fields text ≡ text ∷ [] → said_by (fields text) ≡ None
+  unfolding said_by
+  one_says_nothing e = ap (λ fs. said_by fs) e
+
+  -- two fields
+  pub two_say_nothing : (first rest : List ℕ) → fields text ≡ first ∷ fields rest → fields rest ≡ rest ∷ [] → said_by (fields text) ≡ None
+  unfolding said_by
+  two_say_nothing first rest e h = ap (λ fs. said_by fs) (e ∙ ap (λ fs. first ∷ fs) h)
+
+-- a text has a field
+has_field : (text : List ℕ) → 0 < length (fields text)
+has_field text = omega (arith, length-slice_split (λ b. b == space) text)
+
+six : (a b c d e : List ℕ) (more : List (List ℕ)) → 0 < length more → said_by (a ∷ b ∷ c ∷ d ∷ e ∷ more) ≡ None
+unfolding said_by
+six a b c d e [] h = absurd (omega (arith, h))
+six a b c d e (f ∷ more) h = refl
+
+-- six fields or more
+pub six_say_nothing : (text a text1 b text2 c text3 d text4 e text5 : List ℕ) → fields text ≡ a ∷ fields text1 → fields text1 ≡ b ∷ fields text2 → fields text2 ≡ c ∷ fields text3
+    → fields text3 ≡ d ∷ fields text4 → fields text4 ≡ e ∷ fields text5 → said_by (fields text) ≡ None
+six_say_nothing text a text1 b text2 c text3 d text4 e text5 ea eb ec ed ee =
+    ap (λ fs. said_by fs) (ea ∙ ap (λ fs. a ∷ fs) (eb ∙ ap (λ fs. b ∷ fs) (ec ∙ ap (λ fs. c ∷ fs) (ed ∙ ap (λ fs. d ∷ fs) ee))))
+    ∙ six a b c d e (fields text5) (has_field text5)
+
+-- what a text writes is octets, and not too many
+datagram_fits : (text octets : List ℕ) → IsDatagramText text octets → (length octets ≤ max_datagram) × IsBytes octets
+datagram_fits text octets (inl h) = (subst (λ (xs : List ℕ). length xs ≤ max_datagram) (sym h.1) (omega arith), subst IsBytes (sym h.1) (λ k. omega arith))
+datagram_fits text octets (inr h) = (h.2, (decode_of-ok text octets h.0).3)
+
+spelled_line : (parts : List (List ℕ)) (l : Line) → AreFieldsOf parts l → IsLine l
+spelled_line _ _ (comes {w} {m} {p} {d} {worker} {moment} {peer} {octets} hw hm hp hd) =
+    let fits = datagram_fits d octets hd in come hw.within hm.within hp.fits fits.0 fits.1
+spelled_line _ _ (goes hw hm) = go hw.within hm.within
+spelled_line _ _ (ticks hw hm hx) = tick hw.within hm.within hx.within
+spelled_line _ _ (ticks_alone hw hm) = tick hw.within hm.within (omega arith)
+
+-- what fields say is a line
+pub said_line : (parts : List (List ℕ)) (l : Line) → said_by parts ≡ Some l → IsLine l
+said_line parts l e = spelled_line parts l (said_by-found parts l e)
+
+-- what is printed is read back
+pub read_back : (text : List ℕ) (l : Line) → IsLine l → text ≡ line_text l → line_of text ≡ Ok l
+read_back text l h e = ap line_of e ∙ line_of-line_text l h

@@ -1,0 +1,22 @@
+-- The result of reading a line or a field, beside what the text says.
+use Rattle.std.specs.Prelude.{◌≡◌, Option, Some, None, Result, Ok, Err}
+use Rattle.line_model.specs.declared.lines.Line.{Line}
+use Rattle.line_model.specs.declared.lines.Reason.{Reason}
+use Rattle.line_model.specs.declared.lines.Reason.TheVariants as reason
+use Rattle.trace_text.specs.declared.faults.LineFault.{LineFault}
+use Rattle.trace_text.specs.declared.faults.LineFault.TheVariants as fault
+use Rattle.trace_text.specs.declared.faults.FieldFault.{FieldFault}
+use Rattle.trace_text.specs.declared.faults.FieldFault.TheVariants as field
+
+-- a field is answered as what it says, and a fault of its form where it says nothing. Nothing is claimed out of memory
+abbrev pub IsSaid : {A : Type 0} → Result A FieldFault → Option A → Type 0
+IsSaid (Ok value) said = said ≡ Some value
+IsSaid (Err field.Form) said = said ≡ None
+IsSaid (Err field.Starved) said = Unit {0}
+
+-- a line is answered as it reads, and one that is bad with its reason. Nothing is claimed out of memory
+abbrev pub IsRead : Result Line LineFault → Result Line Reason → Type 0
+IsRead (Ok line) read = read ≡ Ok line
+IsRead (Err fault.Long) read = read ≡ Err reason.Long
+IsRead (Err fault.Form) read = read ≡ Err reason.Form
+IsRead (Err fault.Starved) read = Unit {0}

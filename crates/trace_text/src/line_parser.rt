@@ -1,0 +1,170 @@
+//! Lines as they are read.
+ghost use Rattle.std.specs.Prelude.{◌≡◌, ◌≤◌, [], ◌∷◌, IfOk, IfSome, Some, option_map};
+ghost use Rattle.line_model.specs.Lines as lines;
+ghost use Rattle.line_model.specs.Numbers as numbers;
+ghost use Rattle.trace_text.specs.LineResults.{IsSaid, IsRead};
+
+use crate::datagrams::datagram_read;
+use crate::faults::{FieldFault, LineFault};
+use crate::fields::cut;
+use crate::numbers::number_read;
+use line_model::Line;
+use rd_base::{Moment, Peer, peer_read_ascii};
+use std::alloc::Global;
+
+/// The most bytes of a line, its line feed apart.
+const MAX_LINE: usize = 8600;
+
+/// The greatest number of a worker.
+const MAX_WORKER: u64 = 255;
+
+/// The greatest moment of a line, in milliseconds.
+const MAX_MOMENT: u64 = 999_999_999_999_999;
+
+/// The greatest word of a tick.
+const MAX_WORD: u64 = 4_294_967_295;
+
+/// What the fields of a datagram that comes say.
+#[tactic(auto, unfolding(line_model::specs::Lines::come_of))]
+fn come_read(
+    alloc: Global,
+    worker: &[u8],
+    moment: &[u8],
+    peer: &[u8],
+    octets: &[u8],
+) -> Result<Line, FieldFault>
+    ensures { IsSaid result (lines.come_of worker.now moment.now peer.now octets.now) }
+{
+    let worker = number_read(MAX_WORKER, worker).ok_or(FieldFault::Form)?;
+    let moment = number_read(MAX_MOMENT, moment).ok_or(FieldFault::Form)?;
+    let peer = peer_read_ascii(peer).ok().ok_or(FieldFault::Form)?;
+    let octets = datagram_read(alloc, octets)?;
+    Ok(Line::Come {
+        worker: worker as u8,
+        moment: Moment(moment),
+        peer,
+        datagram: octets,
+    })
+}
+
+/// What the fields of a worker that ends its job say.
+#[tactic(auto, unfolding(line_model::specs::Lines::go_of))]
+fn go_read(worker: &[u8], moment: &[u8]) -> Option<Line>
+    ensures { result ≡ lines.go_of worker.now moment.now }
+{
+    let worker = number_read(MAX_WORKER, worker)?;
+    let moment = number_read(MAX_MOMENT, moment)?;
+    Some(Line::Go(worker as u8, Moment(moment)))
+}
+
+/// What the fields of time that passes say, without a word.
+#[tactic(auto, unfolding(line_model::specs::Lines::tick_of))]
+fn tick_read(worker: &[u8], moment: &[u8]) -> Option<Line>
+    ensures { result ≡ lines.tick_of worker.now moment.now (Some 0) }
+{
+    let worker = number_read(MAX_WORKER, worker)?;
+    let moment = number_read(MAX_MOMENT, moment)?;
+    Some(Line::Tick {
+        worker: worker as u8,
+        moment: Moment(moment),
+        word: 0,
+    })
+}
+
+/// What the fields of time that passes say, with a word.
+#[tactic(auto, unfolding(line_model::specs::Lines::tick_of))]
+fn tick_word_read(worker: &[u8], moment: &[u8], word: &[u8]) -> Option<Line>
+    ensures { result ≡ lines.tick_of worker.now moment.now (numbers.number_of numbers.max_word word.now) }
+{
+    let worker = number_read(MAX_WORKER, worker)?;
+    let moment = number_read(MAX_MOMENT, moment)?;
+    let word = number_read(MAX_WORD, word)?;
+    Some(Line::Tick {
+        worker: worker as u8,
+        moment: Moment(moment),
+        word: word as u32,
+    })
+}
+
+/// What three fields say.
+#[tactic(auto, unfolding(line_model::specs::Lines::said_by))]
+fn three_read(verb: &[u8], worker: &[u8], moment: &[u8]) -> Option<Line>
+    ensures { result ≡ lines.said_by (verb.now ∷ worker.now ∷ moment.now ∷ []) }
+{
+    if verb == b"go".as_slice() {
+        return go_read(worker, moment);
+    }
+    if verb == b"tick".as_slice() {
+        return tick_read(worker, moment);
+    }
+    None
+}
+
+/// What four fields say.
+#[tactic(auto, unfolding(line_model::specs::Lines::said_by))]
+fn four_read(verb: &[u8], worker: &[u8], moment: &[u8], word: &[u8]) -> Option<Line>
+    ensures { result ≡ lines.said_by (verb.now ∷ worker.now ∷ moment.now ∷ word.now ∷ []) }
+{
+    if verb == b"tick".as_slice() {
+        return tick_word_read(worker, moment, word);
+    }
+    None
+}
+
+/// What five fields say.
+#[tactic(auto, unfolding(line_model::specs::Lines::said_by))]
+fn five_read(
+    alloc: Global,
+    verb: &[u8],
+    worker: &[u8],
+    moment: &[u8],
+    peer: &[u8],
+    octets: &[u8],
+) -> Result<Line, FieldFault>
+    ensures { IsSaid result (lines.said_by (verb.now ∷ worker.now ∷ moment.now ∷ peer.now ∷ octets.now ∷ [])) }
+{
+    if verb == b"in".as_slice() {
+        return come_read(alloc, worker, moment, peer, octets);
+    }
+    Err(FieldFault::Form)
+}
+
+/// What the fields of a line say.
+fn fields_read(alloc: Global, line: &[u8]) -> Result<Line, FieldFault>
+    ensures { IsSaid result (lines.said_by (lines.fields line.now)) }
+{
+    let Some((verb, rest)) = cut(line) else {
+        return Err(FieldFault::Form);
+    };
+    let Some((worker, rest)) = cut(rest) else {
+        return Err(FieldFault::Form);
+    };
+    let Some((moment, rest)) = cut(rest) else {
+        return three_read(verb, worker, rest).ok_or(FieldFault::Form);
+    };
+    let Some((fourth, rest)) = cut(rest) else {
+        return four_read(verb, worker, moment, rest).ok_or(FieldFault::Form);
+    };
+    match cut(rest) {
+        None => five_read(alloc, verb, worker, moment, fourth, rest),
+        Some(_) => Err(FieldFault::Form),
+    }
+}
+
+/// The line that a text is, without its line feed. `Starved`: out of memory. `Long` comes exactly where it has more than
+/// 8,600 bytes, and `Form` exactly where it has not and is none of the three forms: `in`, a worker, a moment, a peer and
+/// octets; `go`, a worker and a moment; `tick`, a worker, a moment and maybe a word.
+#[tactic(auto, unfolding(line_model::specs::Lines::line_of))]
+pub fn line_read(alloc: Global, line: &[u8]) -> Result<Line, LineFault>
+    ensures read { IsRead result (lines.line_of line.now) }
+    ensures line { IfOk result lines.IsLine }
+{
+    if line.len() > MAX_LINE {
+        return Err(LineFault::Long);
+    }
+    match fields_read(alloc, line) {
+        Ok(said) => Ok(said),
+        Err(FieldFault::Form) => Err(LineFault::Form),
+        Err(FieldFault::Starved) => Err(LineFault::Starved),
+    }
+}

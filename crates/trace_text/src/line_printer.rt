@@ -1,0 +1,90 @@
+//! Lines as they are printed.
+ghost use Rattle.std.specs.Prelude.{◌≡◌, IfOk, Ok};
+ghost use Rattle.std.specs.String.{string_bytes};
+ghost use Rattle.line_model.specs.Lines as lines;
+ghost use Rattle.line_model.specs.declared.lines.Line.TheVariants as line_kind;
+
+use crate::datagrams::datagram_text;
+use line_model::Line;
+use rd_base::{Bytes, Moment, Peer, Starved, peer_text};
+use std::alloc::Global;
+
+/// The line of a datagram that comes.
+fn come_print(
+    alloc: Global,
+    worker: u8,
+    moment: Moment,
+    peer: &Peer,
+    octets: &[u8],
+) -> Result<String, Starved>
+    ensures { IfOk result (λ text. string_bytes text ≡ lines.joined (lines.printed_fields (line_kind.Come worker moment peer.now octets.now))) }
+{
+    let Moment(at) = moment;
+    let peer = peer_text(alloc, peer)?;
+    let peer = peer.as_str();
+    let octets = datagram_text(alloc, octets)?;
+    Ok(format!(in alloc; "in {worker} {at} {peer} {octets}")?)
+}
+
+/// The line of a worker that ends its job.
+fn go_print(alloc: Global, worker: u8, moment: Moment) -> Result<String, Starved>
+    ensures { IfOk result (λ text. string_bytes text ≡ lines.joined (lines.printed_fields (line_kind.Go worker moment))) }
+{
+    let Moment(at) = moment;
+    Ok(format!(in alloc; "go {worker} {at}")?)
+}
+
+/// The line of time that passes, a word of 0 left out.
+fn tick_print(alloc: Global, worker: u8, moment: Moment, word: u32) -> Result<String, Starved>
+    ensures { IfOk result (λ text. string_bytes text ≡ lines.joined (lines.printed_fields (line_kind.Tick worker moment word))) }
+{
+    let Moment(at) = moment;
+    if word == 0 {
+        return Ok(format!(in alloc; "tick {worker} {at}")?);
+    }
+    Ok(format!(in alloc; "tick {worker} {at} {word}")?)
+}
+
+/// A line as it is printed.
+#[tactic(auto, unfolding(line_model::specs::Lines::line_text))]
+fn printed(alloc: Global, line: &Line) -> Result<String, Starved>
+    ensures { IfOk result (λ text. string_bytes text ≡ lines.line_text line.now) }
+{
+    match line {
+        Line::Come {
+            worker,
+            moment,
+            peer,
+            datagram: octets,
+        } => { come_print(alloc, *worker, *moment, peer, octets.as_slice()) }
+        Line::Go(worker, moment) => go_print(alloc, *worker, *moment),
+        Line::Tick {
+            worker,
+            moment,
+            word,
+        } => tick_print(alloc, *worker, *moment, *word),
+    }
+}
+
+/// A line as it is printed, without its line feed: digits in lower case, and a word of 0 left out.
+/// The line is one that [`crate::line_read`] can give, and what is printed is read back as it. `Starved`: out of memory.
+pub fn line_print(alloc: Global, line: &Line) -> Result<Bytes, Starved>
+    requires { lines.IsLine line.now }
+    ensures text { IfOk result (λ text. text ≡ lines.line_text line.now) }
+    ensures back { IfOk result (λ text. lines.line_of text ≡ Ok line.now) }
+{
+    let text = printed(alloc, line)?;
+    Ok(Bytes::of(text.into_bytes()))
+}
+
+/// The line of a datagram that is sent: `out`, the worker, the peer and the octets in lower case, without its line feed. `Starved`: out of memory.
+#[tactic(auto, unfolding(line_model::specs::Lines::out_text))]
+pub fn out_print(alloc: Global, worker: u8, peer: &Peer, datagram: &[u8]) -> Result<Bytes, Starved>
+    ensures { IfOk result (λ text. text ≡ lines.out_text worker peer.now datagram.now) }
+{
+    let peer = peer_text(alloc, peer)?;
+    let peer = peer.as_str();
+    let octets = datagram_text(alloc, datagram)?;
+    let text = format!(in alloc; "out {worker} {peer} {octets}")?;
+    Ok(Bytes::of(text.into_bytes()))
+}
