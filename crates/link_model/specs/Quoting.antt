@@ -1,7 +1,7 @@
 -- What a link's parameters say: values without quotes, anchors, attributes, and links as a device submitted them (RFC 6690 sections 2 and 3).
 use Rattle.std.specs.Prelude.{ℕ, Bool, true, false, ◌||◌, ◌==◌, List, [], ◌∷◌, ◌++◌, map, flat_map, filter, find, not, codes, Option, Some, None, option_map, bytes_eq, if◌then◌else◌}
 use Rattle.rd_base.specs.declared.attributes.Pair.{Pair}
-use Rattle.rd_base.specs.declared.submitted.SubmittedLink.{SubmittedLink}
+use Rattle.rd_base.specs.declared.submitted_links.SubmittedLink.{SubmittedLink}
 use Rattle.link_model.specs.Characters.{quote_mark, backslash}
 use Rattle.link_model.specs.Documents.{Parameter, Link, parameters_text}
 use Rattle.link_model.specs.DocumentReading.{document}

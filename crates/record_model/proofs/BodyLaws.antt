@@ -2,7 +2,7 @@
 use Rattle.std.proofs.Common.{◌≡◌, ℕ, ◌+◌, Bool, true, false, not, ◌&&◌, List, [], ◌∷◌, ◌++◌, length, map, find, Option, Some, None, option_map, option_and_then, is_none, is_some, if◌then◌else◌, refl, ap, ◌∙◌}
 use Rattle.std.specs.List.{list_all}
 use Rattle.std.proofs.Math.Bool.{and-true}
-use Rattle.rd_base.specs.declared.submitted.SubmittedLink.{SubmittedLink}
+use Rattle.rd_base.specs.declared.submitted_links.SubmittedLink.{SubmittedLink}
 use Rattle.reference_model.specs.References.{where_present}
 use Rattle.link_model.specs.Documents.{Parameter, Link, parameter_text, link_text}
 use Rattle.link_model.specs.DocumentReading.{document}

@@ -1,7 +1,7 @@
 -- Which bodies a registration may have: documents of references in the Limited Link Format (RFC 9176 appendix C).
 use Rattle.std.specs.Prelude.{ℕ, Bool, false, not, ◌&&◌, ◌||◌, List, Option, Some, None, is_some, option_and_then, if◌then◌else◌}
 use Rattle.std.specs.List.{list_all}
-use Rattle.rd_base.specs.declared.submitted.SubmittedLink.{SubmittedLink}
+use Rattle.rd_base.specs.declared.submitted_links.SubmittedLink.{SubmittedLink}
 use Rattle.reference_model.specs.References.{Components, reference, where_present, has_scheme}
 use Rattle.link_model.specs.Quoting.{submitted_links}
 

@@ -3,7 +3,7 @@ use Rattle.std.specs.Prelude.{ℕ, Bool, List, [], map, filter, codes, unwrap_or
 use Rattle.std.specs.List.{list_all}
 use Rattle.rd_base.specs.declared.queries.Query.{Query}
 use Rattle.rd_base.specs.declared.records.Item.{Item}
-use Rattle.rd_base.specs.declared.submitted.SubmittedLink.{SubmittedLink}
+use Rattle.rd_base.specs.declared.submitted_links.SubmittedLink.{SubmittedLink}
 use Rattle.link_model.specs.Quoting.{submitted_links}
 use Rattle.record_model.specs.Matching.{link_matches}
 use Rattle.record_model.specs.ListingLines.{link_line, shown}

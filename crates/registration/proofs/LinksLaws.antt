@@ -6,7 +6,7 @@ use Rattle.rd_base.specs.declared.records.Item.{Item}
 use Rattle.rd_base.specs.declared.moments.Moment.{Moment}
 use Rattle.rd_base.specs.declared.parameters.RegParams.{RegParams}
 use Rattle.rd_base.specs.declared.peers.Peer.{Peer}
-use Rattle.rd_base.specs.declared.submitted.SubmittedLink.{SubmittedLink}
+use Rattle.rd_base.specs.declared.submitted_links.SubmittedLink.{SubmittedLink}
 use Rattle.record_model.specs.Bases.{registered_base}
 use Rattle.record_model.specs.Bodies as bodies
 use Rattle.record_model.specs.Bodies.{linked_references}

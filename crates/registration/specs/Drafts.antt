@@ -7,7 +7,7 @@ use Rattle.rd_base.specs.declared.parameters.RegParams.{RegParams}
 use Rattle.rd_base.specs.declared.peers.Peer.{Peer}
 use Rattle.rd_base.specs.declared.records.Item.{Item}
 use Rattle.rd_base.specs.declared.records.Record.{Record}
-use Rattle.rd_base.specs.declared.submitted.SubmittedLink.{SubmittedLink}
+use Rattle.rd_base.specs.declared.submitted_links.SubmittedLink.{SubmittedLink}
 use Rattle.record_model.specs.Bases.{registered_base}
 use Rattle.record_model.specs.Bodies.{is_reference}
 use Rattle.record_model.specs.BodyFaults.{no_document, no_reference, not_limited, body_fault}

@@ -11,7 +11,7 @@ use Rattle.message_model.specs.Numbers.{uint_bytes}
 use Rattle.message_model.specs.Codes as codes_of
 use Rattle.message_model.specs.Message.{Message, Opt, longest_token}
 use Rattle.message_model.specs.OptionTable as table
-use Rattle.message_model.specs.OptionTable.{definition_of, Placed, is_recognized, is_recognized_there, placed_options, recognized_options, values}
+use Rattle.message_model.specs.OptionTable.{definition_of, Preceded, is_recognized, is_recognized_there, preceded_options, recognized_options, values}
 use Rattle.message_model.specs.Blocks.{block_value, block_of}
 use Rattle.message_model.specs.Refusals.{link_format}
 use Rattle.message_model.specs.Request.{etags_in}
@@ -80,33 +80,33 @@ abbrev NoneOf : ℕ → List Opt → Type 0
 NoneOf number options = AllByRecursion (λ (o : Opt). (o.0 == number) ≡ false) options
 
 -- nor has one where it stands
-placed_none : (number : ℕ) (options : List Opt) → NoneOf number options → AllByRecursion (λ (p : Placed). (p.1.0 == number) ≡ false) (placed_options options)
-unfolding placed_options
+placed_none : (number : ℕ) (options : List Opt) → NoneOf number options → AllByRecursion (λ (p : Preceded). (p.1.0 == number) ≡ false) (preceded_options options)
+unfolding preceded_options
 placed_none number [] none = tt
-placed_none number (o ∷ options) none = (none.0, each_map (λ (p : Placed). (p.1.0 == number) ≡ false) (λ (p : Placed). (o ∷ p.0, p.1)) (placed_options options) (placed_none number options none.1))
+placed_none number (o ∷ options) none = (none.0, each_map (λ (p : Preceded). (p.1.0 == number) ≡ false) (λ (p : Preceded). (o ∷ p.0, p.1)) (preceded_options options) (placed_none number options none.1))
 
 -- so they have no value of it, whichever stand before them
-none_picked : (number : ℕ) (placed : List Placed) → AllByRecursion (λ (p : Placed). (p.1.0 == number) ≡ false) placed
-    → map (λ (o : Opt). o.1) (filter (λ (o : Opt). o.0 == number) (map (λ (p : Placed). p.1) (filter is_recognized_there placed))) ≡ []
+none_picked : (number : ℕ) (placed : List Preceded) → AllByRecursion (λ (p : Preceded). (p.1.0 == number) ≡ false) placed
+    → map (λ (o : Opt). o.1) (filter (λ (o : Opt). o.0 == number) (map (λ (p : Preceded). p.1) (filter is_recognized_there placed))) ≡ []
 none_picked number [] none = refl
 none_picked number (p ∷ placed) none = by (is_recognized_there p) (none_picked number placed none.1)
   where
-    by : (b : Bool) → map (λ (o : Opt). o.1) (filter (λ (o : Opt). o.0 == number) (map (λ (q : Placed). q.1) (filter is_recognized_there placed))) ≡ []
-        → map (λ (o : Opt). o.1) (filter (λ (o : Opt). o.0 == number) (map (λ (q : Placed). q.1) (cond b (p ∷ filter is_recognized_there placed) (filter is_recognized_there placed)))) ≡ []
+    by : (b : Bool) → map (λ (o : Opt). o.1) (filter (λ (o : Opt). o.0 == number) (map (λ (q : Preceded). q.1) (filter is_recognized_there placed))) ≡ []
+        → map (λ (o : Opt). o.1) (filter (λ (o : Opt). o.0 == number) (map (λ (q : Preceded). q.1) (cond b (p ∷ filter is_recognized_there placed) (filter is_recognized_there placed)))) ≡ []
     by true rest = rw none.0 rest
     by false rest = rest
 
 -- so there is no value of the number
 values_none : (number : ℕ) (options : List Opt) → NoneOf number options → values number options ≡ []
 unfolding values recognized_options
-values_none number options none = none_picked number (placed_options options) (placed_none number options none)
+values_none number options none = none_picked number (preceded_options options) (placed_none number options none)
 
 -- a tag before other options is the one
 values_tag : (tag : List ℕ) (others : List Opt) → length tag ≡ 8 → NoneOf table.etag others → values table.etag ((table.etag, tag) ∷ others) ≡ tag ∷ []
-unfolding values recognized_options placed_options definition_of
+unfolding values recognized_options preceded_options definition_of
 values_tag tag others short none =
-    let rest = none_picked table.etag (map (λ (p : Placed). ((table.etag, tag) ∷ p.0, p.1)) (placed_options others))
-    (each_map (λ (p : Placed). (p.1.0 == table.etag) ≡ false) (λ (p : Placed). ((table.etag, tag) ∷ p.0, p.1)) (placed_options others) (placed_none table.etag others none)) in
+    let rest = none_picked table.etag (map (λ (p : Preceded). ((table.etag, tag) ∷ p.0, p.1)) (preceded_options others))
+    (each_map (λ (p : Preceded). (p.1.0 == table.etag) ≡ false) (λ (p : Preceded). ((table.etag, tag) ∷ p.0, p.1)) (preceded_options others) (placed_none table.etag others none)) in
     rw short (ap (λ (vs : List (List ℕ)). tag ∷ vs) rest)
 
 -- the other options are no tags
