@@ -6,8 +6,8 @@ use Rattle.std.specs.List.{list_all}
 use Rattle.std.proofs.lemmas.Bool.{and_parts, false≢true}
 use Rattle.link_model.specs.Characters.{comma, less_than_sign, greater_than_sign, is_empty, is_not_control, is_target_character}
 use Rattle.link_model.specs.Documents.{Parameter, Link, parameters_text, link_text, is_parameter, is_link}
-use Rattle.link_model.specs.DocumentReading.{at_beginning, behind_part, links_from}
-use Rattle.link_model.proofs.DocumentPlaces.{further, links_text}
+use Rattle.link_model.specs.DocumentReading.{at_beginning, after_part, links_from}
+use Rattle.link_model.proofs.DocumentPoints.{further, links_text}
 use Rattle.link_model.proofs.DocumentFound.{Spells, links_from_found}
 use Rattle.link_model.proofs.DocumentLaws.{links_from_only}
 use Rattle.rd_base.proofs.lemmas.Options.{some_same, none_some}
@@ -38,7 +38,7 @@ pub parameters_of-alike : (parameters : List Parameter) → list_all is_paramete
 unfolding parameters_of
 parameters_of-alike parameters h =
     let l : Link = record { target = []; parameters = parameters } in
-    ap (option_and_then lone_parameters) (links_from_only (parameters_text parameters) behind_part (l ∷ []) (rw h refl) (append-nil (parameters_text parameters)))
+    ap (option_and_then lone_parameters) (links_from_only (parameters_text parameters) after_part (l ∷ []) (rw h refl) (append-nil (parameters_text parameters)))
 
 -- what a text that spells parameters is
 pub record SpelledParameters (text : List ℕ) (parameters : List Parameter) : Type 0 where
@@ -47,9 +47,9 @@ pub record SpelledParameters (text : List ℕ) (parameters : List Parameter) : T
 
 pub parameters_spelled : (text : List ℕ) (parameters : List Parameter) → parameters_of text ≡ Some parameters → SpelledParameters text parameters
 unfolding parameters_of
-parameters_spelled text parameters e = by_links (links_from behind_part text) refl e
+parameters_spelled text parameters e = by_links (links_from after_part text) refl e
   where
-    by_one : (l : Link) → Spells behind_part text (l ∷ []) → Some l.parameters ≡ Some parameters → SpelledParameters text parameters
+    by_one : (l : Link) → Spells after_part text (l ∷ []) → Some l.parameters ≡ Some parameters → SpelledParameters text parameters
     by_one l s e =
         let same : l.parameters ≡ parameters = some_same e in
         let whole : text ≡ parameters_text l.parameters = s.0 ∙ append-nil (parameters_text l.parameters) in
@@ -57,10 +57,10 @@ parameters_spelled text parameters e = by_links (links_from behind_part text) re
         let more = and_parts (is_empty l.target) (list_all is_parameter l.parameters) parts.0 in
         subst (λ (ps : List Parameter). SpelledParameters text ps) same (record { text_is = whole; each = more.1 })
 
-    by_links : (o : Option (List Link)) → links_from behind_part text ≡ o → option_and_then lone_parameters o ≡ Some parameters → SpelledParameters text parameters
+    by_links : (o : Option (List Link)) → links_from after_part text ≡ o → option_and_then lone_parameters o ≡ Some parameters → SpelledParameters text parameters
     by_links None f e = absurd (none_some e)
     by_links (Some []) f e = absurd (none_some e)
-    by_links (Some (l ∷ [])) f e = by_one l (links_from_found behind_part text (l ∷ []) f) e
+    by_links (Some (l ∷ [])) f e = by_one l (links_from_found after_part text (l ∷ []) f) e
     by_links (Some (l ∷ m ∷ links)) f e = absurd (none_some e)
 
 -- ---- the parts of the first link

@@ -3,7 +3,7 @@ use Rattle.std.proofs.Common.{◌≡◌, ℕ, true, List, [], ◌∷◌, Option,
 use Rattle.std.specs.List.{list_all}
 use Rattle.std.proofs.lemmas.Bool.{and_parts, false≢true}
 use Rattle.link_model.specs.Documents.{Parameter, Link, parameters_text, is_parameter, is_link}
-use Rattle.link_model.proofs.DocumentPlaces.{links_text}
+use Rattle.link_model.proofs.DocumentPoints.{links_text}
 use Rattle.rd_base.proofs.lemmas.Options.{some_same, none_some}
 use Rattle.link_format.specs.Parts.{link_parts}
 use Rattle.link_format.specs.Left.{listed, links_of, links_in, parameters_of, parameters_in}

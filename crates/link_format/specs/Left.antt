@@ -1,7 +1,7 @@
 -- The links of a text and the parameters of a link's text, as lists.
 use Rattle.std.specs.Prelude.{ℕ, List, [], ◌∷◌, Option, Some, None, option_and_then}
 use Rattle.link_model.specs.Documents.{Parameter, Link}
-use Rattle.link_model.specs.DocumentReading.{at_beginning, behind_part, links_from}
+use Rattle.link_model.specs.DocumentReading.{at_beginning, after_part, links_from}
 
 -- the list, and the empty one where there is none
 abbrev pub listed : {A : Type 0} → Option (List A) → List A
@@ -23,7 +23,7 @@ lone_parameters _ = None
 
 -- the parameters that a text behind a target spells, and None where it spells none
 unfoldable pub parameters_of : List ℕ → Option (List Parameter)
-parameters_of text = option_and_then lone_parameters (links_from behind_part text)
+parameters_of text = option_and_then lone_parameters (links_from after_part text)
 
 -- the parameters of a text behind a target
 abbrev pub parameters_in : List ℕ → List Parameter

@@ -1,4 +1,4 @@
-pub mod Places
+pub mod Points
 pub mod Ranges
 pub mod Cuts
 pub mod Parts

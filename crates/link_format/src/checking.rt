@@ -12,11 +12,11 @@ pub struct LinkBad {
     pub at: usize,
 }
 
-/// The links of a body, which is UTF-8 as a whole and spells a document, or the place where it stops being the beginning of one (RFC 6690 section 2). Takes no memory.
+/// The links of a body, which is UTF-8 as a whole and spells a document, or the offset at which it stops being the beginning of one (RFC 6690 section 2). Takes no memory.
 pub fn check(body: &[u8]) -> Result<Links<'_>, LinkBad>
     ensures ok { IfOk result (λ links. document body.now ≡ Some links) }
     ensures refused { IfErr result (λ bad. document body.now ≡ None) }
-    ensures place { IfErr result (λ bad. bad.at ≡ good_prefix body.now) }
+    ensures offset { IfErr result (λ bad. bad.at ≡ good_prefix body.now) }
 {
     let reach = walk(body);
     if !reach.is_document {

@@ -7,7 +7,7 @@ mod inner;
 mod links;
 mod parameters;
 mod parting;
-mod places;
+mod points;
 mod quoting;
 mod ranges;
 mod values;

@@ -2,7 +2,7 @@
 ghost use Rattle.std.specs.Prelude.{◌≡◌, ◌≤◌, ◌-◌, length, false, is_some};
 ghost use Rattle.link_model.specs.DocumentReading.{document, good_prefix};
 
-use crate::places::{Place, may_end, place_after};
+use crate::points::{Point, may_end, point_after};
 use crate::ranges::{OctetRange, tails_after};
 
 /// What a walk over octets finds.
@@ -19,23 +19,23 @@ pub fn walk(body: &[u8]) -> Reach
     ensures good_prefix { result.good_prefix ≡ good_prefix body.now }
     ensures document { result.is_document ≡ is_some (document body.now) }
 {
-    let mut place = Place::Beginning;
+    let mut point = Point::Beginning;
     let mut tails: &'static [OctetRange] = &[];
     let mut rest = body;
     'octets: while let Some((octet, more)) = rest.split_first() {
-        let Some(next_place) = place_after(place, *octet) else {
+        let Some(next_point) = point_after(point, *octet) else {
             return stopped(body, rest);
         };
         let Some(next_tails) = tails_after(tails, *octet) else {
             return stopped(body, rest);
         };
-        place = next_place;
+        point = next_point;
         tails = next_tails;
         rest = more;
     }
     Reach {
         good_prefix: body.len(),
-        is_document: tails.is_empty() && may_end(place),
+        is_document: tails.is_empty() && may_end(point),
     }
 }
 

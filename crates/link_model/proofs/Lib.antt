@@ -1,7 +1,7 @@
 pub mod DocumentFound
 pub mod DocumentGoes
 pub mod DocumentLaws
-pub mod DocumentPlaces
+pub mod DocumentPoints
 pub mod DocumentPrefix
 pub mod DocumentSteps
 pub mod QuotingLaws

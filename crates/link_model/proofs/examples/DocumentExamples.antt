@@ -69,13 +69,13 @@ space_before_comma : FailsAt (codes "<a> ,<b>") 3
 unfolding document_on_literals
 space_before_comma = (refl, refl)
 
-space_behind_comma : FailsAt (codes "<a>, <b>") 4
+space_after_comma : FailsAt (codes "<a>, <b>") 4
 unfolding document_on_literals
-space_behind_comma = (refl, refl)
+space_after_comma = (refl, refl)
 
-space_behind_semicolon : FailsAt (codes "<a>; t=b") 4
+space_after_semicolon : FailsAt (codes "<a>; t=b") 4
 unfolding document_on_literals
-space_behind_semicolon = (refl, refl)
+space_after_semicolon = (refl, refl)
 
 space_at_equals_sign : FailsAt (codes "<a>;t =b") 5
 unfolding document_on_literals
@@ -109,9 +109,9 @@ backslash_before_quote : FailsAt (codes "<a>;t=\"x\\\"") 10
 unfolding document_on_literals
 backslash_before_quote = (refl, refl)
 
-text_behind_quotes : FailsAt (codes "<a>;t=\"x\"y") 9
+text_after_quotes : FailsAt (codes "<a>;t=\"x\"y") 9
 unfolding document_on_literals
-text_behind_quotes = (refl, refl)
+text_after_quotes = (refl, refl)
 
 control_in_quotes : FailsAt (codes "<a>;t=\"" ++ (9 ∷ codes "\"")) 7
 unfolding document_on_literals

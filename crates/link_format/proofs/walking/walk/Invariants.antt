@@ -1,10 +1,10 @@
 use Rattle.std.proofs.Common.{length}
-use Rattle.link_format.specs.Places.{place_in}
+use Rattle.link_format.specs.Points.{point_in}
 use Rattle.link_format.proofs.WalkLemmas.{Walked}
 use Rattle.link_format.proofs.walking.walk.Given as goal
 
 abbrev pub invariant-octets : goal.invariant-octets
-invariant-octets l = Walked l.body l.rest (place_in l.place) l.tails
+invariant-octets l = Walked l.body l.rest (point_in l.point) l.tails
 
 abbrev pub decreases-octets : goal.decreases-octets
 decreases-octets l = length l.rest
