@@ -6,7 +6,7 @@ use Rattle.std.proofs.lemmas.Str.{IsUtf8-from_is_utf8}
 use Rattle.std.proofs.lemmas.Bool.{false≢true}
 use Rattle.link_model.specs.Documents.{Link}
 use Rattle.link_model.specs.DocumentReading.{document}
-use Rattle.link_format.specs.Left.{links_of, links_in}
+use Rattle.link_format.specs.LinksOfText.{links_of, links_in}
 
 -- a document is text, and its links are those of the text
 pub record Checked (bytes : List ℕ) : Type 0 where

@@ -3,8 +3,9 @@ use Rattle.std.proofs.Common.{◌≡◌, ℕ, zero, suc, ◌+◌, ◌-◌, ◌�
 use Rattle.std.specs.Prelude.{◌==◌, if◌then◌else◌}
 use Rattle.std.proofs.lemmas.Bool.{eqb-true, and_parts, cases_lt}
 use Rattle.std.specs.Prelude.{slice_index}
+use Rattle.std.specs.Str.{IsCharBoundary}
 use Rattle.link_format.specs.Cuts.{quotes_after, is_separator, octets_before, onto_before, cut, from_separator}
-use Rattle.link_format.specs.declared.quoting.Quotes.{Quotes}
+use Rattle.link_format.specs.declared.cuts.Quotes.{Quotes}
 
 pub octets_before_end : (separator : ℕ) (quotes : Quotes) → octets_before separator quotes [] ≡ 0
 unfolding octets_before
@@ -45,6 +46,10 @@ cut_at separator quotes (b ∷ bs) = by_test (is_separator separator quotes b) r
     by_test true e c = record { within = omega arith; before = refl; whole = λ h. absurd (omega arith); behind = λ h. refl; there = λ h. eqb-true b separator ((and_parts (b == separator) _ e).0) }
     by_test false e c = further (octets_before separator (quotes_after quotes b) bs) (cut separator (quotes_after quotes b) bs) c
 
+-- before a separator of ASCII a character ends
+pub boundary : (separator n : ℕ) (text : List ℕ) (parts : List ℕ × Option (List ℕ)) → CutAt separator text n parts → separator < 128 → IsCharBoundary text n
+boundary separator n text parts c low = (c.within, λ below high. let e = c.there below in absurd (omega arith))
+
 -- a count of octets has come to this rest of a text
 pub record Counted (separator : ℕ) (first : Quotes) (text : List ℕ) (quotes : Quotes) (rest : List ℕ) : Type 0 where
   pub within : length rest ≤ length text
@@ -84,7 +89,7 @@ drop_whole (suc n) [] h = absurd (omega arith)
 drop_whole zero (b ∷ bs) h = absurd (omega arith)
 drop_whole (suc n) (b ∷ bs) h = drop_whole n bs (omega arith)
 
--- what stands from a separator on is what stands behind the octets before it
+-- what stands from a separator on is what stands after the octets before it
 pub rest_at : (separator n : ℕ) (text : List ℕ) (parts : List ℕ × Option (List ℕ)) → CutAt separator text n parts → drop n text ≡ from_separator separator parts.1
 rest_at separator n text parts c = by_order (cases_lt n (length text))
   where

@@ -1,6 +1,6 @@
 pub mod WalkLemmas
 pub mod CutLemmas
-pub mod Passing
+pub mod PassedTexts
 pub mod LinkLaws
 pub mod LinkSteps
 pub mod ParameterSteps

@@ -11,11 +11,11 @@ use Rattle.link_model.proofs.DocumentPoints.{further, links_text}
 use Rattle.link_model.proofs.DocumentFound.{Spells, links_from_found}
 use Rattle.link_model.proofs.DocumentLaws.{links_from_only}
 use Rattle.rd_base.proofs.lemmas.Options.{some_same, none_some}
-use Rattle.link_format.specs.declared.quoting.Quotes.TheVariants.{Unread, Outside}
+use Rattle.link_format.specs.declared.cuts.Quotes.TheVariants.{Unread, Outside}
 use Rattle.link_format.specs.Cuts.{cut}
 use Rattle.link_format.specs.Parts.{text_or_empty, parts_behind, parts_opened, link_parts}
-use Rattle.link_format.specs.Left.{listed, links_of, lone_parameters, parameters_of, parameters_in}
-use Rattle.link_format.proofs.Passing.{onto_front, cut_there, cut_end, passes_unread, passes_parameters}
+use Rattle.link_format.specs.LinksOfText.{listed, links_of, lone_parameters, parameters_of, parameters_in}
+use Rattle.link_format.proofs.PassedTexts.{onto_front, cut_there, cut_end, passes_unread, passes_parameters}
 
 -- ---- the text of links
 

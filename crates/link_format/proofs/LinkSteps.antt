@@ -6,7 +6,7 @@ use Rattle.link_model.specs.Documents.{Parameter, Link, parameters_text, is_para
 use Rattle.link_model.proofs.DocumentPoints.{links_text}
 use Rattle.rd_base.proofs.lemmas.Options.{some_same, none_some}
 use Rattle.link_format.specs.Parts.{link_parts}
-use Rattle.link_format.specs.Left.{listed, links_of, links_in, parameters_of, parameters_in}
+use Rattle.link_format.specs.LinksOfText.{listed, links_of, links_in, parameters_of, parameters_in}
 use Rattle.link_format.proofs.LinkLaws.{link_of-alike, links_spelled, parameters_of-alike, first_parts, no_parts}
 
 -- what the parts of the first link say of a text

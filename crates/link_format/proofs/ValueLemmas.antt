@@ -50,7 +50,7 @@ escaped_high : (xs rest : List ℕ) → 0 < length xs → list_all is_high xs �
 escaped_high [] rest l h = absurd (omega arith)
 escaped_high (b ∷ xs) rest l h = let parts = and_parts (is_high b) (list_all is_high xs) h in ap (λ (t : List ℕ). b ∷ t) (content_high xs rest parts.1)
 
--- a character behind a backslash stands for itself
+-- a character after a backslash stands for itself
 pub content_escaped : (c : ℕ) (rest : List ℕ) → content_up_to_quote true (encode_utf8 c ++ rest) ≡ encode_utf8 c ++ content_up_to_quote false rest
 content_escaped c rest = by_size (cases_lt c 128)
   where

@@ -13,7 +13,7 @@ use Rattle.link_model.proofs.Utf8Reading.{is_utf8_after, is_utf8_after-IsUtf8}
 use Rattle.link_model.proofs.Utf8Found.{IsUtf8-is_utf8_after}
 use Rattle.link_format.specs.Ranges.{tails_after}
 
--- how many octets may stand one behind the other, in the grammar and in text
+-- how many octets may stand one after the other, in the grammar and in text
 abbrev pub reach : Point → List OctetRange → List ℕ → ℕ
 reach point tails bytes = min (utf8_prefix_after tails bytes) (prefix_from point bytes)
 

@@ -2,5 +2,5 @@ pub mod Points
 pub mod Ranges
 pub mod Cuts
 pub mod Parts
-pub mod Left
+pub mod LinksOfText
 pub mod Views

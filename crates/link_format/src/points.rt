@@ -1,4 +1,4 @@
-// The points of the grammar of links, and what may stand at each (RFC 6690 section 2).
+//! The points of the grammar of links, and what may stand at each (RFC 6690 section 2).
 ghost use Rattle.std.specs.Prelude.{◌≡◌, option_map, is_some};
 ghost use Rattle.link_model.specs.DocumentReading as grammar;
 ghost use Rattle.link_format.specs.Points.{point_in};
@@ -43,7 +43,7 @@ fn point_if(allowed: bool, point: Point) -> Option<Point>
     if allowed { Some(point) } else { None }
 }
 
-/// The point behind an octet that follows a link's target or a whole parameter.
+/// The point after an octet that follows a link's target or a whole parameter.
 fn point_after_part(octet: u8) -> Option<Point>
     ensures { option_map point_in result ≡ grammar.point_after_part octet }
 {
@@ -53,7 +53,7 @@ fn point_after_part(octet: u8) -> Option<Point>
     point_if(octet == b',', Link)
 }
 
-/// The point behind an octet that follows a parameter's name.
+/// The point after an octet that follows a parameter's name.
 fn point_after_name(octet: u8) -> Option<Point>
     ensures { option_map point_in result ≡ grammar.point_after_name octet }
 {
@@ -63,7 +63,7 @@ fn point_after_name(octet: u8) -> Option<Point>
     point_after_part(octet)
 }
 
-/// The point behind an octet of a target.
+/// The point after an octet of a target.
 #[tactic(auto, unfolding(link_model::specs::DocumentReading::point_after))]
 fn point_in_target(octet: u8) -> Option<Point>
     ensures { option_map point_in result ≡ grammar.point_after grammar.at_target octet }
@@ -74,7 +74,7 @@ fn point_in_target(octet: u8) -> Option<Point>
     point_if(is_target_character(octet), Target)
 }
 
-/// The point behind a further octet of a name.
+/// The point after a further octet of a name.
 #[tactic(auto, unfolding(link_model::specs::DocumentReading::point_after))]
 fn point_within_name(octet: u8) -> Option<Point>
     ensures { option_map point_in result ≡ grammar.point_after grammar.within_name octet }
@@ -88,7 +88,7 @@ fn point_within_name(octet: u8) -> Option<Point>
     point_after_name(octet)
 }
 
-/// The point behind the first octet of a value.
+/// The point after the first octet of a value.
 #[tactic(auto, unfolding(link_model::specs::DocumentReading::point_after))]
 fn point_at_value(octet: u8) -> Option<Point>
     ensures { option_map point_in result ≡ grammar.point_after grammar.at_value octet }
@@ -99,7 +99,7 @@ fn point_at_value(octet: u8) -> Option<Point>
     point_if(is_token_character(octet), Token)
 }
 
-/// The point behind a further octet of a token.
+/// The point after a further octet of a token.
 #[tactic(auto, unfolding(link_model::specs::DocumentReading::point_after))]
 fn point_in_token(octet: u8) -> Option<Point>
     ensures { option_map point_in result ≡ grammar.point_after grammar.in_token octet }
@@ -110,7 +110,7 @@ fn point_in_token(octet: u8) -> Option<Point>
     point_after_part(octet)
 }
 
-/// The point behind an octet of a quoted string.
+/// The point after an octet of a quoted string.
 #[tactic(auto, unfolding(link_model::specs::DocumentReading::point_after))]
 fn point_in_quotes(octet: u8) -> Option<Point>
     ensures { option_map point_in result ≡ grammar.point_after grammar.in_quotes octet }
@@ -124,7 +124,7 @@ fn point_in_quotes(octet: u8) -> Option<Point>
     point_if(is_not_control(octet), Quotes)
 }
 
-/// The point behind an octet, where it may stand at the point.
+/// The point after an octet, where it may stand at the point.
 #[tactic(auto, unfolding(link_model::specs::DocumentReading::point_after))]
 pub fn point_after(point: Point, octet: u8) -> Option<Point>
     ensures { option_map point_in result ≡ grammar.point_after (point_in point) octet }

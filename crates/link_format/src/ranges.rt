@@ -1,4 +1,4 @@
-// Text in UTF-8, octet by octet (RFC 3629 section 4).
+//! Text in UTF-8, octet by octet (RFC 3629 section 4).
 ghost use Rattle.std.specs.Prelude.{◌≡◌, option_map};
 ghost use Rattle.std.specs.Int.{is_in_range};
 ghost use Rattle.link_model.specs.Utf8Prefix as utf8;

@@ -1,4 +1,4 @@
-// Documents and what is none, with the offset at which it stops being the beginning of one.
+//! Documents and what is none, with the offset at which it stops being the beginning of one.
 use crate::{LinkBad, Links, check, params, quoted, value_of};
 use rd_base::Starved;
 use std::alloc::Global;

@@ -1,7 +1,7 @@
 use Rattle.std.proofs.Common.{length}
 use Rattle.link_format.specs.Points.{point_in}
 use Rattle.link_format.proofs.WalkLemmas.{Walked}
-use Rattle.link_format.proofs.walking.walk.Given as goal
+use Rattle.link_format.proofs.reach.walk.Given as goal
 
 abbrev pub invariant-octets : goal.invariant-octets
 invariant-octets l = Walked l.body l.rest (point_in l.point) l.tails

@@ -1,4 +1,4 @@
-// One walk over octets: how far they begin a document, and whether they are one.
+//! One walk over octets: how far they begin a document, and whether they are one.
 ghost use Rattle.std.specs.Prelude.{◌≡◌, ◌≤◌, ◌-◌, length, false, is_some};
 ghost use Rattle.link_model.specs.DocumentReading.{document, good_prefix};
 

@@ -1,6 +1,6 @@
 use Rattle.std.proofs.Common.{sym, ◌∙◌, subst}
 use Rattle.link_format.proofs.CutLemmas.{Counted, counted_start, counted_step, counted_there, counted_end}
-use Rattle.link_format.proofs.quoting.octets_before.Goals as goal
+use Rattle.link_format.proofs.cuts.octets_before.Goals as goal
 
 pub octets-init : goal.octets-init
 octets-init c = counted_start c.args.separator c.args.quotes c.args.text.now

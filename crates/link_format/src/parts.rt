@@ -1,10 +1,10 @@
-// The first link of a document, and the first parameter of a link, in their parts (RFC 6690 section 2).
+//! The first link of a document, and the first parameter of a link, in their parts (RFC 6690 section 2).
 ghost use Rattle.std.specs.Prelude.{◌≡◌, option_map};
 ghost use Rattle.link_format.specs.Parts as parts;
 
-use crate::quoting::{Quotes, cut, split};
+use crate::cuts::{Quotes, cut, split};
 
-/// The target of the first link, its parameters, and the links behind its comma.
+/// The target of the first link, its parameters, and the links after its comma.
 #[tactic(auto, unfolding(crate::specs::Parts::link_parts))]
 pub fn link_parts(text: &str) -> Option<(&str, &str, &str)>
     ensures { option_map (λ p. (p.0.now, p.1.now, p.2.now)) result ≡ parts.link_parts text.now }
@@ -15,7 +15,7 @@ pub fn link_parts(text: &str) -> Option<(&str, &str, &str)>
     Some((target, params, further.unwrap_or("")))
 }
 
-/// The first parameter whole, its name, its value, and the parameters behind it.
+/// The first parameter whole, its name, its value, and the parameters after it.
 #[tactic(auto, unfolding(crate::specs::Parts::parameter_parts))]
 pub fn parameter_parts(text: &str) -> Option<(&str, &str, Option<&str>, &str)>
     ensures { option_map (λ p. (p.0.now, p.1.now, option_map (λ value. value.now) p.2, p.3.now)) result ≡ parts.parameter_parts text.now }

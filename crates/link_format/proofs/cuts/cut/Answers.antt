@@ -3,15 +3,11 @@ use Rattle.std.proofs.Math.Seq.{take-length}
 use Rattle.std.specs.Prelude.{slice_range, ◌-◌}
 use Rattle.std.specs.Str.{IsUtf8, IsCharBoundary}
 use Rattle.std.proofs.lemmas.Str.{IsCharBoundary-after_ascii}
-use Rattle.link_format.proofs.CutLemmas.{CutAt, cut_counted}
-use Rattle.link_format.proofs.quoting.cut.Goals as goal
+use Rattle.link_format.proofs.CutLemmas.{CutAt, boundary, cut_counted}
+use Rattle.link_format.proofs.cuts.cut.Goals as goal
 
 whole_before : (separator n : ℕ) (text : List ℕ) (parts : List ℕ × Option (List ℕ)) → CutAt separator text n parts → n ≡ length text → text ≡ parts.0
 whole_before separator n text parts c e = sym (c.before ∙ ap (λ (m : ℕ). take m text) e ∙ take-length text)
-
-boundary : (separator n : ℕ) (text : List ℕ) (parts : List ℕ × Option (List ℕ)) → CutAt separator text n parts → separator < 128 → IsCharBoundary text n
-boundary separator n text parts c low =
-    (c.within, λ below high. let e = c.there below in absurd (omega arith))
 
 behind : (separator n : ℕ) (text : List ℕ) (parts : List ℕ × Option (List ℕ)) → CutAt separator text n parts → n < length text → separator < 128 → IsUtf8 text → IsCharBoundary text (n + 1)
 behind separator n text parts c below low utf8 = IsCharBoundary-after_ascii text n utf8 below (let e = c.there below in omega arith)

@@ -1,8 +1,8 @@
 use Rattle.std.proofs.Common.{List, Some, is_some, sym, ap, ◌∙◌}
 use Rattle.link_model.specs.Documents.{Link}
-use Rattle.link_format.specs.Left.{links_of, links_in}
+use Rattle.link_format.specs.LinksOfText.{links_of, links_in}
 use Rattle.link_format.proofs.CheckLemmas.{checked_by}
-use Rattle.link_format.proofs.checking.check.Goals as goal
+use Rattle.link_format.proofs.documents.check.Goals as goal
 
 pub from_utf8_unchecked-text-requires : goal.from_utf8_unchecked-text-requires
 from_utf8_unchecked-text-requires c =

@@ -1,4 +1,4 @@
-// Quoted strings within a text, and its first octet of a kind outside them (RFC 6690 section 2).
+//! Quoted strings within a text, and its first octet of a kind outside them (RFC 6690 section 2).
 ghost use Rattle.std.specs.Prelude.{◌≡◌, ◌≤◌, ◌<◌, length, option_map};
 ghost use Rattle.link_format.specs.Cuts as cuts;
 
@@ -13,7 +13,7 @@ pub enum Quotes {
     Outside,
     /// In a quoted string.
     Inside,
-    /// Behind a backslash in a quoted string.
+    /// After a backslash in a quoted string.
     Escaped,
 }
 
@@ -24,7 +24,7 @@ fn is_outside(quotes: Quotes) -> bool
     matches!(quotes, Quotes::Unread | Quotes::Outside)
 }
 
-/// How the text behind an octet is read.
+/// How the text after an octet is read.
 fn quotes_after(quotes: Quotes, octet: u8) -> Quotes
     ensures { result ≡ cuts.quotes_after quotes octet }
 {
@@ -64,7 +64,7 @@ fn octets_before(separator: u8, quotes: Quotes, text: &[u8]) -> usize
     text.len()
 }
 
-/// What stands before the first separator, and what stands behind it where there is one.
+/// What stands before the first separator, and what stands after it where there is one.
 pub fn cut(separator: u8, quotes: Quotes, text: &str) -> (&str, Option<&str>)
     requires { separator < 128 }
     ensures before { result.0.now ≡ (cuts.cut separator quotes text.now).0 }

@@ -7,8 +7,8 @@ use Rattle.std.proofs.Math.Bool.{and-false}
 use Rattle.link_model.specs.Characters.{quote_mark, asterisk, comma, backslash, semicolon, equals_sign, is_empty, is_not_control, is_attribute_name_character, is_token_character}
 use Rattle.link_model.specs.Documents.{Parameter, value_text, parameter_text, parameters_text, are_name_characters, is_parameter_name, closes_quotes, is_quoted_string, is_token, is_value, is_parameter}
 use Rattle.rd_base.proofs.lemmas.Numbers.{other_octet}
-use Rattle.link_format.specs.declared.quoting.Quotes.{Quotes}
-use Rattle.link_format.specs.declared.quoting.Quotes.TheVariants.{Unread, Leading, Outside, Inside, Escaped}
+use Rattle.link_format.specs.declared.cuts.Quotes.{Quotes}
+use Rattle.link_format.specs.declared.cuts.Quotes.TheVariants.{Unread, Leading, Outside, Inside, Escaped}
 use Rattle.link_format.specs.Cuts.{quotes_after, is_separator, onto_before, cut}
 
 -- octets in front of the first of two texts
@@ -141,7 +141,7 @@ passes_value separator None s h = passes_none separator Outside
 passes_value separator (Some value) s h =
     plain_octet separator equals_sign value s.no_equals refl (by_either separator value (is_token value) (is_quoted_string value) s refl refl h)
 
--- a parameter behind its semicolon
+-- a parameter after its semicolon
 pub passes_parameter : (separator : ℕ) (p : Parameter) → Separates separator → is_parameter p ≡ true → Passes separator Outside (p.name ++ value_text p.value) Outside
 passes_parameter separator p s h =
     let parts = and_parts (is_parameter_name p.name) (is_value p.value) h in

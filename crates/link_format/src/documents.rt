@@ -1,9 +1,9 @@
-// Whether a body is a link document (RFC 6690 section 2).
+//! Whether a body is a link document (RFC 6690 section 2).
 ghost use Rattle.std.specs.Prelude.{◌≡◌, IfOk, IfErr};
 ghost use Rattle.link_model.specs.DocumentReading.{document, good_prefix};
 
 use crate::links::{Links, links_of_text};
-use crate::walking::walk;
+use crate::reach::walk;
 
 /// The octets are no document.
 #[derive(Clone, Copy, Debug, PartialEq, Eq)]

@@ -1,6 +1,6 @@
 use Rattle.std.proofs.Common.{sym, ap, ◌∙◌}
 use Rattle.link_format.proofs.WalkLemmas.{walked_start, walked_step, walked_no_point, walked_no_tails, walked_whole, walked_end, walked_short}
-use Rattle.link_format.proofs.walking.walk.Goals as goal
+use Rattle.link_format.proofs.reach.walk.Goals as goal
 
 pub octets-init : goal.octets-init
 octets-init c = walked_start c.args.body.now

@@ -21,10 +21,10 @@ abbrev pub lone_parameters : List Link → Option (List Parameter)
 lone_parameters (l ∷ []) = Some l.parameters
 lone_parameters _ = None
 
--- the parameters that a text behind a target spells, and None where it spells none
+-- the parameters that a text after a target spells, and None where it spells none
 unfoldable pub parameters_of : List ℕ → Option (List Parameter)
 parameters_of text = option_and_then lone_parameters (links_from after_part text)
 
--- the parameters of a text behind a target
+-- the parameters of a text after a target
 abbrev pub parameters_in : List ℕ → List Parameter
 parameters_in text = listed (parameters_of text)

@@ -1,10 +1,6 @@
-use Rattle.std.proofs.Common.{ℕ, ◌<◌, List, Option, sym, ◌∙◌, arith}
-use Rattle.std.specs.Str.{IsCharBoundary}
-use Rattle.link_format.proofs.CutLemmas.{CutAt, cut_counted, rest_at}
-use Rattle.link_format.proofs.quoting.split.Goals as goal
-
-boundary : (separator n : ℕ) (text : List ℕ) (parts : List ℕ × Option (List ℕ)) → CutAt separator text n parts → separator < 128 → IsCharBoundary text n
-boundary separator n text parts c low = (c.within, λ below high. let e = c.there below in absurd (omega arith))
+use Rattle.std.proofs.Common.{sym, ◌∙◌}
+use Rattle.link_format.proofs.CutLemmas.{boundary, cut_counted, rest_at}
+use Rattle.link_format.proofs.cuts.split.Goals as goal
 
 pub split_at-requires : goal.split_at-requires
 split_at-requires c = boundary c.args.separator c.octets_before-at.result c.args.text.now _ (cut_counted c.args.separator c.args.quotes c.as_bytes.result.now c.args.text.now c.octets_before-at.result c.octets_before-at.ensures.value c.as_bytes.ensures.value) c.requires
