@@ -8,7 +8,7 @@ use Rattle.link_model.specs.Characters.{slash}
 use Rattle.reference_model.specs.References.{has_octet}
 use Rattle.reference_model.proofs.ReferenceCuts.{has_octet-append}
 use Rattle.ref_resolve.specs.Paths.{before_last}
-use Rattle.ref_resolve.proofs.Kept.{before_last-slash}
+use Rattle.ref_resolve.proofs.KeptSegments.{before_last-slash}
 
 -- another octet at the end changes nothing
 ends_otherwise : (front : List ℕ) (c : ℕ) → c ≢ slash → before_last slash (front ++ c ∷ []) ≡ before_last slash front
@@ -42,10 +42,10 @@ unfolding before_last
 last_nowhere text [] h b = sym b
 last_nowhere text (c ∷ cs) h b = absurd (omega (arith, h))
 
--- what is behind a place, cut at a place of its own
-pub cut_at_place : (old bytes new : List ℕ) (start place : ℕ) → bytes ≡ old → before_last slash (take (length bytes - start) (drop start bytes)) ≡ take place (take (length bytes - start) (drop start bytes)) → new ≡ take (start + place) old
+-- what is after an offset, cut at an offset of its own
+pub cut_at_offset : (old bytes new : List ℕ) (start offset : ℕ) → bytes ≡ old → before_last slash (take (length bytes - start) (drop start bytes)) ≡ take offset (take (length bytes - start) (drop start bytes)) → new ≡ take (start + offset) old
     → drop start new ≡ before_last slash (drop start old)
-cut_at_place old bytes new start place e b n =
+cut_at_offset old bytes new start offset e b n =
     let whole : take (length bytes - start) (drop start bytes) ≡ drop start bytes = ap (λ (k : ℕ). take k (drop start bytes)) (sym (length-drop start bytes)) ∙ take-length (drop start bytes) in
     let same : take (length bytes - start) (drop start bytes) ≡ drop start old = whole ∙ ap (drop start) e in
-    ap (drop start) n ∙ drop-take start place old ∙ ap (take place) (sym same) ∙ sym b ∙ ap (before_last slash) same
+    ap (drop start) n ∙ drop-take start offset old ∙ ap (take offset) (sym same) ∙ sym b ∙ ap (before_last slash) same

@@ -1,8 +1,8 @@
-pub mod Cutting
-pub mod Reaching
-pub mod Judging
+pub mod CutLaws
+pub mod ReachLaws
+pub mod AllowedComponents
 pub mod Segments
-pub mod Kept
+pub mod KeptSegments
 pub mod LastSlash
-pub mod Growing
-pub mod Merged
+pub mod PathGrowth
+pub mod MergedPaths

@@ -30,7 +30,7 @@ closing_behind segment path = rw (first_segment path) refl
 pub closing_more : (segment next path : List ℕ) → next ≡ slash ∷ path → with_closing_slash (segment ∷ segments_behind next) ≡ segment ∷ with_closing_slash (segments_of path)
 closing_more segment next path e = ap (λ (n : List ℕ). with_closing_slash (segment ∷ segments_behind n)) e ∙ closing_behind segment path
 
--- what begins with no slash behind a slash is nothing
+-- what begins with no slash after a slash is nothing
 pub no_slash_behind : (path : List ℕ) → (is_empty path || begins_with slash path) ≡ true → begins_with slash path ≡ false → path ≡ []
 no_slash_behind [] h k = refl
 no_slash_behind (c ∷ cs) h k = absurd (true_false (sym h ∙ k))

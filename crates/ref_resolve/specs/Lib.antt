@@ -1,5 +1,5 @@
-pub mod Seen
+pub mod ComponentsOfParts
 pub mod Classes
-pub mod Faults
+pub mod ComponentFaults
 pub mod Paths
-pub mod Merging
+pub mod MergedPaths

@@ -1,8 +1,8 @@
-// Cutting a text at its first octet of a kind.
+//! Cutting a text at its first octet of a kind.
 ghost use Rattle.std.specs.Prelude.{◌≡◌, ◌<◌, ◌+◌, ◌∷◌, length, option_map, MatchOption, false};
 ghost use Rattle.reference_model.specs.References as references;
 
-/// What stands before the first of these marks, or the whole text, and what stands behind it, if there is one.
+/// What stands before the first of these marks, or the whole text, and what stands after it, if there is one.
 pub(crate) fn around(text: &str, mark: char) -> (&str, Option<&str>)
     requires { mark < 128 }
     ensures before { result.0.now ≡ references.before mark text.now }
@@ -23,7 +23,7 @@ pub(crate) fn split_from(text: &str, mark: char) -> (&str, &str)
     ensures lengths { length result.0.now + length result.1.now ≡ length text.now }
 {
     match text.find(mark) {
-        Some(place) => text.split_at(place),
+        Some(offset) => text.split_at(offset),
         None => (text, ""),
     }
 }
@@ -34,12 +34,12 @@ pub(crate) fn through(text: &str, mark: char) -> &str
     ensures { result.now ≡ references.through mark text.now }
 {
     match text.find(mark) {
-        Some(place) => &text[..place + 1],
+        Some(offset) => &text[..offset + 1],
         None => text,
     }
 }
 
-/// What stands behind the mark, where the text begins with it.
+/// What stands after the mark, where the text begins with it.
 pub(crate) fn behind_first(text: &str, mark: char) -> Option<&str>
     requires { mark < 128 }
     ensures { MatchOption result (references.begins_with mark text.now ≡ false) (λ rest. text.now ≡ mark ∷ rest.now) }
@@ -47,7 +47,7 @@ pub(crate) fn behind_first(text: &str, mark: char) -> Option<&str>
     text.strip_prefix(mark)
 }
 
-/// What stands behind two slashes at the beginning, where they stand there.
+/// What stands after two slashes at the beginning, where they stand there.
 pub(crate) fn behind_two_slashes(text: &str) -> Option<&str>
     ensures { option_map (λ rest. rest.now) result ≡ references.behind_two_slashes text.now }
 {

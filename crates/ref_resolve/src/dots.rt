@@ -1,4 +1,4 @@
-// Removing the dot segments of a path (RFC 3986 section 5.2.4).
+//! Removing the dot segments of a path (RFC 3986 section 5.2.4).
 ghost use Rattle.std.specs.Prelude.{◌≡◌, ◌<◌, ◌≤◌, [], ◌∷◌, ◌++◌, ◌||◌, true, false, fold, length, take, drop, slice_index, MatchOption, IfSome, OnOk};
 ghost use Rattle.std.specs.String.{string_bytes};
 ghost use Rattle.std.specs.Str.{IsUtf8};
@@ -49,10 +49,10 @@ fn without_leading_dots(path: &str) -> &str
     }
 }
 
-/// The place of the last slash.
+/// The offset of the last slash.
 fn last_slash(text: &[u8]) -> Option<usize>
-    ensures before { MatchOption result (before_last slash text.now ≡ []) (λ place. before_last slash text.now ≡ take place text.now) }
-    ensures place { IfSome result (λ place. (place < length text.now) × (slice_index text.now place ≡ slash)) }
+    ensures before { MatchOption result (before_last slash text.now ≡ []) (λ offset. before_last slash text.now ≡ take offset text.now) }
+    ensures offset { IfSome result (λ offset. (offset < length text.now) × (slice_index text.now offset ≡ slash)) }
 {
     let mut rest = text;
     'octets: while let Some((octet, front)) = rest.split_last() {
@@ -73,7 +73,7 @@ fn drop_last_segment(text: &mut String, start: usize)
     ensures within { start ≤ length (string_bytes text.new) }
 {
     match last_slash(&text.as_bytes()[start..]) {
-        Some(place) => text.truncate(start + place),
+        Some(offset) => text.truncate(start + offset),
         None => text.truncate(start),
     }
 }
@@ -98,7 +98,7 @@ fn append_segment(text: &mut String, start: usize, segment: &str) -> Result<(), 
     Ok(())
 }
 
-/// Appends the last segment: behind a dot segment a slash stands.
+/// Appends the last segment: after a dot segment a slash stands.
 fn append_last_segment(text: &mut String, start: usize, segment: &str) -> Result<(), Starved>
     requires within { start ≤ length (string_bytes text.old) }
     requires utf8 { IsUtf8 (take start (string_bytes text.old)) }

@@ -1,11 +1,11 @@
-// References resolved, and texts that are none with the place of their first fault.
+//! References resolved, and texts that are none with the offset of their first fault.
 use crate::{RefBad, host, is_uri, parts, resolve};
 use rd_base::{Starved, Text};
 use std::alloc::Global;
 use std::process::Abort;
 use std::test::Fail;
 
-/// What came of a reference: its text resolved, or the place of its first fault.
+/// What came of a reference: its text resolved, or the offset of its first fault.
 #[derive(Drop)]
 enum Came {
     Resolved(Text),
@@ -30,7 +30,7 @@ const RFC: &str = "http://a/b/c/d;p?q";
 /// The base of a registration.
 const LINKS: &str = "coap://h/c/d";
 
-/// A base, a reference, and the text that is resolved or the place of the first fault.
+/// A base, a reference, and the text that is resolved or the offset of the first fault.
 type Case = (&'static str, &'static str, Result<&'static str, usize>);
 
 static CASES: [Case; 79] = [

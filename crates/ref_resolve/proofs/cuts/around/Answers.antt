@@ -1,7 +1,7 @@
 -- What stands round the first mark, from what `split_once` finds.
 use Rattle.std.proofs.Common.{Some, None, sym}
 use Rattle.std.proofs.lemmas.Str.Pattern.{split_parts}
-use Rattle.ref_resolve.proofs.Cutting.{octet_nowhere, before_nowhere, behind_nowhere, before_parts, behind_parts}
+use Rattle.ref_resolve.proofs.CutLaws.{octet_nowhere, before_nowhere, behind_nowhere, before_parts, behind_parts}
 use Rattle.ref_resolve.proofs.cuts.around.Goals as goal
 
 pub returns-in-Some-clause-before : goal.returns-in-Some-clause-before

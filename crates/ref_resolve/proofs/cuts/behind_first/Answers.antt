@@ -1,6 +1,6 @@
 -- What `strip_prefix` leaves.
 use Rattle.std.proofs.lemmas.Str.Pattern.{strip_prefix_char}
-use Rattle.ref_resolve.proofs.Cutting.{stripped}
+use Rattle.ref_resolve.proofs.CutLaws.{stripped}
 use Rattle.ref_resolve.proofs.cuts.behind_first.Goals as goal
 
 pub returns : goal.returns

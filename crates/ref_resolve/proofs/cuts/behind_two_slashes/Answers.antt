@@ -2,7 +2,7 @@
 use Rattle.std.proofs.Common.{Some, None, sym, arith}
 use Rattle.std.proofs.lemmas.Str.Pattern.{strip_prefix_char}
 use Rattle.link_model.specs.Characters.{slash}
-use Rattle.ref_resolve.proofs.Cutting.{not_two_slashes, behind_one_slash}
+use Rattle.ref_resolve.proofs.CutLaws.{not_two_slashes, behind_one_slash}
 use Rattle.ref_resolve.proofs.cuts.behind_two_slashes.Goals as goal
 
 pub returns-in-Some : goal.returns-in-Some

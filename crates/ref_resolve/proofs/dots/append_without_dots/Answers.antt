@@ -1,4 +1,4 @@
--- The path begins behind what stood there, which stays.
+-- The path begins after what stood there, which stays.
 use Rattle.std.proofs.Common.{sym, ap, ◌∙◌, ◌||◌, subst}
 use Rattle.std.specs.Str.{IsUtf8}
 use Rattle.std.specs.String.{string_bytes}
@@ -6,7 +6,7 @@ use Rattle.std.proofs.lemmas.Str.{IsUtf8-string_bytes}
 use Rattle.link_model.specs.Characters.{slash, is_empty}
 use Rattle.reference_model.specs.References.{begins_with}
 use Rattle.ref_resolve.proofs.Segments.{from_slash}
-use Rattle.ref_resolve.proofs.Growing.{front_kept, dots_left_out}
+use Rattle.ref_resolve.proofs.PathGrowth.{front_kept, dots_left_out}
 use Rattle.ref_resolve.proofs.dots.append_without_dots.Goals as goal
 
 pub append_segments-requires-clause-utf8 : goal.append_segments-requires-clause-utf8

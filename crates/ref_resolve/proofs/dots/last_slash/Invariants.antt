@@ -1,4 +1,4 @@
--- The text is what is left and octets behind it, of which none is a slash.
+-- The text is what is left and octets after it, of which none is a slash.
 use Rattle.std.proofs.Common.{◌≡◌, ◌++◌, ℕ, List, length}
 use Rattle.link_model.specs.Characters.{slash}
 use Rattle.ref_resolve.specs.Paths.{before_last}

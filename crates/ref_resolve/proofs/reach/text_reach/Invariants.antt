@@ -1,4 +1,4 @@
--- The octets left are judged behind so many missing digits, and as many as were read stand before them.
+-- The octets left are judged after so many missing digits, and as many as were read stand before them.
 use Rattle.std.proofs.Common.{◌≡◌, ◌+◌, length}
 use Rattle.reference_model.specs.References.{is_text_of, is_text_behind_digits}
 use Rattle.reference_model.specs.ReferenceFaults.{text_prefix, prefix_behind_digits}

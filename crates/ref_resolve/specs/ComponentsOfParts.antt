@@ -1,7 +1,7 @@
 -- The components that the parts of a reference show.
 use Rattle.std.specs.Prelude.{option_map}
 use Rattle.reference_model.specs.References.{Components}
-use Rattle.ref_resolve.specs.declared.splitting.Parts.{Parts}
+use Rattle.ref_resolve.specs.declared.components.Parts.{Parts}
 
 -- the components, as octets
 abbrev pub components_of : Parts → Components

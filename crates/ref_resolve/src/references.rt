@@ -1,18 +1,18 @@
-// A text read as a URI-reference, or the place of its first fault (RFC 3986 section 4.1).
+//! A text read as a URI-reference, or the offset of its first fault (RFC 3986 section 4.1).
 ghost use Rattle.std.specs.Prelude.{◌≡◌, ◌+◌, ◌<◌, ◌≤◌, ◌^◌, ℕ, length, option_map, Some, is_some, IfSome, IfOk, IfErr, IsOkAnd, MatchOption, true, false};
 ghost use Rattle.reference_model.specs.References as references;
 ghost use Rattle.reference_model.specs.ReferenceFaults as faults;
-ghost use Rattle.ref_resolve.specs.Seen.{components_of};
-ghost use Rattle.ref_resolve.specs.Faults.{have_no_fault, size_of};
+ghost use Rattle.ref_resolve.specs.ComponentsOfParts.{components_of};
+ghost use Rattle.ref_resolve.specs.ComponentFaults.{have_no_fault, size_of};
 
 use crate::cuts::{around, through};
 use crate::reach::{Class, authority_reach, is_scheme, text_reach};
-use crate::splitting::{Parts, apart};
+use crate::components::{Parts, apart};
 
 /// A text is no URI-reference.
 #[derive(Clone, Copy, Debug, PartialEq, Eq)]
 pub struct RefBad {
-    /// The place of the first octet that no URI-reference with the same octets before it can have there, or the length
+    /// The offset of the first octet that no URI-reference with the same octets before it can have there, or the length
     /// of the text.
     pub at: usize,
 }
@@ -73,7 +73,7 @@ fn authority_span(authority: Option<&str>) -> Span
     }
 }
 
-/// The part that spells a query or a fragment, behind its mark.
+/// The part that spells a query or a fragment, after its mark.
 fn marked_span(text: Option<&str>) -> Span
     ensures query { result.size ≡ length (faults.query_part (option_map (λ text. text.now) text.entry)).text }
     ensures fragment { result.size ≡ length (faults.fragment_part (option_map (λ text. text.now) text.entry)).text }
@@ -98,7 +98,7 @@ fn marked_span(text: Option<&str>) -> Span
     }
 }
 
-/// The place of the first fault of the parts of a text of that many octets, if one may not stand there.
+/// The offset of the first fault of the parts of a text of that many octets, if one may not stand there.
 fn fault_of(parts: &Parts<'_>, size: usize) -> Option<usize>
     requires { size_of (components_of parts.now) ≡ size }
     ensures { MatchOption result (have_no_fault (components_of parts.now) ≡ true) (λ at. (have_no_fault (components_of parts.now) ≡ false) × (at ≡ faults.prefix_of_parts (faults.parts_of (components_of parts.now)))) }
@@ -137,7 +137,7 @@ fn fault_of(parts: &Parts<'_>, size: usize) -> Option<usize>
 pub fn parts(text: &str) -> Result<Parts<'_>, RefBad>
     ensures found { IfOk result (λ read. references.IsReference text.now (components_of read)) }
     ensures only { (c : references.Components) → references.IsReference text.now c → IsOkAnd result (λ read. components_of read ≡ c) }
-    ensures place { IfErr result (λ bad. faults.IsReferenceFault text.now bad.at) }
+    ensures offset { IfErr result (λ bad. faults.IsReferenceFault text.now bad.at) }
     ensures exact { IfErr result (λ bad. faults.reference_fault_at text.now ≡ Some bad.at) }
 {
     let parts = apart(text);
@@ -165,7 +165,7 @@ pub fn host<'a>(parts: &Parts<'a>) -> Option<&'a str>
     }
 }
 
-/// What stands behind the user information of an authority (RFC 3986 section 3.2.1).
+/// What stands after the user information of an authority (RFC 3986 section 3.2.1).
 fn behind_userinfo(authority: &str) -> &str
     ensures { result.now ≡ references.behind_userinfo authority.now }
 {

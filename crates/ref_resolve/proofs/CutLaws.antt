@@ -1,4 +1,4 @@
--- What stands before and behind an octet, from where a search finds it.
+-- What stands before and after an octet, from where a search finds it.
 use Rattle.std.proofs.Common.{◌≡◌, ℕ, zero, suc, ◌+◌, ◌-◌, ◌<◌, false, not, ◌&&◌, List, [], ◌∷◌, ◌++◌, Option, Some, None, length, get_or, take, drop, option_map, is_some, refl, sym, ap, ◌∙◌, arith}
 use Rattle.std.proofs.lemmas.Bool.Decides.{nat_tests}
 use Rattle.std.specs.List.{slice_range}
@@ -9,7 +9,7 @@ use Rattle.link_model.specs.Characters.{colon, slash}
 use Rattle.reference_model.specs.References.{before, behind, begins_with, from_first, through, has_octet, has_colon_in_first_segment, behind_two_slashes}
 use Rattle.reference_model.proofs.ReferenceCuts.{before-marked, behind-marked}
 
--- an octet that stands at no place does not stand in the text
+-- an octet that stands at no offset does not stand in the text
 pub octet_nowhere : (mark : ℕ) (text : List ℕ) → ((i : ℕ) → i < length text → get_or text i 0 ≢ mark) → has_octet mark text ≡ false
 octet_nowhere mark [] h = refl
 octet_nowhere mark (c ∷ cs) h =
@@ -40,37 +40,37 @@ before_parts mark text front back e h = ap (before mark) e ∙ before-marked mar
 pub behind_parts : (mark : ℕ) (text front back : List ℕ) → text ≡ front ++ (mark ∷ back) → ((i : ℕ) → i < length front → get_or front i 0 ≢ mark) → behind mark text ≡ Some back
 behind_parts mark text front back e h = ap (behind mark) e ∙ behind-marked mark front (Some back) (octet_nowhere mark front h)
 
--- the parts of a text at the place of its first mark
-pub before_place : (mark place : ℕ) (text : List ℕ) → place < length text → get_or text place 0 ≡ mark → ((i : ℕ) → i < place → get_or text i 0 ≢ mark) → before mark text ≡ take place text
+-- the parts of a text at the offset of its first mark
+pub before_offset : (mark offset : ℕ) (text : List ℕ) → offset < length text → get_or text offset 0 ≡ mark → ((i : ℕ) → i < offset → get_or text i 0 ≢ mark) → before mark text ≡ take offset text
 unfolding before
-before_place mark place [] l e h = absurd (omega (arith, l))
-before_place mark zero (c ∷ cs) l e h = grind (arith, nat_tests, e)
-before_place mark (suc place) (c ∷ cs) l e h =
+before_offset mark offset [] l e h = absurd (omega (arith, l))
+before_offset mark zero (c ∷ cs) l e h = grind (arith, nat_tests, e)
+before_offset mark (suc offset) (c ∷ cs) l e h =
     let here : c ≢ mark = h 0 (omega arith) in
-    let rest : before mark cs ≡ take place cs = before_place mark place cs (omega (arith, l)) e (λ i k. h (suc i) (omega (arith, k))) in
+    let rest : before mark cs ≡ take offset cs = before_offset mark offset cs (omega (arith, l)) e (λ i k. h (suc i) (omega (arith, k))) in
     grind (arith, nat_tests, here, rest)
 
-pub from_place : (mark place : ℕ) (text : List ℕ) → place < length text → get_or text place 0 ≡ mark → ((i : ℕ) → i < place → get_or text i 0 ≢ mark) → from_first mark text ≡ drop place text
+pub from_offset : (mark offset : ℕ) (text : List ℕ) → offset < length text → get_or text offset 0 ≡ mark → ((i : ℕ) → i < offset → get_or text i 0 ≢ mark) → from_first mark text ≡ drop offset text
 unfolding from_first
-from_place mark place [] l e h = absurd (omega (arith, l))
-from_place mark zero (c ∷ cs) l e h = grind (arith, nat_tests, e)
-from_place mark (suc place) (c ∷ cs) l e h =
+from_offset mark offset [] l e h = absurd (omega (arith, l))
+from_offset mark zero (c ∷ cs) l e h = grind (arith, nat_tests, e)
+from_offset mark (suc offset) (c ∷ cs) l e h =
     let here : c ≢ mark = h 0 (omega arith) in
-    let rest : from_first mark cs ≡ drop place cs = from_place mark place cs (omega (arith, l)) e (λ i k. h (suc i) (omega (arith, k))) in
+    let rest : from_first mark cs ≡ drop offset cs = from_offset mark offset cs (omega (arith, l)) e (λ i k. h (suc i) (omega (arith, k))) in
     grind (arith, nat_tests, here, rest)
 
 -- what stands before the first mark, and that mark
-pub through_place : (mark place : ℕ) (text : List ℕ) → place < length text → get_or text place 0 ≡ mark → ((i : ℕ) → i < place → get_or text i 0 ≢ mark) → through mark text ≡ take (suc place) text
+pub through_offset : (mark offset : ℕ) (text : List ℕ) → offset < length text → get_or text offset 0 ≡ mark → ((i : ℕ) → i < offset → get_or text i 0 ≢ mark) → through mark text ≡ take (suc offset) text
 unfolding through
-through_place mark place [] l e h = absurd (omega (arith, l))
-through_place mark zero (c ∷ cs) l e h = grind (arith, nat_tests, e)
-through_place mark (suc place) (c ∷ cs) l e h =
+through_offset mark offset [] l e h = absurd (omega (arith, l))
+through_offset mark zero (c ∷ cs) l e h = grind (arith, nat_tests, e)
+through_offset mark (suc offset) (c ∷ cs) l e h =
     let here : c ≢ mark = h 0 (omega arith) in
-    let rest : through mark cs ≡ take (suc place) cs = through_place mark place cs (omega (arith, l)) e (λ i k. h (suc i) (omega (arith, k))) in
+    let rest : through mark cs ≡ take (suc offset) cs = through_offset mark offset cs (omega (arith, l)) e (λ i k. h (suc i) (omega (arith, k))) in
     grind (arith, nat_tests, here, rest)
 
-pub front_range : (text : List ℕ) (place : ℕ) → slice_range text 0 (place + 1) ≡ take (suc place) text
-front_range text place = let same : place + 1 - 0 ≡ suc place = omega arith in ap (λ n. take n text) same
+pub front_range : (text : List ℕ) (offset : ℕ) → slice_range text 0 (offset + 1) ≡ take (suc offset) text
+front_range text offset = let same : offset + 1 - 0 ≡ suc offset = omega arith in ap (λ n. take n text) same
 
 pub through_nowhere : (mark : ℕ) (text : List ℕ) → has_octet mark text ≡ false → through mark text ≡ text
 unfolding through
@@ -83,7 +83,7 @@ unfolding before behind
 colon_before_slash [] = refl
 colon_before_slash (c ∷ cs) = grind (arith, nat_tests, colon_before_slash cs)
 
--- one slash, and no other behind it
+-- one slash, and no other after it
 pub not_two_slashes : (text : List ℕ) → ((rest : List ℕ) → text ≢ slash ∷ rest) → behind_two_slashes text ≡ None
 not_two_slashes [] h = refl
 not_two_slashes (c ∷ []) h = refl
@@ -101,7 +101,7 @@ one_slash text (d ∷ cs) e h =
 pub two_slashes : (text rest more : List ℕ) → text ≡ slash ∷ rest → rest ≡ slash ∷ more → behind_two_slashes text ≡ Some more
 two_slashes text rest more e f = ap behind_two_slashes (e ∙ ap (λ x. slash ∷ x) f)
 
--- what a second slash leaves, as a search behind the first finds it
+-- what a second slash leaves, as a search after the first finds it
 pub behind_one_slash : (text rest : List ℕ) (found : Option (Bor (List ℕ))) → text ≡ slash ∷ rest → MatchOption found ((more : List ℕ) → rest ≢ slash ∷ more) (λ x. rest ≡ slash ∷ x.now)
     → option_map (λ x. x.now) found ≡ behind_two_slashes text
 behind_one_slash text rest None e h = sym (one_slash text rest e h)

@@ -29,7 +29,7 @@ abbrev pub is_none : List (List ℕ) → Bool
 is_none [] = true
 is_none (piece ∷ pieces) = false
 
--- each piece is a segment behind a slash, but for the first of all, which may have no slash
+-- each piece is a segment after a slash, but for the first of all, which may have no slash
 abbrev pub are_kept : List (List ℕ) → Bool
 are_kept [] = true
 are_kept (piece ∷ kept) = (is_behind_slash piece || (is_none kept && is_segment piece)) && are_kept kept

@@ -6,7 +6,7 @@ use Rattle.reference_model.specs.References.{Components, begins_with, from_first
 use Rattle.reference_model.specs.ReferenceFaults.{prefix_of_parts, parts_of, reference_fault_at}
 use Rattle.reference_model.proofs.ReferenceLaws.{recomposed-components}
 use Rattle.reference_model.proofs.ReferenceReading.{components-recomposed}
-use Rattle.ref_resolve.specs.Faults.{have_no_fault, size_of}
+use Rattle.ref_resolve.specs.ComponentFaults.{have_no_fault, size_of}
 
 -- ---- the path of components that a text is taken apart into fits
 
@@ -70,9 +70,9 @@ not_read text c d e h r =
     true_false : true ≡ false → ⊥
     true_false k = cc
 
-pub place_of_fault : (text : List ℕ) (c : Components) (at : ℕ) → c ≡ components text → have_no_fault c ≡ false → at ≡ prefix_of_parts (parts_of c) → reference_fault_at text ≡ Some at
+pub offset_of_fault : (text : List ℕ) (c : Components) (at : ℕ) → c ≡ components text → have_no_fault c ≡ false → at ≡ prefix_of_parts (parts_of c) → reference_fault_at text ≡ Some at
 unfolding reference_fault_at
-place_of_fault text c at e h k =
+offset_of_fault text c at e h k =
     let bad : is_allowed (components text) ≡ false = allowed_taken_apart text ∙ sym (ap have_no_fault e) ∙ h in
     rw bad (ap (λ (n : ℕ). Some n) (ap (λ (x : Components). prefix_of_parts (parts_of x)) (sym e) ∙ sym k))
 

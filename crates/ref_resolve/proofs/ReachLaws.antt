@@ -47,23 +47,23 @@ goes_on test (suc n) c missing cs h = by_test (is_ascii_hexdigit c) refl
 pub ended : (test : ℕ → Bool) (digits at c : ℕ) (rest cs text : List ℕ) → rest ≡ c ∷ cs → next_digits test digits c ≡ None
     → is_text_behind_digits test digits rest ≡ is_text_of test text → at + prefix_behind_digits test digits rest ≡ text_prefix test text
     → (false ≡ is_text_of test text) × (at ≡ text_prefix test text)
-ended test digits at c rest cs text e h whole place =
+ended test digits at c rest cs text e h whole offset =
     let last = stops test digits c cs h in
     let none : prefix_behind_digits test digits rest ≡ 0 = ap (prefix_behind_digits test digits) e ∙ last.1 in
-    (sym (ap (is_text_behind_digits test digits) e ∙ last.0) ∙ whole, sym (add-zero at) ∙ ap (λ n. at + n) (sym none) ∙ place)
+    (sym (ap (is_text_behind_digits test digits) e ∙ last.0) ∙ whole, sym (add-zero at) ∙ ap (λ n. at + n) (sym none) ∙ offset)
 
 -- what is known of the octets left, one octet later
 pub one_more : (test : ℕ → Bool) (digits at c missing : ℕ) (rest cs text : List ℕ) → rest ≡ c ∷ cs → next_digits test digits c ≡ Some missing
     → is_text_behind_digits test digits rest ≡ is_text_of test text → at + prefix_behind_digits test digits rest ≡ text_prefix test text
     → (is_text_behind_digits test missing cs ≡ is_text_of test text) × (at + 1 + prefix_behind_digits test missing cs ≡ text_prefix test text)
-one_more test digits at c missing rest cs text e h whole place =
+one_more test digits at c missing rest cs text e h whole offset =
     let more = goes_on test digits c missing cs h in
     let next : prefix_behind_digits test digits rest ≡ suc (prefix_behind_digits test missing cs) = ap (prefix_behind_digits test digits) e ∙ more.1 in
-    (sym (ap (is_text_behind_digits test digits) e ∙ more.0) ∙ whole, omega (arith, next, place))
+    (sym (ap (is_text_behind_digits test digits) e ∙ more.0) ∙ whole, omega (arith, next, offset))
 
 -- ---- hosts and ports
 
--- a mark stands in a text where something is behind it
+-- a mark stands in a text where something is after it
 pub octet_behind : (mark : ℕ) (text : List ℕ) → has_octet mark text ≡ is_some (behind mark text)
 unfolding behind
 octet_behind mark [] = refl

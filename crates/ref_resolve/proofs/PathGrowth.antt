@@ -9,7 +9,7 @@ use Rattle.reference_model.specs.References.{before, begins_with, from_first}
 use Rattle.reference_model.specs.Resolution.{segments_of, with_closing_slash, is_dot_segment, without_leading_dots, remove_dot_segments}
 use Rattle.ref_resolve.specs.Paths.{path_with, closed_segments}
 use Rattle.ref_resolve.proofs.Segments.{segments_behind, first_segment, closing_behind, no_slash_behind}
-use Rattle.ref_resolve.proofs.Kept.{dots_removed}
+use Rattle.ref_resolve.proofs.KeptSegments.{dots_removed}
 
 -- ---- the segments that are left
 
@@ -49,7 +49,7 @@ grown_more path more whole rest next segment all e m h = ap (λ (p : List ℕ). 
 pub grown_all : (path whole rest : List ℕ) (all : List (List ℕ)) → closed_segments rest ≡ [] → fold path_with path (closed_segments rest) ≡ fold path_with whole all → path ≡ fold path_with whole all
 grown_all path whole rest all e h = ap (λ (s : List (List ℕ)). fold path_with path s) (sym e) ∙ h
 
--- ---- behind what stood there
+-- ---- after what stood there
 
 pub front_kept : (old bytes first new : List ℕ) → bytes ≡ old → new ≡ old ++ first → take (length bytes) new ≡ old
 front_kept old bytes first new e n = ap (λ (b : List ℕ). take (length b) new) e ∙ ap (take (length old)) n ∙ take-append_seam old first

@@ -1,11 +1,11 @@
--- The parts of the answer, one behind the other.
+-- The parts of the answer, one after the other.
 use Rattle.std.proofs.Common.{ℕ, List, Option, ◌++◌, sym, ap, ◌∙◌}
 use Rattle.std.specs.String.{string_bytes}
 use Rattle.reference_model.specs.References.{scheme_text, authority_text, query_text}
 use Rattle.reference_model.specs.Resolution.{resolution}
-use Rattle.ref_resolve.specs.Seen.{components_of}
-use Rattle.ref_resolve.proofs.Merged.{appended, fragment_kept, resolved_of}
-use Rattle.ref_resolve.proofs.resolving.resolve.Goals as goal
+use Rattle.ref_resolve.specs.ComponentsOfParts.{components_of}
+use Rattle.ref_resolve.proofs.MergedPaths.{appended, fragment_kept, resolved_of}
+use Rattle.ref_resolve.proofs.resolution.resolve.Goals as goal
 
 pub returns-clause-value : goal.returns-clause-value
 returns-clause-value c =

@@ -1,14 +1,14 @@
-// Resolving a reference against a base (RFC 3986 section 5.2, strict).
+//! Resolving a reference against a base (RFC 3986 section 5.2, strict).
 ghost use Rattle.std.specs.Prelude.{◌≡◌, ◌++◌, ◌∷◌, [], ◌<◌, ℕ, List, option_map, OnOk, IfOk};
 ghost use Rattle.std.specs.String.{string_bytes};
 ghost use Rattle.link_model.specs.Characters.{slash, is_empty};
 ghost use Rattle.reference_model.specs.References as references;
 ghost use Rattle.reference_model.specs.Resolution as resolution;
-ghost use Rattle.ref_resolve.specs.Seen.{components_of};
-ghost use Rattle.ref_resolve.specs.Merging.{front_of};
+ghost use Rattle.ref_resolve.specs.ComponentsOfParts.{components_of};
+ghost use Rattle.ref_resolve.specs.MergedPaths.{front_of};
 
 use crate::dots::append_without_dots;
-use crate::splitting::Parts;
+use crate::components::Parts;
 use rd_base::{Starved, Text};
 use std::alloc::Global;
 
@@ -62,12 +62,12 @@ fn directory(path: &str) -> &str
     ensures { result.now ≡ resolution.up_to_last_slash path.now }
 {
     match path.rfind('/') {
-        Some(place) => &path[..place + 1],
+        Some(offset) => &path[..offset + 1],
         None => "",
     }
 }
 
-/// The path of a reference behind that of the base (RFC 3986 section 5.2.3).
+/// The path of a reference after that of the base (RFC 3986 section 5.2.3).
 #[tactic(auto, unfolding(reference_model::specs::Resolution::merged))]
 fn merged(alloc: Global, base: &Parts<'_>, path: &str) -> Result<String, Starved>
     ensures { IfOk result (λ text. string_bytes text ≡ resolution.merged (components_of base.now) path.now) }
@@ -126,7 +126,7 @@ fn append_scheme(text: &mut String, scheme: Option<&str>) -> Result<(), Starved>
     Ok(())
 }
 
-/// Appends an authority behind two slashes, where there is one.
+/// Appends an authority after two slashes, where there is one.
 fn append_authority(text: &mut String, authority: Option<&str>) -> Result<(), Starved>
     ensures { OnOk result (string_bytes text.new ≡ string_bytes text.old ++ references.authority_text (option_map (λ part. part.now) authority.entry)) }
 {
@@ -137,7 +137,7 @@ fn append_authority(text: &mut String, authority: Option<&str>) -> Result<(), St
     Ok(())
 }
 
-/// Appends a query behind its question mark, where there is one.
+/// Appends a query after its question mark, where there is one.
 fn append_query(text: &mut String, query: Option<&str>) -> Result<(), Starved>
     ensures { OnOk result (string_bytes text.new ≡ string_bytes text.old ++ references.query_text (option_map (λ part. part.now) query.entry)) }
 {
@@ -148,7 +148,7 @@ fn append_query(text: &mut String, query: Option<&str>) -> Result<(), Starved>
     Ok(())
 }
 
-/// Appends a fragment behind its number sign, where there is one.
+/// Appends a fragment after its number sign, where there is one.
 fn append_fragment(text: &mut String, fragment: Option<&str>) -> Result<(), Starved>
     ensures { OnOk result (string_bytes text.new ≡ string_bytes text.old ++ references.fragment_text (option_map (λ part. part.now) fragment.entry)) }
 {
@@ -164,7 +164,7 @@ fn append_fragment(text: &mut String, fragment: Option<&str>) -> Result<(), Star
 ///
 /// # Errors
 ///
-/// `Starved` where memory is wanted, and for nothing else.
+/// `Starved` where memory runs out, and for nothing else.
 pub fn resolve(alloc: Global, base: &Parts<'_>, reference: &Parts<'_>) -> Result<Text, Starved>
     ensures value { IfOk result (λ text. text ≡ references.recomposed (resolution.resolution (components_of base.now) (components_of reference.now))) }
     ensures texts { IfOk result (λ text. (b r : List ℕ) → references.IsReference b (components_of base.now) → references.IsReference r (components_of reference.now) → text ≡ resolution.resolved b r) }

@@ -8,14 +8,14 @@ use Rattle.link_model.specs.Characters.{slash}
 use Rattle.reference_model.specs.References.{Components, IsReference, components, recomposed, scheme_text, authority_text, query_text, fragment_text, before, from_first, has_octet}
 use Rattle.reference_model.specs.Resolution.{segments_of, up_to_last_slash, resolution, resolved}
 use Rattle.reference_model.proofs.ReferenceReading.{components-recomposed}
-use Rattle.ref_resolve.proofs.Cutting.{octet_nowhere, from_nowhere}
+use Rattle.ref_resolve.proofs.CutLaws.{octet_nowhere, from_nowhere}
 use Rattle.ref_resolve.proofs.Segments.{segments_behind, first_segment}
 
 -- without a slash nothing is left
 up_to_none : (path : List ℕ) → has_octet slash path ≡ false → up_to_last_slash path ≡ []
 up_to_none path h = rw (first_segment path, from_nowhere slash path h) refl
 
--- a slash that stands somewhere has a first place
+-- a slash that stands somewhere has a first offset
 from_some : (path : List ℕ) → has_octet slash path ≡ true → (rest : List ℕ) × (from_first slash path ≡ slash ∷ rest)
 unfolding from_first
 from_some [] h = absurd (false≢true h)
@@ -51,20 +51,20 @@ slash_alone c cs e h =
     let cut : up_to_last_slash (c ∷ cs) ≡ slash ∷ [] = rw (test, first_segment cs, from_nowhere slash cs h) refl in
     cut ∙ ap (λ (x : ℕ). x ∷ []) (sym e)
 
-octet_somewhere : (place : ℕ) (text : List ℕ) → place < length text → get_or text place 0 ≡ slash → has_octet slash text ≡ true
-octet_somewhere place [] l e = absurd (omega (arith, l))
+octet_somewhere : (offset : ℕ) (text : List ℕ) → offset < length text → get_or text offset 0 ≡ slash → has_octet slash text ≡ true
+octet_somewhere offset [] l e = absurd (omega (arith, l))
 octet_somewhere zero (c ∷ cs) l e = grind (arith, nat_tests, e)
-octet_somewhere (suc place) (c ∷ cs) l e = grind (arith, nat_tests, octet_somewhere place cs (omega (arith, l)) e)
+octet_somewhere (suc offset) (c ∷ cs) l e = grind (arith, nat_tests, octet_somewhere offset cs (omega (arith, l)) e)
 
--- a path up to the place of its last slash
-pub up_to_place : (path : List ℕ) (place : ℕ) → place < length path → get_or path place 0 ≡ slash → ((i : ℕ) → place < i → i < length path → get_or path i 0 ≢ slash) → up_to_last_slash path ≡ take (suc place) path
-up_to_place [] place l e h = absurd (omega (arith, l))
-up_to_place (c ∷ cs) zero l e h =
+-- a path up to the offset of its last slash
+pub up_to_offset : (path : List ℕ) (offset : ℕ) → offset < length path → get_or path offset 0 ≡ slash → ((i : ℕ) → offset < i → i < length path → get_or path i 0 ≢ slash) → up_to_last_slash path ≡ take (suc offset) path
+up_to_offset [] offset l e h = absurd (omega (arith, l))
+up_to_offset (c ∷ cs) zero l e h =
     let none : has_octet slash cs ≡ false = octet_nowhere slash cs (λ i k. h (suc i) (omega arith) (omega (arith, k))) in
     slash_alone c cs e none
-up_to_place (c ∷ cs) (suc place) l e h =
-    let here : has_octet slash cs ≡ true = octet_somewhere place cs (omega (arith, l)) e in
-    up_to_cons c cs here ∙ ap (λ (r : List ℕ). c ∷ r) (up_to_place cs place (omega (arith, l)) e (λ i k m. h (suc i) (omega (arith, k)) (omega (arith, m))))
+up_to_offset (c ∷ cs) (suc offset) l e h =
+    let here : has_octet slash cs ≡ true = octet_somewhere offset cs (omega (arith, l)) e in
+    up_to_cons c cs here ∙ ap (λ (r : List ℕ). c ∷ r) (up_to_offset cs offset (omega (arith, l)) e (λ i k m. h (suc i) (omega (arith, k)) (omega (arith, m))))
 
 pub up_to_nowhere : (path : List ℕ) → ((i : ℕ) → i < length path → get_or path i 0 ≢ slash) → up_to_last_slash path ≡ []
 up_to_nowhere path h = up_to_none path (octet_nowhere slash path h)

@@ -1,7 +1,7 @@
-// The five components of a text, before they are judged.
+//! The five components of a text, before they are judged.
 ghost use Rattle.std.specs.Prelude.{◌≡◌, option_map};
 ghost use Rattle.reference_model.specs.References as references;
-ghost use Rattle.ref_resolve.specs.Seen.{components_of};
+ghost use Rattle.ref_resolve.specs.ComponentsOfParts.{components_of};
 
 use crate::cuts::{around, behind_two_slashes, split_from};
 
@@ -10,18 +10,18 @@ use crate::cuts::{around, behind_two_slashes, split_from};
 pub struct Parts<'a> {
     /// What stands before the colon that ends it.
     pub scheme: Option<&'a str>,
-    /// What stands behind two slashes.
+    /// What stands after two slashes.
     pub authority: Option<&'a str>,
     /// The path, which may be empty.
     pub path: &'a str,
-    /// What stands behind the first question mark.
+    /// What stands after the first question mark.
     pub query: Option<&'a str>,
-    /// What stands behind the first number sign.
+    /// What stands after the first number sign.
     pub fragment: Option<&'a str>,
 }
 
 /// What stands before a colon in the first segment, and what is left.
-#[tactic(auto, using(crate::proofs::Cutting::colon_before_slash))]
+#[tactic(auto, using(crate::proofs::CutLaws::colon_before_slash))]
 fn scheme_of(text: &str) -> (Option<&str>, &str)
     ensures scheme { option_map (λ scheme. scheme.now) result.0 ≡ references.scheme_in text.now }
     ensures rest { result.1.now ≡ references.behind_scheme text.now }
