@@ -24,12 +24,12 @@ pub record CutAt (separator : ℕ) (text : List ℕ) (n : ℕ) (parts : List ℕ
   pub within : n ≤ length text
   pub before : parts.0 ≡ take n text
   pub whole : n ≡ length text → parts.1 ≡ None
-  pub behind : n < length text → parts.1 ≡ Some (drop (suc n) text)
+  pub after : n < length text → parts.1 ≡ Some (drop (suc n) text)
   pub there : n < length text → slice_index text n ≡ separator
 
 pub cut_at : (separator : ℕ) (quotes : Quotes) (text : List ℕ) → CutAt separator text (octets_before separator quotes text) (cut separator quotes text)
 unfolding octets_before cut
-cut_at separator quotes [] = record { within = omega arith; before = refl; whole = λ _. refl; behind = λ h. absurd (omega arith); there = λ h. absurd (omega arith) }
+cut_at separator quotes [] = record { within = omega arith; before = refl; whole = λ _. refl; after = λ h. absurd (omega arith); there = λ h. absurd (omega arith) }
 cut_at separator quotes (b ∷ bs) = by_test (is_separator separator quotes b) refl (cut_at separator (quotes_after quotes b) bs)
   where
     further : (n : ℕ) (parts : List ℕ × Option (List ℕ)) → CutAt separator bs n parts → CutAt separator (b ∷ bs) (suc n) (onto_before b parts)
@@ -37,13 +37,13 @@ cut_at separator quotes (b ∷ bs) = by_test (is_separator separator quotes b) r
       within = let w = c.within in omega arith;
       before = ap (λ (x : List ℕ). b ∷ x) c.before;
       whole = λ h. c.whole (omega arith);
-      behind = λ h. c.behind (omega arith);
+      after = λ h. c.after (omega arith);
       there = λ h. c.there (omega arith);
     }
 
     by_test : (t : Bool) → is_separator separator quotes b ≡ t → CutAt separator bs (octets_before separator (quotes_after quotes b) bs) (cut separator (quotes_after quotes b) bs)
         → CutAt separator (b ∷ bs) (if t then 0 else suc (octets_before separator (quotes_after quotes b) bs)) (if t then ([], Some bs) else onto_before b (cut separator (quotes_after quotes b) bs))
-    by_test true e c = record { within = omega arith; before = refl; whole = λ h. absurd (omega arith); behind = λ h. refl; there = λ h. eqb-true b separator ((and_parts (b == separator) _ e).0) }
+    by_test true e c = record { within = omega arith; before = refl; whole = λ h. absurd (omega arith); after = λ h. refl; there = λ h. eqb-true b separator ((and_parts (b == separator) _ e).0) }
     by_test false e c = further (octets_before separator (quotes_after quotes b) bs) (cut separator (quotes_after quotes b) bs) c
 
 -- before a separator of ASCII a character ends
@@ -94,5 +94,5 @@ pub rest_at : (separator n : ℕ) (text : List ℕ) (parts : List ℕ × Option 
 rest_at separator n text parts c = by_order (cases_lt n (length text))
   where
     by_order : (n < length text) ⊎ (length text ≤ n) → drop n text ≡ from_separator separator parts.1
-    by_order (inl h) = drop_there n text h ∙ ap (λ (b : ℕ). b ∷ drop (suc n) text) (c.there h) ∙ ap (from_separator separator) (sym (c.behind h))
+    by_order (inl h) = drop_there n text h ∙ ap (λ (b : ℕ). b ∷ drop (suc n) text) (c.there h) ∙ ap (from_separator separator) (sym (c.after h))
     by_order (inr h) = let w = c.within in let e : n ≡ length text = omega arith in drop_whole n text e ∙ ap (from_separator separator) (sym (c.whole e))

@@ -13,7 +13,7 @@ use Rattle.link_model.proofs.DocumentLaws.{links_from_only}
 use Rattle.rd_base.proofs.lemmas.Options.{some_same, none_some}
 use Rattle.link_format.specs.declared.cuts.Quotes.TheVariants.{Unread, Outside}
 use Rattle.link_format.specs.Cuts.{cut}
-use Rattle.link_format.specs.Parts.{text_or_empty, parts_behind, parts_opened, link_parts}
+use Rattle.link_format.specs.Parts.{text_or_empty, parts_after, parts_opened, link_parts}
 use Rattle.link_format.specs.LinksOfText.{listed, links_of, lone_parameters, parameters_of, parameters_in}
 use Rattle.link_format.proofs.PassedTexts.{onto_front, cut_there, cut_end, passes_unread, passes_parameters}
 
@@ -81,7 +81,7 @@ cut_further : (links : List Link) → (cut comma Outside (further links)).0 ≡ 
 cut_further [] = let e = cut_end comma Outside in (rw e refl, rw e refl)
 cut_further (l ∷ links) = let e = cut_there comma Outside comma (link_text l ++ further links) refl in (rw e refl, rw e refl)
 
-parts_of_rest : (target : List ℕ) (parameters : List Parameter) (links : List Link) → list_all is_parameter parameters ≡ true → parts_behind target (parameters_text parameters ++ further links) ≡ (target, parameters_text parameters, links_text links)
+parts_of_rest : (target : List ℕ) (parameters : List Parameter) (links : List Link) → list_all is_parameter parameters ≡ true → parts_after target (parameters_text parameters ++ further links) ≡ (target, parameters_text parameters, links_text links)
 parts_of_rest target parameters links h =
     let rest = cut_further links in
     ap (λ (p : List ℕ × Option (List ℕ)). (target, p.0, text_or_empty p.1)) ((passes_parameters parameters h).on (further links))
@@ -89,8 +89,8 @@ parts_of_rest target parameters links h =
     ∙ ap (λ (t : List ℕ). (target, t, text_or_empty (cut comma Outside (further links)).1)) (append-nil (parameters_text parameters))
     ∙ ap (λ (t : List ℕ). (target, parameters_text parameters, t)) rest.1
 
-opened_parts : (target closed : List ℕ) → list_all is_target_character target ≡ true → parts_opened (target ++ greater_than_sign ∷ closed) ≡ Some (parts_behind target closed)
-opened_parts target closed h = ap (λ (p : List ℕ × Option (List ℕ)). option_and_then (λ (c : List ℕ). Some (parts_behind p.0 c)) p.1) (cut_target target closed h)
+opened_parts : (target closed : List ℕ) → list_all is_target_character target ≡ true → parts_opened (target ++ greater_than_sign ∷ closed) ≡ Some (parts_after target closed)
+opened_parts target closed h = ap (λ (p : List ℕ × Option (List ℕ)). option_and_then (λ (c : List ℕ). Some (parts_after p.0 c)) p.1) (cut_target target closed h)
 
 pub first_parts : (l : Link) (links : List Link) → is_link l ≡ true → link_parts (links_text (l ∷ links)) ≡ Some (l.target, parameters_text l.parameters, links_text links)
 unfolding link_parts

@@ -126,18 +126,18 @@ spelled_mark c h m = rw (encode_one c h, encode_one backslash (omega arith)) (rw
 different : (c d : ℕ) → (c ≡ d → ⊥) → (c == d) ≡ false
 different c d h = grind (arith, nat_tests)
 
-pub content_plain_step : (text more whole rest behind : List ℕ) (c : ℕ) (escaped : Bool) → text ++ content_up_to_quote escaped rest ≡ whole → escaped ≡ false → rest ≡ encode_utf8 c ++ behind → (c ≡ quote_mark → ⊥) → (c ≡ backslash → ⊥) → more ≡ text ++ encode_utf8 c
-    → more ++ content_up_to_quote escaped behind ≡ whole
-content_plain_step text more whole rest behind c true w f r q b m = absurd (false≢true (sym f))
-content_plain_step text more whole rest behind c false w f r q b m =
-    ap (λ (t : List ℕ). t ++ content_up_to_quote false behind) m ∙ append_assoc text (encode_utf8 c) (content_up_to_quote false behind)
-    ∙ ap (λ (t : List ℕ). text ++ t) (sym (content_plain c behind (different c quote_mark q) (different c backslash b)) ∙ ap (content_up_to_quote false) (sym r)) ∙ w
+pub content_plain_step : (text more whole rest after : List ℕ) (c : ℕ) (escaped : Bool) → text ++ content_up_to_quote escaped rest ≡ whole → escaped ≡ false → rest ≡ encode_utf8 c ++ after → (c ≡ quote_mark → ⊥) → (c ≡ backslash → ⊥) → more ≡ text ++ encode_utf8 c
+    → more ++ content_up_to_quote escaped after ≡ whole
+content_plain_step text more whole rest after c true w f r q b m = absurd (false≢true (sym f))
+content_plain_step text more whole rest after c false w f r q b m =
+    ap (λ (t : List ℕ). t ++ content_up_to_quote false after) m ∙ append_assoc text (encode_utf8 c) (content_up_to_quote false after)
+    ∙ ap (λ (t : List ℕ). text ++ t) (sym (content_plain c after (different c quote_mark q) (different c backslash b)) ∙ ap (content_up_to_quote false) (sym r)) ∙ w
 
-pub content_escaped_step : (text more whole rest behind : List ℕ) (c : ℕ) (escaped : Bool) → text ++ content_up_to_quote escaped rest ≡ whole → escaped ≡ true → rest ≡ encode_utf8 c ++ behind → more ≡ text ++ encode_utf8 c → more ++ content_up_to_quote false behind ≡ whole
-content_escaped_step text more whole rest behind c false w f r m = absurd (false≢true f)
-content_escaped_step text more whole rest behind c true w f r m =
-    ap (λ (t : List ℕ). t ++ content_up_to_quote false behind) m ∙ append_assoc text (encode_utf8 c) (content_up_to_quote false behind)
-    ∙ ap (λ (t : List ℕ). text ++ t) (sym (content_escaped c behind) ∙ ap (content_up_to_quote true) (sym r)) ∙ w
+pub content_escaped_step : (text more whole rest after : List ℕ) (c : ℕ) (escaped : Bool) → text ++ content_up_to_quote escaped rest ≡ whole → escaped ≡ true → rest ≡ encode_utf8 c ++ after → more ≡ text ++ encode_utf8 c → more ++ content_up_to_quote false after ≡ whole
+content_escaped_step text more whole rest after c false w f r m = absurd (false≢true f)
+content_escaped_step text more whole rest after c true w f r m =
+    ap (λ (t : List ℕ). t ++ content_up_to_quote false after) m ∙ append_assoc text (encode_utf8 c) (content_up_to_quote false after)
+    ∙ ap (λ (t : List ℕ). text ++ t) (sym (content_escaped c after) ∙ ap (content_up_to_quote true) (sym r)) ∙ w
 
 pub unquoted_first : (value rest : List ℕ) (c : ℕ) → value ≡ encode_utf8 c ++ rest → (c ≡ quote_mark → ⊥) → value ≡ unquoted value
 unquoted_first value rest c e q = e ∙ sym (unquoted_plain c rest (different c quote_mark q)) ∙ ap unquoted (sym e)

@@ -41,4 +41,4 @@ cut separator quotes (b ∷ bs) = if is_separator separator quotes b then ([], S
 -- the text from a separator on, where there is one
 abbrev pub from_separator : ℕ → Option (List ℕ) → List ℕ
 from_separator separator None = []
-from_separator separator (Some behind) = separator ∷ behind
+from_separator separator (Some after) = separator ∷ after

@@ -10,12 +10,12 @@ text_or_empty None = []
 text_or_empty (Some text) = text
 
 -- a target, the parameters after it, and the links after their comma
-abbrev pub parts_behind : List ℕ → List ℕ → List ℕ × List ℕ × List ℕ
-parts_behind target closed = let parts = cut comma Outside closed in (target, parts.0, text_or_empty parts.1)
+abbrev pub parts_after : List ℕ → List ℕ → List ℕ × List ℕ × List ℕ
+parts_after target closed = let parts = cut comma Outside closed in (target, parts.0, text_or_empty parts.1)
 
 -- the parts of a link from its target on
 abbrev pub parts_opened : List ℕ → Option (List ℕ × List ℕ × List ℕ)
-parts_opened opened = let target = cut greater_than_sign Unread opened in option_and_then (λ closed. Some (parts_behind target.0 closed)) target.1
+parts_opened opened = let target = cut greater_than_sign Unread opened in option_and_then (λ closed. Some (parts_after target.0 closed)) target.1
 
 -- the target of the first link, its parameters, and the links after its comma
 unfoldable pub link_parts : List ℕ → Option (List ℕ × List ℕ × List ℕ)

@@ -3,6 +3,7 @@ use Rattle.link_format.specs.declared.points.Point.{Point}
 use Rattle.link_format.specs.declared.points.Point.TheVariants as code
 use Rattle.link_model.specs.DocumentReading as grammar
 
+-- the point of the grammar that the code names so
 abbrev pub point_in : Point → grammar.Point
 point_in code.Beginning = grammar.at_beginning
 point_in code.Link = grammar.at_link

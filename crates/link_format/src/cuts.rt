@@ -68,7 +68,7 @@ fn octets_before(separator: u8, quotes: Quotes, text: &[u8]) -> usize
 pub fn cut(separator: u8, quotes: Quotes, text: &str) -> (&str, Option<&str>)
     requires { separator < 128 }
     ensures before { result.0.now ≡ (cuts.cut separator quotes text.now).0 }
-    ensures behind { option_map (λ behind. behind.now) result.1 ≡ (cuts.cut separator quotes text.now).1 }
+    ensures after { option_map (λ after. after.now) result.1 ≡ (cuts.cut separator quotes text.now).1 }
 {
     let at = octets_before(separator, quotes, text.as_bytes());
     if at == text.len() {

@@ -20,6 +20,7 @@ fn shown(alloc: Global, links: Links<'_>) -> Result<String, Starved> {
     Ok(text)
 }
 
+/// Documents are shown link by link, and what is none is refused at its offset.
 #[test]
 fn documents(rt: HostRuntime) -> Result<(), Fail> {
     let alloc = rt.alloc();

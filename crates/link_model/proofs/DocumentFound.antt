@@ -1,5 +1,5 @@
 -- What is read from a point on is what the octets there spell.
-use Rattle.std.proofs.Common.{◌≡◌, ℕ, Bool, true, false, List, [], ◌∷◌, Option, Some, None, option_map, option_and_then, refl, sym, ap, ◌∙◌, subst}
+use Rattle.std.proofs.Common.{◌≡◌, ℕ, true, List, [], ◌∷◌, Option, Some, None, option_map, option_and_then, refl, ap, ◌∙◌, subst}
 use Rattle.link_model.specs.Documents.{Link}
 use Rattle.link_model.specs.DocumentReading.{Point, at_beginning, at_link, at_target, after_part, at_name, within_name, after_name, at_value, in_token, in_quotes, after_backslash, point_after, with_octet, links_at_end, links_from}
 use Rattle.rd_base.proofs.lemmas.Options.{some_same, none_some}

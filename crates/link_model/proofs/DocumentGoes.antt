@@ -2,7 +2,7 @@
 use Rattle.std.proofs.Common.{◌≡◌, ℕ, Bool, true, false, ◌&&◌, ◌||◌, List, [], ◌∷◌, Option, Some, None, refl, sym, subst, ◌⊎◌, inl, inr}
 use Rattle.std.specs.Prelude.{◌==◌}
 use Rattle.std.specs.List.{list_all}
-use Rattle.std.proofs.lemmas.Bool.{and_parts, false≢true, eqb-true}
+use Rattle.std.proofs.lemmas.Bool.{false≢true, eqb-true}
 use Rattle.link_model.specs.Characters.{quote_mark, asterisk, comma, backslash, semicolon, less_than_sign, equals_sign, greater_than_sign, is_not_control, is_attribute_name_character, is_token_character, is_target_character}
 use Rattle.link_model.specs.Documents.{Parameter, Link, are_name_characters, closes_quotes, is_value, is_parameter, is_link}
 use Rattle.link_model.specs.DocumentReading.{Point, at_beginning, at_link, at_target, after_part, at_name, within_name, after_name, at_value, in_token, in_quotes, after_backslash, point_after, link_of, with_octet, links_at_end}

@@ -3,12 +3,12 @@ use Rattle.std.proofs.Common.{◌≡◌, ℕ, Bool, true, false, ◌&&◌, ◌||
 use Rattle.std.specs.Prelude.{◌==◌, if◌then◌else◌}
 use Rattle.std.specs.List.{list_all}
 use Rattle.std.proofs.lemmas.Bool.{and_parts, false≢true, eqb-true}
-use Rattle.link_model.specs.Characters.{quote_mark, asterisk, comma, backslash, semicolon, less_than_sign, equals_sign, greater_than_sign, is_empty, is_not_control, is_attribute_name_character, is_token_character, is_target_character}
+use Rattle.link_model.specs.Characters.{quote_mark, asterisk, comma, backslash, semicolon, less_than_sign, equals_sign, greater_than_sign, is_not_control, is_attribute_name_character, is_token_character, is_target_character}
 use Rattle.link_model.specs.Documents.{Parameter, Link, closes_quotes, is_parameter, is_link}
 use Rattle.link_model.specs.DocumentReading.{Point, at_beginning, at_link, at_target, after_part, at_name, within_name, after_name, at_value, in_token, in_quotes, after_backslash, point_if, point_after_part, point_after_name, point_after, link_of, with_octet}
 use Rattle.rd_base.proofs.lemmas.Numbers.{other_octet}
 use Rattle.rd_base.proofs.lemmas.Options.{some_same, none_some}
-use Rattle.link_model.proofs.DocumentPoints.{text_at, fits_parameters, fits_link, fits_at, is_beginning}
+use Rattle.link_model.proofs.DocumentPoints.{text_at, fits_link, fits_at, is_beginning}
 
 -- a link with nothing left of its target, and this left of its parameters
 abbrev pub link_with : List ℕ → Option (List ℕ) → List Parameter → Link

@@ -1,40 +1,18 @@
 -- The components that a text is taken apart into are judged one by one.
-use Rattle.std.proofs.Common.{◌≡◌, ℕ, Bool, true, false, not, ◌&&◌, ◌||◌, List, [], ◌∷◌, ◌++◌, Option, Some, None, is_some, length, refl, sym, ap, ◌∙◌, length-append, arith}
-use Rattle.std.proofs.lemmas.Bool.Decides.{nat_tests}
-use Rattle.link_model.specs.Characters.{slash, is_empty, is_path_character, is_query_character}
-use Rattle.reference_model.specs.References.{Components, begins_with, from_first, without_query, has_colon_in_first_segment, scheme_in, behind_scheme, behind_two_slashes, authority_in, path_in, components, recomposed, scheme_text, authority_text, query_text, fragment_text, where_present, is_scheme, is_authority, is_text_of, path_fits, is_allowed, IsReference}
+use Rattle.std.proofs.Common.{◌≡◌, ℕ, Bool, true, false, ◌&&◌, List, ◌++◌, Some, length, refl, sym, ap, ◌∙◌, length-append, arith}
+use Rattle.link_model.specs.Characters.{question_mark, number_sign, is_path_character, is_query_character}
+use Rattle.reference_model.specs.References.{Components, after, without_fragment, without_query, components, recomposed, scheme_text, authority_text, query_text, fragment_text, where_present, is_scheme, is_authority, is_text_of, path_fits, is_allowed, IsReference}
 use Rattle.reference_model.specs.ReferenceFaults.{prefix_of_parts, parts_of, reference_fault_at}
 use Rattle.reference_model.proofs.ReferenceLaws.{recomposed-components}
 use Rattle.reference_model.proofs.ReferenceReading.{components-recomposed}
+use Rattle.reference_model.proofs.ReferenceFaultLaws.{path_fits_beside}
 use Rattle.ref_resolve.specs.ComponentFaults.{have_no_fault, size_of}
 
 -- ---- the path of components that a text is taken apart into fits
 
-path_behind_authority : (text : List ℕ) → (is_empty (from_first slash text) || begins_with slash (from_first slash text)) ≡ true
-unfolding from_first
-path_behind_authority [] = refl
-path_behind_authority (c ∷ cs) = grind (arith, nat_tests, path_behind_authority cs)
-
-abbrev fits : Option (List ℕ) → Option (List ℕ) → List ℕ → Bool
-fits scheme authority path = path_fits (record { scheme = scheme; authority = authority; path = path; query = None; fragment = None })
-
-fits_alone : (scheme : Option (List ℕ)) (rest : List ℕ) → (is_some scheme || not (has_colon_in_first_segment rest)) ≡ true → behind_two_slashes rest ≡ None → fits scheme None rest ≡ true
-fits_alone scheme rest h e = rw e h
-
-fits_taken_apart : (text : List ℕ) → fits (scheme_in text) (authority_in (behind_scheme text)) (path_in (behind_scheme text)) ≡ true
-fits_taken_apart text = by_colon (has_colon_in_first_segment text) refl
-  where
-    by_slashes : (scheme : Option (List ℕ)) (rest : List ℕ) → (is_some scheme || not (has_colon_in_first_segment rest)) ≡ true → (o : Option (List ℕ)) → behind_two_slashes rest ≡ o → fits scheme (authority_in rest) (path_in rest) ≡ true
-    by_slashes scheme rest h None e = rw e (fits_alone scheme rest h e)
-    by_slashes scheme rest h (Some behind) e = rw e (path_behind_authority behind)
-
-    by_colon : (b : Bool) → has_colon_in_first_segment text ≡ b → fits (scheme_in text) (authority_in (behind_scheme text)) (path_in (behind_scheme text)) ≡ true
-    by_colon true e = by_slashes (scheme_in text) (behind_scheme text) (rw e refl) (behind_two_slashes (behind_scheme text)) refl
-    by_colon false e = by_slashes (scheme_in text) (behind_scheme text) (rw (e, e) refl) (behind_two_slashes (behind_scheme text)) refl
-
 path_fits_taken_apart : (text : List ℕ) → path_fits (components text) ≡ true
 unfolding components
-path_fits_taken_apart text = fits_taken_apart (without_query text)
+path_fits_taken_apart text = path_fits_beside (without_query text) (after question_mark (without_fragment text)) (after number_sign text)
 
 -- ---- so each component alone decides
 

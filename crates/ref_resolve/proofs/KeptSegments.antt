@@ -21,9 +21,9 @@ abbrev pub are_segments : List (List ℕ) → Bool
 are_segments segments = list_all is_segment segments
 
 -- a slash and a segment
-abbrev pub is_behind_slash : List ℕ → Bool
-is_behind_slash [] = false
-is_behind_slash (c ∷ cs) = c == slash && is_segment cs
+abbrev pub is_after_slash : List ℕ → Bool
+is_after_slash [] = false
+is_after_slash (c ∷ cs) = c == slash && is_segment cs
 
 abbrev pub is_none : List (List ℕ) → Bool
 is_none [] = true
@@ -32,7 +32,7 @@ is_none (piece ∷ pieces) = false
 -- each piece is a segment after a slash, but for the first of all, which may have no slash
 abbrev pub are_kept : List (List ℕ) → Bool
 are_kept [] = true
-are_kept (piece ∷ kept) = (is_behind_slash piece || (is_none kept && is_segment piece)) && are_kept kept
+are_kept (piece ∷ kept) = (is_after_slash piece || (is_none kept && is_segment piece)) && are_kept kept
 
 -- the text of the pieces
 abbrev pub text_of : List (List ℕ) → List ℕ
@@ -57,7 +57,7 @@ before_last-none (c ∷ cs) h = grind (arith, nat_tests)
 text_more : (piece : List ℕ) (kept : List (List ℕ)) → text_of (piece ∷ kept) ≡ text_of kept ++ piece
 text_more piece kept = ap concat (reverse-append (piece ∷ []) kept) ∙ concat-append (reverse kept) (piece ∷ []) ∙ ap (λ (r : List ℕ). text_of kept ++ r) (append-nil piece)
 
-last_cut : (piece : List ℕ) (kept : List (List ℕ)) → (is_behind_slash piece || (is_none kept && is_segment piece)) ≡ true → before_last slash (text_of kept ++ piece) ≡ text_of kept
+last_cut : (piece : List ℕ) (kept : List (List ℕ)) → (is_after_slash piece || (is_none kept && is_segment piece)) ≡ true → before_last slash (text_of kept ++ piece) ≡ text_of kept
 unfolding before_last
 last_cut [] kept h = by_kept kept h
   where
@@ -81,14 +81,14 @@ text_without_last : (kept : List (List ℕ)) → are_kept kept ≡ true → befo
 unfolding before_last
 text_without_last [] h = refl
 text_without_last (piece ∷ kept) h =
-    let parts = and_parts (is_behind_slash piece || (is_none kept && is_segment piece)) (are_kept kept) h in
+    let parts = and_parts (is_after_slash piece || (is_none kept && is_segment piece)) (are_kept kept) h in
     ap (before_last slash) (text_more piece kept) ∙ last_cut piece kept (parts.0)
 
 -- ---- one segment more
 
 kept_without_last : (kept : List (List ℕ)) → are_kept kept ≡ true → are_kept (without_last_kept kept) ≡ true
 kept_without_last [] h = refl
-kept_without_last (piece ∷ kept) h = (and_parts (is_behind_slash piece || (is_none kept && is_segment piece)) (are_kept kept) h).1
+kept_without_last (piece ∷ kept) h = (and_parts (is_after_slash piece || (is_none kept && is_segment piece)) (are_kept kept) h).1
 
 one_kept : (kept : List (List ℕ)) (segment : List ℕ) → are_kept kept ≡ true → is_segment segment ≡ true
     → (are_kept (kept_with kept segment) ≡ true) × (text_of (kept_with kept segment) ≡ path_with (text_of kept) segment)
@@ -150,7 +150,7 @@ unfolding remove_dot_segments
 dots_removed path cut e d =
     let first = before slash cut in
     let rest = closed_segments (from_first slash cut) in
-    let kept : are_kept (first ∷ []) ≡ true = rw (has_octet-before slash cut) (or_true (is_behind_slash first)) in
+    let kept : are_kept (first ∷ []) ≡ true = rw (has_octet-before slash cut) (or_true (is_after_slash first)) in
     ap path_without_dots (e ∙ leading_none cut d) ∙ all_kept (first ∷ []) rest kept (closed-segments (from_first slash cut)) ∙ ap (λ (t : List ℕ). fold path_with t rest) (append-nil first)
   where
     or_true : (b : Bool) → ((b || true) && true) ≡ true

@@ -24,14 +24,14 @@ ends_otherwise (x ∷ xs) c h =
     or_false false = refl
 
 -- an octet moves from the end of one list to the beginning of the next
-pub moved : (text rest front behind : List ℕ) (c : ℕ) → text ≡ rest ++ behind → rest ≡ front ++ c ∷ [] → text ≡ front ++ (c ∷ behind)
-moved text rest front behind c e h = e ∙ ap (λ (r : List ℕ). r ++ behind) h ∙ append_assoc front (c ∷ []) behind
+pub moved : (text rest front after : List ℕ) (c : ℕ) → text ≡ rest ++ after → rest ≡ front ++ c ∷ [] → text ≡ front ++ (c ∷ after)
+moved text rest front after c e h = e ∙ ap (λ (r : List ℕ). r ++ after) h ∙ append_assoc front (c ∷ []) after
 
-pub last_found : (text rest front behind : List ℕ) (c : ℕ) → text ≡ rest ++ behind → rest ≡ front ++ c ∷ [] → c ≡ slash → before_last slash rest ≡ before_last slash text
+pub last_found : (text rest front after : List ℕ) (c : ℕ) → text ≡ rest ++ after → rest ≡ front ++ c ∷ [] → c ≡ slash → before_last slash rest ≡ before_last slash text
     → before_last slash text ≡ take (length front) text
-last_found text rest front behind c e h k b =
+last_found text rest front after c e h k b =
     let cut : before_last slash rest ≡ front = ap (before_last slash) h ∙ ap (λ (x : ℕ). before_last slash (front ++ x ∷ [])) k ∙ before_last-slash front [] refl in
-    let taken : take (length front) text ≡ front = ap (take (length front)) (moved text rest front behind c e h) ∙ take-append_seam front (c ∷ behind) in
+    let taken : take (length front) text ≡ front = ap (take (length front)) (moved text rest front after c e h) ∙ take-append_seam front (c ∷ after) in
     sym b ∙ cut ∙ sym taken
 
 pub last_farther : (text rest front : List ℕ) (c : ℕ) → rest ≡ front ++ c ∷ [] → c ≢ slash → before_last slash rest ≡ before_last slash text → before_last slash front ≡ before_last slash text

@@ -9,7 +9,7 @@ use Rattle.reference_model.specs.References.{Components, IsReference, components
 use Rattle.reference_model.specs.Resolution.{segments_of, up_to_last_slash, resolution, resolved}
 use Rattle.reference_model.proofs.ReferenceReading.{components-recomposed}
 use Rattle.ref_resolve.proofs.CutLaws.{octet_nowhere, from_nowhere}
-use Rattle.ref_resolve.proofs.Segments.{segments_behind, first_segment}
+use Rattle.ref_resolve.proofs.Segments.{segments_after, first_segment}
 
 -- without a slash nothing is left
 up_to_none : (path : List ℕ) → has_octet slash path ≡ false → up_to_last_slash path ≡ []
@@ -39,8 +39,8 @@ up_to_cons c cs h = by_slash (c == slash) refl
         cut ∙ ap (λ (x : ℕ). x ∷ up_to_last_slash cs) (sym same)
     by_slash false e =
         let found = from_some cs h in
-        let two : segments_of cs ≡ before slash cs ∷ before slash (found.0) ∷ segments_behind (from_first slash (found.0)) =
-        first_segment cs ∙ ap (λ (r : List ℕ). before slash cs ∷ segments_behind r) (found.1) ∙ ap (λ (r : List (List ℕ)). before slash cs ∷ r) (first_segment (found.0)) in
+        let two : segments_of cs ≡ before slash cs ∷ before slash (found.0) ∷ segments_after (from_first slash (found.0)) =
+        first_segment cs ∙ ap (λ (r : List ℕ). before slash cs ∷ segments_after r) (found.1) ∙ ap (λ (r : List (List ℕ)). before slash cs ∷ r) (first_segment (found.0)) in
         rw (e, two) refl
 
 -- a slash that is the last

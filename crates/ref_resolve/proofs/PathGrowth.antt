@@ -8,29 +8,29 @@ use Rattle.link_model.specs.Characters.{slash, is_empty}
 use Rattle.reference_model.specs.References.{before, begins_with, from_first}
 use Rattle.reference_model.specs.Resolution.{segments_of, with_closing_slash, is_dot_segment, without_leading_dots, remove_dot_segments}
 use Rattle.ref_resolve.specs.Paths.{path_with, closed_segments}
-use Rattle.ref_resolve.proofs.Segments.{segments_behind, first_segment, closing_behind, no_slash_behind}
+use Rattle.ref_resolve.proofs.Segments.{segments_after, first_segment, closing_after, no_slash_after}
 use Rattle.ref_resolve.proofs.KeptSegments.{dots_removed}
 
 -- ---- the segments that are left
 
-pub one_segment : (rest behind segment next : List ℕ) → rest ≡ slash ∷ behind → segment ≡ before slash behind → next ≡ from_first slash behind → (length next == 0) ≡ true → closed_segments rest ≡ with_closing_slash (segment ∷ [])
+pub one_segment : (rest after segment next : List ℕ) → rest ≡ slash ∷ after → segment ≡ before slash after → next ≡ from_first slash after → (length next == 0) ≡ true → closed_segments rest ≡ with_closing_slash (segment ∷ [])
 unfolding closed_segments
-one_segment rest behind segment [] e s n h =
-    ap closed_segments e ∙ ap with_closing_slash (first_segment behind ∙ ap (λ (x : List ℕ). before slash behind ∷ segments_behind x) (sym n) ∙ ap (λ (x : List ℕ). x ∷ []) (sym s))
-one_segment rest behind segment (c ∷ cs) e s n h = absurd (grind (arith, nat_tests))
+one_segment rest after segment [] e s n h =
+    ap closed_segments e ∙ ap with_closing_slash (first_segment after ∙ ap (λ (x : List ℕ). before slash after ∷ segments_after x) (sym n) ∙ ap (λ (x : List ℕ). x ∷ []) (sym s))
+one_segment rest after segment (c ∷ cs) e s n h = absurd (grind (arith, nat_tests))
 
-pub more_segments : (rest behind segment next : List ℕ) → rest ≡ slash ∷ behind → segment ≡ before slash behind → next ≡ from_first slash behind → (length next == 0) ≡ false → closed_segments rest ≡ segment ∷ closed_segments next
+pub more_segments : (rest after segment next : List ℕ) → rest ≡ slash ∷ after → segment ≡ before slash after → next ≡ from_first slash after → (length next == 0) ≡ false → closed_segments rest ≡ segment ∷ closed_segments next
 unfolding closed_segments
-more_segments rest behind segment [] e s n h = absurd (true_false h)
+more_segments rest after segment [] e s n h = absurd (true_false h)
   where
     true_false : true ≡ false → ⊥
     true_false k = cc
-more_segments rest behind segment (c ∷ cs) e s n h =
-    ap closed_segments e ∙ ap with_closing_slash (first_segment behind ∙ ap (λ (x : List ℕ). before slash behind ∷ segments_behind x) (sym n) ∙ ap (λ (x : List ℕ). x ∷ segments_of cs) (sym s)) ∙ closing_behind segment cs
+more_segments rest after segment (c ∷ cs) e s n h =
+    ap closed_segments e ∙ ap with_closing_slash (first_segment after ∙ ap (λ (x : List ℕ). before slash after ∷ segments_after x) (sym n) ∙ ap (λ (x : List ℕ). x ∷ segments_of cs) (sym s)) ∙ closing_after segment cs
 
 pub no_segments : (rest : List ℕ) → (is_empty rest || begins_with slash rest) ≡ true → begins_with slash rest ≡ false → closed_segments rest ≡ []
 unfolding closed_segments
-no_segments rest h k = ap closed_segments (no_slash_behind rest h k)
+no_segments rest h k = ap closed_segments (no_slash_after rest h k)
 
 -- ---- the path that grows
 

@@ -1,3 +1,4 @@
+-- What the contracts say beyond reference_model: the components that parts show, classes of characters, paths as they grow, and merged paths.
 pub mod ComponentsOfParts
 pub mod Classes
 pub mod ComponentFaults

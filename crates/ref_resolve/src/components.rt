@@ -3,7 +3,7 @@ ghost use Rattle.std.specs.Prelude.{◌≡◌, option_map};
 ghost use Rattle.reference_model.specs.References as references;
 ghost use Rattle.ref_resolve.specs.ComponentsOfParts.{components_of};
 
-use crate::cuts::{around, behind_two_slashes, split_from};
+use crate::cuts::{after_two_slashes, around, split_from};
 
 /// The components of a reference (RFC 3986 section 3), as they are spelled.
 #[derive(Clone, Copy, Debug)]
@@ -24,7 +24,7 @@ pub struct Parts<'a> {
 #[tactic(auto, using(crate::proofs::CutLaws::colon_before_slash))]
 fn scheme_of(text: &str) -> (Option<&str>, &str)
     ensures scheme { option_map (λ scheme. scheme.now) result.0 ≡ references.scheme_in text.now }
-    ensures rest { result.1.now ≡ references.behind_scheme text.now }
+    ensures rest { result.1.now ≡ references.after_scheme text.now }
 {
     let (front, back) = around(text, ':');
     match back {
@@ -44,7 +44,7 @@ fn authority_of(text: &str) -> (Option<&str>, &str)
     ensures authority { option_map (λ authority. authority.now) result.0 ≡ references.authority_in text.now }
     ensures path { result.1.now ≡ references.path_in text.now }
 {
-    match behind_two_slashes(text) {
+    match after_two_slashes(text) {
         None => (None, text),
         Some(rest) => {
             let (authority, path) = split_from(rest, '/');

@@ -6,7 +6,7 @@ ghost use Rattle.reference_model.specs.References as references;
 pub(crate) fn around(text: &str, mark: char) -> (&str, Option<&str>)
     requires { mark < 128 }
     ensures before { result.0.now ≡ references.before mark text.now }
-    ensures behind { option_map (λ rest. rest.now) result.1 ≡ references.behind mark text.now }
+    ensures after { option_map (λ rest. rest.now) result.1 ≡ references.after mark text.now }
     ensures lengths { MatchOption result.1 (length result.0.now ≡ length text.now) (λ rest. length result.0.now + 1 + length rest.now ≡ length text.now) }
 {
     match text.split_once(mark) {
@@ -40,7 +40,7 @@ pub(crate) fn through(text: &str, mark: char) -> &str
 }
 
 /// What stands after the mark, where the text begins with it.
-pub(crate) fn behind_first(text: &str, mark: char) -> Option<&str>
+pub(crate) fn after_first(text: &str, mark: char) -> Option<&str>
     requires { mark < 128 }
     ensures { MatchOption result (references.begins_with mark text.now ≡ false) (λ rest. text.now ≡ mark ∷ rest.now) }
 {
@@ -48,8 +48,8 @@ pub(crate) fn behind_first(text: &str, mark: char) -> Option<&str>
 }
 
 /// What stands after two slashes at the beginning, where they stand there.
-pub(crate) fn behind_two_slashes(text: &str) -> Option<&str>
-    ensures { option_map (λ rest. rest.now) result ≡ references.behind_two_slashes text.now }
+pub(crate) fn after_two_slashes(text: &str) -> Option<&str>
+    ensures { option_map (λ rest. rest.now) result ≡ references.after_two_slashes text.now }
 {
     match text.strip_prefix('/') {
         Some(rest) => rest.strip_prefix('/'),

@@ -7,7 +7,7 @@ ghost use Rattle.reference_model.specs.References as references;
 ghost use Rattle.reference_model.specs.Resolution as resolution;
 ghost use Rattle.ref_resolve.specs.Paths.{before_last, path_with, closed_segments};
 
-use crate::cuts::{behind_first, split_from};
+use crate::cuts::{after_first, split_from};
 use rd_base::Starved;
 
 /// Whether a segment is one dot.
@@ -38,11 +38,11 @@ fn without_leading_dots(path: &str) -> &str
 {
     let mut rest = path;
     'segments: loop {
-        let (segment, behind) = split_from(rest, '/');
+        let (segment, after) = split_from(rest, '/');
         if !is_dot_segment(segment) {
             return rest;
         }
-        match behind_first(behind, '/') {
+        match after_first(after, '/') {
             Some(next) => rest = next,
             None => return "",
         }
@@ -122,8 +122,8 @@ fn append_segments(text: &mut String, start: usize, path: &str) -> Result<(), St
     ensures path { OnOk result (drop start (string_bytes text.new) ≡ fold path_with (drop start (string_bytes text.old)) (closed_segments path.now)) }
 {
     let mut rest = path;
-    'segments: while let Some(behind) = behind_first(rest, '/') {
-        let (segment, next) = split_from(behind, '/');
+    'segments: while let Some(after) = after_first(rest, '/') {
+        let (segment, next) = split_from(after, '/');
         if next.is_empty() {
             return append_last_segment(text, start, segment);
         }

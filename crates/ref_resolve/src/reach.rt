@@ -7,7 +7,7 @@ ghost use Rattle.reference_model.specs.References as references;
 ghost use Rattle.reference_model.specs.ReferenceFaults as faults;
 ghost use Rattle.ref_resolve.specs.Classes.{stands_in, next_digits};
 
-use crate::cuts::{around, behind_first, split_from};
+use crate::cuts::{after_first, around, split_from};
 
 /// How far a text goes as the beginning of a component, and whether all of it is one.
 #[derive(Clone, Copy)]
@@ -163,13 +163,13 @@ fn is_literal(text: &str) -> bool
 }
 
 /// A port with its colon, or nothing (RFC 3986 section 3.2.3).
-#[tactic(auto, using(crate::proofs::ReachLaws::port_behind_colon, crate::proofs::ReachLaws::no_port))]
+#[tactic(auto, using(crate::proofs::ReachLaws::port_after_colon, crate::proofs::ReachLaws::no_port))]
 fn port_reach(text: &str) -> Reach
     ensures whole { result.whole ≡ references.is_port_text text.now }
     ensures at { result.at ≡ faults.port_prefix text.now }
     ensures bound { result.at ≤ length text.now }
 {
-    match behind_first(text, ':') {
+    match after_first(text, ':') {
         Some(digits) => {
             let count = digits_at(digits);
             Reach {
@@ -185,14 +185,14 @@ fn port_reach(text: &str) -> Reach
 }
 
 /// An IP literal after its opening bracket, and a port or none (RFC 3986 section 3.2.2).
-#[tactic(auto, using(crate::proofs::ReachLaws::octet_behind))]
+#[tactic(auto, using(crate::proofs::ReachLaws::octet_after))]
 fn literal_reach(text: &str) -> Reach
     ensures whole { result.whole ≡ references.is_literal_and_port (characters.left_bracket ∷ text.now) }
     ensures at { result.at + 1 ≡ faults.literal_prefix (characters.left_bracket ∷ text.now) }
     ensures bound { result.at ≤ length text.now }
 {
-    let (inside, behind) = around(text, ']');
-    match behind {
+    let (inside, after) = around(text, ']');
+    match after {
         Some(port) => {
             if !is_literal(inside) {
                 return Reach {
@@ -238,7 +238,7 @@ fn host_reach(text: &str) -> Reach
     ensures at { result.at ≡ faults.host_prefix text.now }
     ensures bound { result.at ≤ length text.now }
 {
-    match behind_first(text, '[') {
+    match after_first(text, '[') {
         Some(rest) => {
             let reach = literal_reach(rest);
             Reach {
@@ -251,15 +251,15 @@ fn host_reach(text: &str) -> Reach
 }
 
 /// An authority: user information or none, a host, and a port or none (RFC 3986 section 3.2).
-#[tactic(auto, using(crate::proofs::ReachLaws::octet_behind, crate::proofs::CutLaws::before_nowhere, crate::proofs::ReachLaws::no_at_sign), unfolding(reference_model::specs::ReferenceFaults::authority_prefix))]
+#[tactic(auto, using(crate::proofs::ReachLaws::octet_after, reference_model::proofs::ReferenceCuts::before_alone, crate::proofs::ReachLaws::no_at_sign), unfolding(reference_model::specs::ReferenceFaults::authority_prefix))]
 pub(crate) fn authority_reach(text: &str) -> Reach
     ensures whole { result.whole ≡ references.is_authority text.now }
     ensures at { result.at ≡ faults.authority_prefix text.now }
     ensures bound { result.at ≤ length text.now }
 {
-    let (front, behind) = around(text, '@');
+    let (front, after) = around(text, '@');
     let user = text_reach(Class::User, front);
-    match behind {
+    match after {
         Some(rest) => {
             let host = host_reach(rest);
             if user.whole {

@@ -5,9 +5,9 @@ ghost use Rattle.reference_model.specs.ReferenceFaults as faults;
 ghost use Rattle.ref_resolve.specs.ComponentsOfParts.{components_of};
 ghost use Rattle.ref_resolve.specs.ComponentFaults.{have_no_fault, size_of};
 
+use crate::components::{Parts, apart};
 use crate::cuts::{around, through};
 use crate::reach::{Class, authority_reach, is_scheme, text_reach};
-use crate::components::{Parts, apart};
 
 /// A text is no URI-reference.
 #[derive(Clone, Copy, Debug, PartialEq, Eq)]
@@ -166,11 +166,11 @@ pub fn host<'a>(parts: &Parts<'a>) -> Option<&'a str>
 }
 
 /// What stands after the user information of an authority (RFC 3986 section 3.2.1).
-fn behind_userinfo(authority: &str) -> &str
-    ensures { result.now ≡ references.behind_userinfo authority.now }
+fn after_userinfo(authority: &str) -> &str
+    ensures { result.now ≡ references.after_userinfo authority.now }
 {
-    let (_, behind) = around(authority, '@');
-    match behind {
+    let (_, after) = around(authority, '@');
+    match after {
         None => authority,
         Some(rest) => rest,
     }
@@ -181,7 +181,7 @@ fn behind_userinfo(authority: &str) -> &str
 fn host_of(authority: &str) -> &str
     ensures { result.now ≡ references.host_of authority.now }
 {
-    host_in(behind_userinfo(authority))
+    host_in(after_userinfo(authority))
 }
 
 /// The host at the beginning of a text.

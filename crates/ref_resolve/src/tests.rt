@@ -33,6 +33,7 @@ const LINKS: &str = "coap://h/c/d";
 /// A base, a reference, and the text that is resolved or the offset of the first fault.
 type Case = (&'static str, &'static str, Result<&'static str, usize>);
 
+/// The examples of RFC 3986 section 5.4, links of a registration, and texts that are no references.
 static CASES: [Case; 79] = [
     // RFC 3986 section 5.4.1
     (RFC, "g:h", Ok("g:h")),
@@ -135,6 +136,7 @@ fn compare(
     Ok(())
 }
 
+/// Each case of the table, and a reference of many steps upward.
 #[test]
 fn references(rt: HostRuntime) -> Result<(), Fail> {
     let alloc = rt.alloc();
@@ -149,6 +151,7 @@ fn references(rt: HostRuntime) -> Result<(), Fail> {
     Ok(())
 }
 
+/// The host of a reference, and whether it is a URI.
 #[test]
 fn hosts(rt: HostRuntime) -> Result<(), Fail> {
     let cases = [

@@ -3,8 +3,8 @@ use Rattle.std.proofs.Common.{◌≡◌, ℕ, zero, suc, ◌+◌, ◌<◌, ◌�
 use Rattle.std.proofs.lemmas.Bool.Decides.{nat_tests}
 use Rattle.std.proofs.lemmas.List.{length-append}
 use Rattle.std.proofs.lemmas.Bool.{and_left}
-use Rattle.reference_model.specs.References.{before, behind, from_first, has_octet, marked}
-use Rattle.reference_model.proofs.ReferenceCuts.{cut, behind_none, has_octet-before, before-marked, behind-marked}
+use Rattle.reference_model.specs.References.{before, after, from_first, has_octet, marked}
+use Rattle.reference_model.proofs.ReferenceCuts.{cut, after_none, has_octet-before, before-marked, after-marked, before_alone}
 use Rattle.rd_base.proofs.lemmas.Options.{some_same}
 use Rattle.reference_model.proofs.ReferenceReading.{before-append}
 
@@ -16,20 +16,20 @@ pub record IsLongest (accepts : List ℕ → Bool) (text : List ℕ) (n : ℕ) :
 
 -- a prefix of two texts is a prefix of the first, or the first and a prefix of the second
 pub record Reaches (front rest : List ℕ) (m : ℕ) : Type 0 where
-  pub behind_front : ℕ
-  pub whole : m ≡ length front + behind_front
-  pub parts : take m (front ++ rest) ≡ front ++ take behind_front rest
+  pub after_front : ℕ
+  pub whole : m ≡ length front + after_front
+  pub parts : take m (front ++ rest) ≡ front ++ take after_front rest
 
 pub take_cases : (front rest : List ℕ) (m : ℕ) → ((m ≤ length front) × (take m (front ++ rest) ≡ take m front)) ⊎ ((length front < m) × Reaches front rest m)
 take_cases [] rest zero = inl (omega arith, refl)
-take_cases [] rest (suc m) = inr (omega arith, record { behind_front = suc m; whole = omega arith; parts = refl })
+take_cases [] rest (suc m) = inr (omega arith, record { after_front = suc m; whole = omega arith; parts = refl })
 take_cases (c ∷ front) rest zero = inl (omega arith, refl)
 take_cases (c ∷ front) rest (suc m) = by_front (take_cases front rest m)
   where
     by_front : ((m ≤ length front) × (take m (front ++ rest) ≡ take m front)) ⊎ ((length front < m) × Reaches front rest m)
         → ((suc m ≤ suc (length front)) × (c ∷ take m (front ++ rest) ≡ c ∷ take m front)) ⊎ ((suc (length front) < suc m) × Reaches (c ∷ front) rest (suc m))
     by_front (inl x) = inl (omega arith, ap (λ (t : List ℕ). c ∷ t) (x.1))
-    by_front (inr x) = let r = x.1 in let w = r.whole in inr (omega arith, record { behind_front = r.behind_front; whole = omega arith; parts = ap (λ (t : List ℕ). c ∷ t) r.parts })
+    by_front (inr x) = let r = x.1 in let w = r.whole in inr (omega arith, record { after_front = r.after_front; whole = omega arith; parts = ap (λ (t : List ℕ). c ∷ t) r.parts })
 
 pub take_front : (front rest : List ℕ) (j : ℕ) → take (length front + j) (front ++ rest) ≡ front ++ take j rest
 take_front [] rest j = rw zero-add refl
@@ -47,34 +47,30 @@ has_octet-take mark [] (suc m) h = refl
 has_octet-take mark (c ∷ cs) zero h = refl
 has_octet-take mark (c ∷ cs) (suc m) h = grind (arith, nat_tests, has_octet-take mark cs m)
 
-pub from_first-behind : (mark : ℕ) (text : List ℕ) → from_first mark text ≡ marked mark (behind mark text)
-unfolding from_first behind
-from_first-behind mark [] = refl
-from_first-behind mark (c ∷ cs) = grind (arith, nat_tests, from_first-behind mark cs)
+pub from_first-after : (mark : ℕ) (text : List ℕ) → from_first mark text ≡ marked mark (after mark text)
+unfolding from_first after
+from_first-after mark [] = refl
+from_first-after mark (c ∷ cs) = grind (arith, nat_tests, from_first-after mark cs)
 
--- a text without the mark is its own front
-pub before_alone : (mark : ℕ) (text : List ℕ) → has_octet mark text ≡ false → before mark text ≡ text
-before_alone mark text h = sym (ap (before mark) (append-nil text)) ∙ before-marked mark text None h
+pub length-cut : (mark : ℕ) (text : List ℕ) → length text ≡ length (before mark text) + length (marked mark (after mark text))
+length-cut mark text = ap length (cut mark text) ∙ length-append (before mark text) (marked mark (after mark text))
 
-pub length-cut : (mark : ℕ) (text : List ℕ) → length text ≡ length (before mark text) + length (marked mark (behind mark text))
-length-cut mark text = ap length (cut mark text) ∙ length-append (before mark text) (marked mark (behind mark text))
-
--- what follows a prefix that reaches behind the mark
+-- what follows a prefix that reaches past the mark
 pub record PastMark (mark : ℕ) (text : List ℕ) (m : ℕ) (more : List ℕ) : Type 0 where
   pub rest : List ℕ
   pub count : ℕ
-  pub is_behind : behind mark text ≡ Some rest
+  pub is_after : after mark text ≡ Some rest
   pub whole : m ≡ suc (length (before mark text)) + count
   pub short : count ≤ length rest
   pub same_front : before mark (take m text ++ more) ≡ before mark text
-  pub same_behind : behind mark (take m text ++ more) ≡ Some (take count rest ++ more)
+  pub same_after : after mark (take m text ++ more) ≡ Some (take count rest ++ more)
 
--- a prefix with more behind it ends before the mark, or past it
+-- a prefix with more after it ends before the mark, or past it
 abbrev pub EndsBeforeMark : ℕ → List ℕ → ℕ → List ℕ → Type 0
 EndsBeforeMark mark text m more = (m ≤ length (before mark text)) × (take m text ≡ take m (before mark text)) × (before mark (take m text ++ more) ≡ take m (before mark text) ++ before mark more)
 
 pub mark_cases : (mark : ℕ) (text : List ℕ) (m : ℕ) (more : List ℕ) → m ≤ length text → EndsBeforeMark mark text m more ⊎ PastMark mark text m more
-mark_cases mark text m more h = by_front (take_cases front (marked mark (behind mark text)) m)
+mark_cases mark text m more h = by_front (take_cases front (marked mark (after mark text)) m)
   where
     front : List ℕ
     front = before mark text
@@ -82,40 +78,40 @@ mark_cases mark text m more h = by_front (take_cases front (marked mark (behind 
     no_mark : has_octet mark front ≡ false
     no_mark = has_octet-before mark text
 
-    taken : take m text ≡ take m (front ++ marked mark (behind mark text))
+    taken : take m text ≡ take m (front ++ marked mark (after mark text))
     taken = ap (take m) (cut mark text)
 
-    past : (o : Option (List ℕ)) → behind mark text ≡ o → length front < m → Reaches front (marked mark o) m → PastMark mark text m more
-    past None e l r = let a = length-cut mark text in let b : length (marked mark (behind mark text)) ≡ 0 = rw e refl in absurd (omega arith)
-    past (Some rest) e l r = at_count r.behind_front refl
+    past : (o : Option (List ℕ)) → after mark text ≡ o → length front < m → Reaches front (marked mark o) m → PastMark mark text m more
+    past None e l r = let a = length-cut mark text in let b : length (marked mark (after mark text)) ≡ 0 = rw e refl in absurd (omega arith)
+    past (Some rest) e l r = at_count r.after_front refl
       where
-        at_count : (j : ℕ) → r.behind_front ≡ j → PastMark mark text m more
+        at_count : (j : ℕ) → r.after_front ≡ j → PastMark mark text m more
         at_count zero f = let w = r.whole in absurd (omega arith)
         at_count (suc j) f =
             let w = r.whole in
             let a = length-cut mark text in
-            let b : length (marked mark (behind mark text)) ≡ suc (length rest) = rw e refl in
+            let b : length (marked mark (after mark text)) ≡ suc (length rest) = rw e refl in
             let y : take m text ++ more ≡ front ++ mark ∷ (take j rest ++ more) =
             ap (λ (x : List ℕ). x ++ more) (taken ∙ ap (λ (o : Option (List ℕ)). take m (front ++ marked mark o)) e ∙ r.parts ∙ ap (λ (i : ℕ). front ++ take i (mark ∷ rest)) f) ∙ append_assoc front (mark ∷ take j rest) more in
             record {
               rest = rest;
               count = j;
-              is_behind = e;
+              is_after = e;
               whole = omega arith;
               short = omega arith;
               same_front = ap (before mark) y ∙ before-marked mark front (Some (take j rest ++ more)) no_mark;
-              same_behind = ap (behind mark) y ∙ behind-marked mark front (Some (take j rest ++ more)) no_mark;
+              same_after = ap (after mark) y ∙ after-marked mark front (Some (take j rest ++ more)) no_mark;
             }
 
-    by_front : ((m ≤ length front) × (take m (front ++ marked mark (behind mark text)) ≡ take m front)) ⊎ ((length front < m) × Reaches front (marked mark (behind mark text)) m) → EndsBeforeMark mark text m more ⊎ PastMark mark text m more
+    by_front : ((m ≤ length front) × (take m (front ++ marked mark (after mark text)) ≡ take m front)) ⊎ ((length front < m) × Reaches front (marked mark (after mark text)) m) → EndsBeforeMark mark text m more ⊎ PastMark mark text m more
     by_front (inl x) =
         let same : take m text ≡ take m front = taken ∙ x.1 in
         inl (x.0, same, ap (λ (t : List ℕ). before mark (t ++ more)) same ∙ before-append mark (take m front) more (has_octet-take mark front m no_mark))
-    by_front (inr x) = inr (past (behind mark text) refl (x.0) (x.1))
+    by_front (inr x) = inr (past (after mark text) refl (x.0) (x.1))
 
--- a text whose part before the mark passes one test, and whose rest behind it another
+-- a text whose part before the mark passes one test, and whose rest after it another
 abbrev pub cut_passes : (List ℕ → Bool) → (Option (List ℕ) → Bool) → ℕ → List ℕ → Bool
-cut_passes first second mark text = first (before mark text) && second (behind mark text)
+cut_passes first second mark text = first (before mark text) && second (after mark text)
 
 pub both_pass : (a b : Bool) → a ≡ true → b ≡ true → (a && b) ≡ true
 both_pass a b e f = rw (e, f) refl
@@ -127,7 +123,7 @@ pub passes_alone : (first : List ℕ → Bool) (second : Option (List ℕ) → B
     → (text : List ℕ) → first text ≡ true → cut_passes first second mark text ≡ true
 passes_alone first second mark no_mark none text h =
     let without = no_mark text h in
-    both_pass (first (before mark text)) (second (behind mark text)) (ap first (before_alone mark text without) ∙ h) (ap second (behind_none mark text without) ∙ none)
+    both_pass (first (before mark text)) (second (after mark text)) (ap first (before_alone mark text without) ∙ h) (ap second (after_none mark text without) ∙ none)
 
 -- where the part before the mark does not pass, the fault is in it
 pub front_longest_by : (first : List ℕ → Bool) (second : Option (List ℕ) → Bool) (mark : ℕ) → ((text : List ℕ) → first text ≡ true → (more : List ℕ) × (cut_passes first second mark (text ++ more) ≡ true))
@@ -142,7 +138,7 @@ front_longest_by first second mark ends text n fails l = record {
     front = before mark text
 
     same : take n text ≡ take n front
-    same = ap (take n) (cut mark text) ∙ take_within front (marked mark (behind mark text)) n l.within
+    same = ap (take n) (cut mark text) ∙ take_within front (marked mark (after mark text)) n l.within
 
     ended : (more : List ℕ) × (cut_passes first second mark ((take n front ++ l.begins.0) ++ more) ≡ true)
     ended = ends (take n front ++ l.begins.0) (l.begins.1)
@@ -151,8 +147,8 @@ front_longest_by first second mark ends text n fails l = record {
     spelled = ap (λ (t : List ℕ). t ++ (l.begins.0 ++ ended.0)) same ∙ sym (append_assoc (take n front) (l.begins.0) (ended.0))
 
     at_mark : (m : ℕ) → n < m → (more : List ℕ) → EndsBeforeMark mark text m more ⊎ PastMark mark text m more → cut_passes first second mark (take m text ++ more) ≡ false
-    at_mark m h more (inl x) = and_left (first (before mark (take m text ++ more))) (second (behind mark (take m text ++ more))) (ap first (x.2) ∙ l.longest m h (x.0) (before mark more))
-    at_mark m h more (inr p) = and_left (first (before mark (take m text ++ more))) (second (behind mark (take m text ++ more))) (ap first p.same_front ∙ fails)
+    at_mark m h more (inl x) = and_left (first (before mark (take m text ++ more))) (second (after mark (take m text ++ more))) (ap first (x.2) ∙ l.longest m h (x.0) (before mark more))
+    at_mark m h more (inr p) = and_left (first (before mark (take m text ++ more))) (second (after mark (take m text ++ more))) (ap first p.same_front ∙ fails)
 
 -- the same, where nothing need follow that part
 pub front_longest : (first : List ℕ → Bool) (second : Option (List ℕ) → Bool) (mark : ℕ) → ((text : List ℕ) → first text ≡ true → has_octet mark text ≡ false) → second None ≡ true
@@ -160,12 +156,12 @@ pub front_longest : (first : List ℕ → Bool) (second : Option (List ℕ) → 
 front_longest first second mark no_mark none =
     front_longest_by first second mark (λ text h. ([], ap (cut_passes first second mark) (append-nil text) ∙ passes_alone first second mark no_mark none text h))
 
--- where the part before the mark passes, the fault is behind it
-pub behind_longest : (first : List ℕ → Bool) (second : Option (List ℕ) → Bool) (mark : ℕ) (text rest : List ℕ) (n : ℕ) → first (before mark text) ≡ true → behind mark text ≡ Some rest
+-- where the part before the mark passes, the fault is after it
+pub after_longest : (first : List ℕ → Bool) (second : Option (List ℕ) → Bool) (mark : ℕ) (text rest : List ℕ) (n : ℕ) → first (before mark text) ≡ true → after mark text ≡ Some rest
     → IsLongest (λ t. second (Some t)) rest n → IsLongest (cut_passes first second mark) text (suc (length (before mark text)) + n)
-behind_longest first second mark text rest n passes e l = record {
-  within = let a = length-cut mark text in let b : length (marked mark (behind mark text)) ≡ suc (length rest) = rw e refl in let c = l.within in omega arith;
-  begins = (l.begins.0, both_pass (first (before mark begun)) (second (behind mark begun)) (ap (λ (t : List ℕ). first (before mark t)) spelled ∙ ap first (before-marked mark front (Some ended) no_mark) ∙ passes) (ap (λ (t : List ℕ). second (behind mark t)) spelled ∙ ap second (behind-marked mark front (Some ended) no_mark) ∙ l.begins.1));
+after_longest first second mark text rest n passes e l = record {
+  within = let a = length-cut mark text in let b : length (marked mark (after mark text)) ≡ suc (length rest) = rw e refl in let c = l.within in omega arith;
+  begins = (l.begins.0, both_pass (first (before mark begun)) (second (after mark begun)) (ap (λ (t : List ℕ). first (before mark t)) spelled ∙ ap first (before-marked mark front (Some ended) no_mark) ∙ passes) (ap (λ (t : List ℕ). second (after mark t)) spelled ∙ ap second (after-marked mark front (Some ended) no_mark) ∙ l.begins.1));
   longest = λ m h k more. at_mark m h more (mark_cases mark text m more k);
 }
   where
@@ -192,12 +188,12 @@ behind_longest first second mark text rest n passes e l = record {
     at_mark : (m : ℕ) → suc (length front) + n < m → (more : List ℕ) → EndsBeforeMark mark text m more ⊎ PastMark mark text m more → cut_passes first second mark (take m text ++ more) ≡ false
     at_mark m h more (inl x) = let y = x.0 in absurd (omega arith)
     at_mark m h more (inr p) =
-        let same : rest ≡ p.rest = some_same (sym e ∙ p.is_behind) in
+        let same : rest ≡ p.rest = some_same (sym e ∙ p.is_after) in
         let w = p.whole in
         let s = p.short in
         let fails : second (Some (take p.count rest ++ more)) ≡ false = l.longest p.count (omega arith) (subst (λ (r : List ℕ). p.count ≤ length r) (sym same) p.short) more in
-        second_fails (first (before mark (take m text ++ more))) (second (behind mark (take m text ++ more))) (ap first p.same_front ∙ passes)
-        (ap second p.same_behind ∙ ap (λ (r : List ℕ). second (Some (take p.count r ++ more))) (sym same) ∙ fails)
+        second_fails (first (before mark (take m text ++ more))) (second (after mark (take m text ++ more))) (ap first p.same_front ∙ passes)
+        (ap second p.same_after ∙ ap (λ (r : List ℕ). second (Some (take p.count r ++ more))) (sym same) ∙ fails)
 
 -- ---- other ways to the longest prefix
 

@@ -1,3 +1,4 @@
+-- The octets before a separator, counted one by one.
 use Rattle.std.proofs.Common.{sym, ◌∙◌, subst}
 use Rattle.link_format.proofs.CutLemmas.{Counted, counted_start, counted_step, counted_there, counted_end}
 use Rattle.link_format.proofs.cuts.octets_before.Goals as goal

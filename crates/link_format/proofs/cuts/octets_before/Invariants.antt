@@ -1,3 +1,4 @@
+-- The octets read and the count of those left make the count of all.
 use Rattle.std.proofs.Common.{length}
 use Rattle.link_format.proofs.CutLemmas.{Counted}
 use Rattle.link_format.proofs.cuts.octets_before.Given as goal

@@ -1,3 +1,4 @@
+-- A text split before its first separator: both sides are text, and are what the definition gives.
 use Rattle.std.proofs.Common.{sym, ◌∙◌}
 use Rattle.link_format.proofs.CutLemmas.{boundary, cut_counted, rest_at}
 use Rattle.link_format.proofs.cuts.split.Goals as goal

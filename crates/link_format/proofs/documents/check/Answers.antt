@@ -1,3 +1,4 @@
+-- A body that the walk found to be a document is text that spells links.
 use Rattle.std.proofs.Common.{List, Some, is_some, sym, ap, ◌∙◌}
 use Rattle.link_model.specs.Documents.{Link}
 use Rattle.link_format.specs.LinksOfText.{links_of, links_in}

@@ -1,3 +1,4 @@
+-- Where the walk stops is the end of the longest prefix that begins a document.
 use Rattle.std.proofs.Common.{sym, ap, ◌∙◌}
 use Rattle.link_format.proofs.WalkLemmas.{walked_start, walked_step, walked_no_point, walked_no_tails, walked_whole, walked_end, walked_short}
 use Rattle.link_format.proofs.reach.walk.Goals as goal

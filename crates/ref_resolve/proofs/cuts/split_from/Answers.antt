@@ -1,8 +1,9 @@
 -- A text cut at its first mark, from the offset that `find` gives.
 use Rattle.std.proofs.Common.{Some, None, sym, ◌∙◌}
 use Rattle.std.proofs.lemmas.Str.Pattern.{find_char}
-use Rattle.ref_resolve.proofs.CutLaws.{octet_nowhere, before_nowhere, from_nowhere, before_offset, from_offset}
+use Rattle.ref_resolve.proofs.CutLaws.{octet_nowhere, from_nowhere, before_offset, from_offset}
 use Rattle.ref_resolve.proofs.cuts.split_from.Goals as goal
+use Rattle.reference_model.proofs.ReferenceCuts.{before_alone}
 
 pub returns-in-Some-clause-before : goal.returns-in-Some-clause-before
 returns-in-Some-clause-before c =
@@ -17,7 +18,7 @@ returns-in-Some-clause-from c =
 pub returns-in-None-clause-before : goal.returns-in-None-clause-before
 returns-in-None-clause-before c =
     let nowhere = find_char c.args.mark c.args.text.now None c.in-None.ensures.cases c.requires in
-    sym (before_nowhere c.args.mark c.args.text.now (octet_nowhere c.args.mark c.args.text.now nowhere))
+    sym (before_alone c.args.mark c.args.text.now (octet_nowhere c.args.mark c.args.text.now nowhere))
 
 pub returns-in-None-clause-from : goal.returns-in-None-clause-from
 returns-in-None-clause-from c =

@@ -5,9 +5,9 @@ use Rattle.std.specs.String.{string_bytes}
 use Rattle.std.proofs.lemmas.Str.{IsUtf8-string_bytes}
 use Rattle.link_model.specs.Characters.{slash, is_empty}
 use Rattle.reference_model.specs.References.{begins_with}
-use Rattle.ref_resolve.proofs.Segments.{from_slash}
 use Rattle.ref_resolve.proofs.PathGrowth.{front_kept, dots_left_out}
 use Rattle.ref_resolve.proofs.dots.append_without_dots.Goals as goal
+use Rattle.reference_model.proofs.ReferenceCuts.{from_first_fits}
 
 pub append_segments-requires-clause-utf8 : goal.append_segments-requires-clause-utf8
 append_segments-requires-clause-utf8 c =
@@ -15,7 +15,7 @@ append_segments-requires-clause-utf8 c =
     subst IsUtf8 (sym kept) (IsUtf8-string_bytes c.args.text.now)
 
 pub append_segments-requires-clause-slash : goal.append_segments-requires-clause-slash
-append_segments-requires-clause-slash c = ap (λ t. is_empty t || begins_with slash t) c.split_from.ensures.from ∙ from_slash c.without_leading_dots-path.result.now
+append_segments-requires-clause-slash c = ap (λ t. is_empty t || begins_with slash t) c.split_from.ensures.from ∙ from_first_fits c.without_leading_dots-path.result.now
 
 pub returns : goal.returns
 returns c =

@@ -9,6 +9,6 @@ decreases-octets l = length l.rest
 
 abbrev pub invariant-octets : goal.invariant-octets
 invariant-octets l = record {
-  joined : (behind : List ℕ) × (l.text ≡ l.rest ++ behind);
+  joined : (after : List ℕ) × (l.text ≡ l.rest ++ after);
   before : before_last slash l.rest ≡ before_last slash l.text;
 }

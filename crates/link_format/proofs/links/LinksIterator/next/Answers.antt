@@ -1,3 +1,4 @@
+-- The next link is the first of those that the text spells.
 use Rattle.std.proofs.Common.{◌≡◌, ◌<◌, ◌∷◌, List, [], length, sym, ap, ◌∙◌, arith}
 use Rattle.link_model.specs.Documents.{Link}
 use Rattle.link_format.specs.LinksOfText.{links_in}

@@ -1,3 +1,4 @@
+-- The next parameter is the first of those that the text spells.
 use Rattle.std.proofs.Common.{◌≡◌, ◌<◌, ◌∷◌, List, [], length, sym, ap, ◌∙◌, arith}
 use Rattle.link_model.specs.Documents.{Parameter}
 use Rattle.link_format.specs.LinksOfText.{parameters_in}
