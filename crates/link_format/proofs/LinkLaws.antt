@@ -1,9 +1,9 @@
 -- The first link of a text is what its parts say.
-use Rattle.std.proofs.Common.{◌≡◌, ℕ, true, ◌&&◌, List, [], ◌∷◌, ◌++◌, Option, Some, None, option_and_then, is_some, refl, sym, ap, ◌∙◌, subst, append_assoc, append-nil}
+use Rattle.std.proofs.Common.{◌≡◌, ℕ, true, ◌&&◌, List, [], ◌∷◌, ◌++◌, Option, Some, None, option_and_then, refl, ap, ◌∙◌, subst, append_assoc, append-nil}
 use Rattle.std.specs.Prelude.{◌==◌, not}
 use Rattle.std.specs.Char.{is_ascii}
 use Rattle.std.specs.List.{list_all}
-use Rattle.std.proofs.lemmas.Bool.{and_parts, false≢true}
+use Rattle.std.proofs.lemmas.Bool.{and_parts}
 use Rattle.link_model.specs.Characters.{comma, less_than_sign, greater_than_sign, is_empty, is_not_control, is_target_character}
 use Rattle.link_model.specs.Documents.{Parameter, Link, parameters_text, link_text, is_parameter, is_link}
 use Rattle.link_model.specs.DocumentReading.{at_beginning, after_part, links_from}
@@ -14,7 +14,7 @@ use Rattle.rd_base.proofs.lemmas.Options.{some_same, none_some}
 use Rattle.link_format.specs.declared.cuts.Quotes.TheVariants.{Unread, Outside}
 use Rattle.link_format.specs.Cuts.{cut}
 use Rattle.link_format.specs.Parts.{text_or_empty, parts_after, parts_opened, link_parts}
-use Rattle.link_format.specs.LinksOfText.{listed, links_of, lone_parameters, parameters_of, parameters_in}
+use Rattle.link_format.specs.LinksOfText.{links_of, lone_parameters, parameters_of}
 use Rattle.link_format.proofs.PassedTexts.{onto_front, cut_there, cut_end, passes_unread, passes_parameters}
 
 -- ---- the text of links
@@ -105,11 +105,3 @@ first_parts l links h =
 pub no_parts : link_parts [] ≡ None
 unfolding link_parts
 no_parts = ap (λ (p : List ℕ × Option (List ℕ)). option_and_then parts_opened p.1) (cut_end less_than_sign Unread)
-
--- a text that spells parameters is their text
-pub parameters_text-in : (text : List ℕ) → is_some (parameters_of text) ≡ true → parameters_text (parameters_in text) ≡ text
-parameters_text-in text h = by_parameters (parameters_of text) refl h
-  where
-    by_parameters : (o : Option (List Parameter)) → parameters_of text ≡ o → is_some o ≡ true → parameters_text (listed (parameters_of text)) ≡ text
-    by_parameters None f h = absurd (false≢true h)
-    by_parameters (Some parameters) f h = ap (λ (o : Option (List Parameter)). parameters_text (listed o)) f ∙ sym (parameters_spelled text parameters f).text_is

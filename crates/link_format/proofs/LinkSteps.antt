@@ -15,9 +15,6 @@ pub record NextLink (text target params rest : List ℕ) : Type 0 where
   pub left : is_some (links_of rest) ≡ true
   pub readable : is_some (parameters_of params) ≡ true
 
-some_is : {A : Type 0} (o : Option A) (x : A) → o ≡ Some x → is_some o ≡ true
-some_is o x e = ap is_some e
-
 of_spelled : (l : Link) (links : List Link) → list_all is_parameter l.parameters ≡ true → list_all is_link links ≡ true → (text : List ℕ) → links_of text ≡ Some (l ∷ links) → NextLink text l.target (parameters_text l.parameters) (links_text links)
 of_spelled l links h g text e =
     let rest : links_of (links_text links) ≡ Some links = link_of-alike links g in

@@ -58,14 +58,6 @@ content_escaped c rest = by_size (cases_lt c 128)
     by_size (inl h) = rw (encode_one c h) refl
     by_size (inr h) = escaped_high (encode_utf8 c) rest (not_empty c h) (all_high c h)
 
--- a quote ends the content
-pub content_quote : (rest : List ℕ) → content_up_to_quote false (encode_utf8 quote_mark ++ rest) ≡ []
-content_quote rest = rw (encode_one quote_mark (omega arith)) refl
-
--- a backslash escapes what follows
-pub content_backslash : (rest : List ℕ) → content_up_to_quote false (encode_utf8 backslash ++ rest) ≡ content_up_to_quote true rest
-content_backslash rest = rw (encode_one backslash (omega arith)) refl
-
 -- any other character stands for itself
 pub content_plain : (c : ℕ) (rest : List ℕ) → (c == quote_mark) ≡ false → (c == backslash) ≡ false → content_up_to_quote false (encode_utf8 c ++ rest) ≡ encode_utf8 c ++ content_up_to_quote false rest
 content_plain c rest q b = by_size (cases_lt c 128)
@@ -116,10 +108,6 @@ spelled_plain c q b = by_size (cases_lt c 128)
     by_size : (c < 128) ⊎ (128 ≤ c) → flat_map escaped_character (encode_utf8 c) ≡ encode_utf8 c
     by_size (inl h) = rw (encode_one c h) (rw (q, b) refl)
     by_size (inr h) = spelled_high (encode_utf8 c) (all_high c h)
-
--- a quote or a backslash
-pub spelled_mark : (c : ℕ) → c < 128 → (c == quote_mark || c == backslash) ≡ true → flat_map escaped_character (encode_utf8 c) ≡ encode_utf8 backslash ++ encode_utf8 c
-spelled_mark c h m = rw (encode_one c h, encode_one backslash (omega arith)) (rw m refl)
 
 -- ---- steps of loops over characters
 

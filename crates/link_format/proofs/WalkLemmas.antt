@@ -106,9 +106,6 @@ pub is_rest-end : (point : Point) → is_rest point [] [] ≡ is_some (links_at_
 unfolding links_from
 is_rest-end point = refl
 
-pub is_rest-awaits : (point : Point) (r : OctetRange) (ranges : List OctetRange) → is_rest point (r ∷ ranges) [] ≡ false
-is_rest-awaits point r ranges = refl
-
 same_utf8 : (bytes : List ℕ) (a b : Bool) → is_utf8 bytes ≡ a → is_utf8_after [] bytes ≡ b → a ≡ b
 same_utf8 bytes true true e f = refl
 same_utf8 bytes false false e f = refl

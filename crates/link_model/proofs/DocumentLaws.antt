@@ -70,5 +70,6 @@ document_only bytes links d =
     rw (is_utf8-from_IsUtf8 bytes d.utf8) (links_from_only bytes at_beginning links (fits_at_beginning links ∙ d.each) (text_at_beginning links ∙ sym d.spelled))
 
 -- a document has one list of links
+-- An end theorem: nothing here cites it.
 pub one_list : (bytes : List ℕ) (links others : List Link) → IsDocument bytes links → IsDocument bytes others → links ≡ others
 one_list bytes links others d e = some_same (sym (document_only bytes links d) ∙ document_only bytes others e)

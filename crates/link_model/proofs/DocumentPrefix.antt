@@ -254,6 +254,7 @@ no_longer bytes m h k more links d = by_part (cases_lt (utf8_prefix bytes) m)
     by_part (inr x) = let y : prefix_from at_beginning bytes < m = omega arith in none_some (sym (links_longest at_beginning bytes m more y k) ∙ read_links (take m bytes ++ more) links d)
 
 -- the first octets that `good_prefix` counts begin some document, and more octets do not
+-- An end theorem: nothing here cites it.
 pub good_prefix-IsGoodPrefix : (bytes : List ℕ) → IsGoodPrefix bytes (good_prefix bytes)
 unfolding good_prefix Pending
 good_prefix-IsGoodPrefix bytes =

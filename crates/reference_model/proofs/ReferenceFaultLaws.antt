@@ -256,6 +256,7 @@ reference_fault_at-IsReferenceFault bytes n h =
     }
 
 -- where it gives none, the octets are a reference
+-- An end theorem: nothing here cites it.
 pub reference_fault_at-none : (bytes : List ℕ) → reference_fault_at bytes ≡ None → IsReference bytes (components bytes)
 unfolding reference_fault_at
 reference_fault_at-none bytes h = by_test (is_allowed (components bytes)) refl h

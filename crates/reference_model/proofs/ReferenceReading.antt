@@ -52,9 +52,6 @@ scheme_read (Some scheme) rest h k =
 
 -- ---- authorities and paths
 
-after_slashes : (text : List ℕ) → after_two_slashes (slash ∷ slash ∷ text) ≡ Some text
-after_slashes text = refl
-
 path_after_authority : (path : List ℕ) → (is_empty path || begins_with slash path) ≡ true → (before slash path ≡ []) × (from_first slash path ≡ path)
 unfolding before from_first
 path_after_authority [] h = (refl, refl)
@@ -190,5 +187,6 @@ reference_only bytes c r =
     rw (same, r.allowed) refl
 
 -- a reference has one reading
+-- An end theorem: nothing here cites it.
 pub one_reading : (bytes : List ℕ) (c d : Components) → IsReference bytes c → IsReference bytes d → c ≡ d
 one_reading bytes c d r s = some_same (sym (reference_only bytes c r) ∙ reference_only bytes d s)
