@@ -131,15 +131,15 @@ passes_quoted separator (b ∷ value) s h =
     let is : b ≡ quote_mark = eqb-true b quote_mark parts.0 in
     passes_octet separator Outside Inside Outside b value (no_separator separator Outside b (ap (λ (x : ℕ). x == separator) is ∙ s.no_quote)) (rw parts.0 refl) (passes_closing separator false value parts.1)
 
-by_either : (separator : ℕ) (value : List ℕ) (t u : Bool) → Separates separator → is_token value ≡ t → is_quoted_string value ≡ u → (t || u) ≡ true → Passes separator Outside value Outside
-by_either separator value true u s e f h = passes_token separator value s ((and_parts (not (is_empty value)) (list_all is_token_character value) e).1)
-by_either separator value false true s e f h = passes_quoted separator value s f
-by_either separator value false false s e f h = absurd (false≢true h)
+passes_token_or_quoted : (separator : ℕ) (value : List ℕ) (t u : Bool) → Separates separator → is_token value ≡ t → is_quoted_string value ≡ u → (t || u) ≡ true → Passes separator Outside value Outside
+passes_token_or_quoted separator value true u s e f h = passes_token separator value s ((and_parts (not (is_empty value)) (list_all is_token_character value) e).1)
+passes_token_or_quoted separator value false true s e f h = passes_quoted separator value s f
+passes_token_or_quoted separator value false false s e f h = absurd (false≢true h)
 
 passes_value : (separator : ℕ) (value : Option (List ℕ)) → Separates separator → is_value value ≡ true → Passes separator Outside (value_text value) Outside
 passes_value separator None s h = passes_none separator Outside
 passes_value separator (Some value) s h =
-    plain_octet separator equals_sign value s.no_equals refl (by_either separator value (is_token value) (is_quoted_string value) s refl refl h)
+    plain_octet separator equals_sign value s.no_equals refl (passes_token_or_quoted separator value (is_token value) (is_quoted_string value) s refl refl h)
 
 -- a parameter after its semicolon
 pub passes_parameter : (separator : ℕ) (p : Parameter) → Separates separator → is_parameter p ≡ true → Passes separator Outside (p.name ++ value_text p.value) Outside

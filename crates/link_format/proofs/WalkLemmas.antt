@@ -112,13 +112,13 @@ same_utf8 bytes false false e f = refl
 same_utf8 bytes true false e f = sym (is_utf8_after-IsUtf8 bytes (IsUtf8-from_is_utf8 bytes e)) ∙ f
 same_utf8 bytes false true e f = sym e ∙ is_utf8-from_IsUtf8 bytes (IsUtf8-is_utf8_after bytes f)
 
-document_by : (b : Bool) (o : Option (List Link)) → is_some (if b then o else None) ≡ (b && is_some o)
-document_by true o = refl
-document_by false o = refl
+is_some-where_text : (b : Bool) (o : Option (List Link)) → is_some (if b then o else None) ≡ (b && is_some o)
+is_some-where_text true o = refl
+is_some-where_text false o = refl
 
 pub is_rest-start : (bytes : List ℕ) → is_some (document bytes) ≡ is_rest at_beginning [] bytes
 unfolding document
-is_rest-start bytes = document_by (is_utf8 bytes) (links_from at_beginning bytes) ∙ ap (λ (b : Bool). b && is_some (links_from at_beginning bytes)) (same_utf8 bytes (is_utf8 bytes) (is_utf8_after [] bytes) refl refl)
+is_rest-start bytes = is_some-where_text (is_utf8 bytes) (links_from at_beginning bytes) ∙ ap (λ (b : Bool). b && is_some (links_from at_beginning bytes)) (same_utf8 bytes (is_utf8 bytes) (is_utf8_after [] bytes) refl refl)
 
 -- a walk over the octets of a body has come to this rest of them, at a point of the grammar and with these octets to follow
 pub record Walked (body rest : List ℕ) (point : Point) (tails : List OctetRange) : Type 0 where

@@ -12,7 +12,7 @@ use crate::parameters::Param;
 use rd_base::{Starved, Text};
 use std::alloc::Global;
 
-/// The value of a parameter, without quotes and escapes; empty where it has none. The error is out of memory.
+/// The value of a parameter, without quotes and escapes; empty where it has none. An error says that memory ran out.
 pub fn value_of(alloc: Global, param: &Param<'_>) -> Result<Text, Starved>
     ensures { IfOk result (λ text. text ≡ quoting.value_of (parameter_seen param.now)) }
 {
@@ -61,7 +61,7 @@ fn content(alloc: Global, inner: &str) -> Result<Text, Starved>
     Ok(Text::of(text))
 }
 
-/// The text in quotes, a backslash before each quote and backslash in it. The error is out of memory.
+/// The text in quotes, a backslash before each quote and backslash in it. An error says that memory ran out.
 ///
 /// What it writes is a quoted string of the grammar where the text has no control character, and [`value_of`] reads it back.
 pub fn quoted(alloc: Global, value: &str) -> Result<Text, Starved>

@@ -10,6 +10,7 @@ abbrev pub further : List Link → List ℕ
 further [] = []
 further (l ∷ links) = comma ∷ (link_text l ++ further links)
 
+-- the text of links, from the first on
 abbrev pub links_text : List Link → List ℕ
 links_text [] = []
 links_text (l ∷ links) = link_text l ++ further links
@@ -19,10 +20,12 @@ abbrev pub text_in_name : List Parameter → List ℕ
 text_in_name [] = []
 text_in_name (p ∷ parameters) = (p.name ++ value_text p.value) ++ parameters_text parameters
 
+-- what is left of a value, where there is one
 abbrev pub present_text : Option (List ℕ) → List ℕ
 present_text None = []
 present_text (Some value) = value
 
+-- the text of parameters of which the first has its value left
 abbrev pub text_in_value : List Parameter → List ℕ
 text_in_value [] = []
 text_in_value (p ∷ parameters) = present_text p.value ++ parameters_text parameters
@@ -62,6 +65,7 @@ fits_parameter in_quotes p = is_empty p.name && present_and (closes_quotes false
 fits_parameter after_backslash p = is_empty p.name && present_and (closes_quotes true) p.value
 fits_parameter _ p = false
 
+-- what may be left of a link's parameters at a point within one
 abbrev pub fits_parameters : Point → List Parameter → Bool
 fits_parameters point [] = false
 fits_parameters point (p ∷ parameters) = fits_parameter point p && list_all is_parameter parameters
@@ -80,6 +84,7 @@ fits_link in_token l = is_empty l.target && fits_parameters in_token l.parameter
 fits_link in_quotes l = is_empty l.target && fits_parameters in_quotes l.parameters
 fits_link after_backslash l = is_empty l.target && fits_parameters after_backslash l.parameters
 
+-- the point where no link need be left
 abbrev pub is_beginning : Point → Bool
 is_beginning at_beginning = true
 is_beginning _ = false

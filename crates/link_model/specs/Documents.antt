@@ -48,7 +48,7 @@ is_parameter_name (c ∷ cs) = is_attribute_name_character c && are_name_charact
 abbrev pub is_token : List ℕ → Bool
 is_token value = is_run_of is_token_character value
 
--- the rest of a quoted string: characters, each escape being a backslash with the next character, and the closing quote; the flag tells that a backslash stands before
+-- the rest of a quoted string: characters, each escape being a backslash with the next character, and the closing quote; the flag says that a backslash stands before
 abbrev pub closes_quotes : Bool → List ℕ → Bool
 closes_quotes escaped [] = false
 closes_quotes true (c ∷ cs) = is_not_control c && closes_quotes false cs

@@ -3,7 +3,7 @@
 
 mod components;
 mod cuts;
-mod dots;
+mod dot_segments;
 mod reach;
 mod references;
 mod resolution;

@@ -8,7 +8,7 @@ ghost use Rattle.ref_resolve.specs.ComponentsOfParts.{components_of};
 ghost use Rattle.ref_resolve.specs.MergedPaths.{front_of};
 
 use crate::components::Parts;
-use crate::dots::append_without_dots;
+use crate::dot_segments::append_without_dots;
 use rd_base::{Starved, Text};
 use std::alloc::Global;
 

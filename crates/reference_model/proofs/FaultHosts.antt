@@ -10,7 +10,7 @@ use Rattle.reference_model.specs.ReferenceFaults.{text_prefix, port_prefix, lite
 use Rattle.reference_model.proofs.ReferenceCuts.{cut, after_some, after_none, has_octet-before, before-marked, after-marked, before_alone}
 use Rattle.rd_base.proofs.lemmas.Options.{some_same, none_some}
 use Rattle.reference_model.proofs.ReferenceMarks.{no_mark_in_text, no_mark_in_run, no_mark_in_host}
-use Rattle.reference_model.proofs.FaultWords.{IsLongest, cut_passes, both_pass, second_fails, front_longest, front_longest_by, after_longest, all_longest, whole_longest, same_longest, cons_longest, longest_at, from_first-after, length-cut, take_front, take_within, EndsBeforeMark, PastMark, mark_cases}
+use Rattle.reference_model.proofs.LongestPrefixes.{IsLongest, cut_passes, both_pass, second_fails, front_longest, front_longest_where_ended, after_longest, all_longest, whole_longest, same_longest, cons_longest, longest_at, from_first-after, length-cut, take_front, take_within, EndsBeforeMark, PastMark, mark_cases}
 use Rattle.reference_model.proofs.FaultTexts.{text_longest, run_begins, run_within, run_ends, port_longest}
 
 -- ---- registered names
@@ -119,7 +119,7 @@ inside_longest cs = by_run (is_run_of is_literal_character front) refl (has_octe
 
     by_run : (b : Bool) → is_run_of is_literal_character front ≡ b → (d : Bool) → has_octet right_bracket cs ≡ d
         → IsLongest (cut_passes (is_run_of is_literal_character) closes_literal right_bracket) cs (if b && d then suc (length front) + port_prefix (unwrap_or (after right_bracket cs) []) else prefix_len is_literal_character front)
-    by_run false e d f = front_longest_by (is_run_of is_literal_character) closes_literal right_bracket literal_ends cs (prefix_len is_literal_character front) e (literal_run_longest front)
+    by_run false e d f = front_longest_where_ended (is_run_of is_literal_character) closes_literal right_bracket literal_ends cs (prefix_len is_literal_character front) e (literal_run_longest front)
     by_run true e true f =
         after_longest (is_run_of is_literal_character) closes_literal right_bracket cs (unwrap_or (after right_bracket cs) []) (port_prefix (unwrap_or (after right_bracket cs) [])) e (after_some right_bracket cs f)
         (port_longest (unwrap_or (after right_bracket cs) []))

@@ -8,7 +8,7 @@ use Rattle.reference_model.specs.ReferenceFaults.{text_prefix, authority_prefix,
 use Rattle.rd_base.proofs.lemmas.Options.{none_some}
 use Rattle.reference_model.proofs.ReferenceLaws.{two_slashes}
 use Rattle.reference_model.proofs.ReferenceMarks.{no_mark_in_authority}
-use Rattle.reference_model.proofs.FaultWords.{IsLongest, cut_passes, both_pass, front_longest, after_longest, whole_longest, cons_longest, longest_at, from_first-after, length-cut}
+use Rattle.reference_model.proofs.LongestPrefixes.{IsLongest, cut_passes, both_pass, front_longest, after_longest, whole_longest, cons_longest, longest_at, from_first-after, length-cut}
 use Rattle.reference_model.proofs.FaultTexts.{text_longest, text_begins, zeros}
 use Rattle.reference_model.proofs.FaultHosts.{authority_longest}
 

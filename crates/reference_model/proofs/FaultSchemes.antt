@@ -11,7 +11,7 @@ use Rattle.reference_model.specs.ReferenceFaults.{text_prefix}
 use Rattle.reference_model.proofs.ReferenceCuts.{cut, after_some, has_octet-before, before-marked, after-marked, has_octet-append, has_octet-before_other, before_alone}
 use Rattle.rd_base.proofs.lemmas.Options.{some_same}
 use Rattle.reference_model.proofs.ReferenceReading.{before-append, no_mark_appended}
-use Rattle.reference_model.proofs.FaultWords.{IsLongest, both_pass, second_fails, length-cut, take_front, take_within, EndsBeforeMark, PastMark, mark_cases, has_octet-take}
+use Rattle.reference_model.proofs.LongestPrefixes.{IsLongest, both_pass, second_fails, length-cut, take_front, take_within, EndsBeforeMark, PastMark, mark_cases, has_octet-take}
 use Rattle.reference_model.proofs.FaultTexts.{text_longest, text_begins, zeros}
 use Rattle.reference_model.proofs.FaultPaths.{rest_passes, rest_alone, rest_prefix, IsLongestRest, rest_longest, none_after_other}
 

@@ -6,7 +6,7 @@ use Rattle.std.specs.Char.{is_ascii_hexdigit, is_ascii_digit}
 use Rattle.link_model.specs.Characters.{percent_sign, colon}
 use Rattle.reference_model.specs.References.{is_text_after_digits, is_text_of, digits_after, is_port_text}
 use Rattle.reference_model.specs.ReferenceFaults.{prefix_after_digits, text_prefix, port_prefix}
-use Rattle.reference_model.proofs.FaultWords.{IsLongest}
+use Rattle.reference_model.proofs.LongestPrefixes.{IsLongest}
 
 -- digits that complete a percent escape
 abbrev pub zeros : ℕ → List ℕ

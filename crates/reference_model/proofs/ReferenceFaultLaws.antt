@@ -10,7 +10,7 @@ use Rattle.reference_model.proofs.ReferenceCuts.{cut, from_first_fits}
 use Rattle.rd_base.proofs.lemmas.Options.{some_same, none_some}
 use Rattle.reference_model.proofs.ReferenceLaws.{scheme_and_rest, authority_and_path, recomposed-components}
 use Rattle.reference_model.proofs.ReferenceReading.{no_end_before_path, no_number_sign_in_query, no_mark_appended, end_question_mark, end_number_sign, reference_only}
-use Rattle.reference_model.proofs.FaultWords.{IsLongest, cut_passes, both_pass, second_fails, front_longest, after_longest, length-cut, longest_at}
+use Rattle.reference_model.proofs.LongestPrefixes.{IsLongest, cut_passes, both_pass, second_fails, front_longest, after_longest, length-cut, longest_at}
 use Rattle.reference_model.proofs.FaultTexts.{text_longest}
 use Rattle.reference_model.proofs.FaultPaths.{rest_passes, rest_prefix, after_slashes_prefix}
 use Rattle.reference_model.proofs.FaultSchemes.{front_passes, front_prefix, front_prefix-IsLongest}

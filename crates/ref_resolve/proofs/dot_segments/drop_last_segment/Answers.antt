@@ -2,7 +2,7 @@
 use Rattle.std.specs.String.{string_bytes}
 use Rattle.std.proofs.lemmas.Str.{IsCharBoundary-from_take, IsUtf8-string_bytes}
 use Rattle.ref_resolve.proofs.LastSlash.{cut_at_offset}
-use Rattle.ref_resolve.proofs.dots.drop_last_segment.Goals as goal
+use Rattle.ref_resolve.proofs.dot_segments.drop_last_segment.Goals as goal
 
 pub truncate-requires-in-None : goal.truncate-requires-in-None
 truncate-requires-in-None c =

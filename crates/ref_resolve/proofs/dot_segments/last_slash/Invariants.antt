@@ -2,7 +2,7 @@
 use Rattle.std.proofs.Common.{◌≡◌, ◌++◌, ℕ, List, length}
 use Rattle.link_model.specs.Characters.{slash}
 use Rattle.ref_resolve.specs.Paths.{before_last}
-use Rattle.ref_resolve.proofs.dots.last_slash.Given as goal
+use Rattle.ref_resolve.proofs.dot_segments.last_slash.Given as goal
 
 abbrev pub decreases-octets : goal.decreases-octets
 decreases-octets l = length l.rest

@@ -126,9 +126,9 @@ passes_alone first second mark no_mark none text h =
     both_pass (first (before mark text)) (second (after mark text)) (ap first (before_alone mark text without) ∙ h) (ap second (after_none mark text without) ∙ none)
 
 -- where the part before the mark does not pass, the fault is in it
-pub front_longest_by : (first : List ℕ → Bool) (second : Option (List ℕ) → Bool) (mark : ℕ) → ((text : List ℕ) → first text ≡ true → (more : List ℕ) × (cut_passes first second mark (text ++ more) ≡ true))
+pub front_longest_where_ended : (first : List ℕ → Bool) (second : Option (List ℕ) → Bool) (mark : ℕ) → ((text : List ℕ) → first text ≡ true → (more : List ℕ) × (cut_passes first second mark (text ++ more) ≡ true))
     → (text : List ℕ) (n : ℕ) → first (before mark text) ≡ false → IsLongest first (before mark text) n → IsLongest (cut_passes first second mark) text n
-front_longest_by first second mark ends text n fails l = record {
+front_longest_where_ended first second mark ends text n fails l = record {
   within = let a = length-cut mark text in let b = l.within in omega arith;
   begins = (l.begins.0 ++ ended.0, ap (cut_passes first second mark) spelled ∙ ended.1);
   longest = λ m h k more. at_mark m h more (mark_cases mark text m more k);
@@ -154,7 +154,7 @@ front_longest_by first second mark ends text n fails l = record {
 pub front_longest : (first : List ℕ → Bool) (second : Option (List ℕ) → Bool) (mark : ℕ) → ((text : List ℕ) → first text ≡ true → has_octet mark text ≡ false) → second None ≡ true
     → (text : List ℕ) (n : ℕ) → first (before mark text) ≡ false → IsLongest first (before mark text) n → IsLongest (cut_passes first second mark) text n
 front_longest first second mark no_mark none =
-    front_longest_by first second mark (λ text h. ([], ap (cut_passes first second mark) (append-nil text) ∙ passes_alone first second mark no_mark none text h))
+    front_longest_where_ended first second mark (λ text h. ([], ap (cut_passes first second mark) (append-nil text) ∙ passes_alone first second mark no_mark none text h))
 
 -- where the part before the mark passes, the fault is after it
 pub after_longest : (first : List ℕ → Bool) (second : Option (List ℕ) → Bool) (mark : ℕ) (text rest : List ℕ) (n : ℕ) → first (before mark text) ≡ true → after mark text ≡ Some rest

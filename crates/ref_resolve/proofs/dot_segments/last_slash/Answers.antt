@@ -1,7 +1,7 @@
 -- The last octet is a slash, or is left behind.
 use Rattle.std.proofs.Common.{◌∷◌}
 use Rattle.ref_resolve.proofs.LastSlash.{moved, last_found, last_farther, last_nowhere}
-use Rattle.ref_resolve.proofs.dots.last_slash.Goals as goal
+use Rattle.ref_resolve.proofs.dot_segments.last_slash.Goals as goal
 
 pub returns-then-octet-eq47-clause-before : goal.returns-then-octet-eq47-clause-before
 returns-then-octet-eq47-clause-before c =

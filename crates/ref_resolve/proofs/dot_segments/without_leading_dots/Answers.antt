@@ -4,7 +4,7 @@ use Rattle.link_model.specs.Characters.{slash}
 use Rattle.reference_model.specs.References.{before, begins_with}
 use Rattle.reference_model.specs.Resolution.{is_dot_segment}
 use Rattle.ref_resolve.proofs.Segments.{leading_more, leading_last, not_leading}
-use Rattle.ref_resolve.proofs.dots.without_leading_dots.Goals as goal
+use Rattle.ref_resolve.proofs.dot_segments.without_leading_dots.Goals as goal
 
 pub returns-then-not-is_dot_segment-clause-same : goal.returns-then-not-is_dot_segment-clause-same
 returns-then-not-is_dot_segment-clause-same c =

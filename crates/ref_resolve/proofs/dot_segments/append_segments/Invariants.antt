@@ -6,7 +6,7 @@ use Rattle.std.specs.String.{string_bytes}
 use Rattle.link_model.specs.Characters.{slash, is_empty}
 use Rattle.reference_model.specs.References.{begins_with}
 use Rattle.ref_resolve.specs.Paths.{path_with, closed_segments}
-use Rattle.ref_resolve.proofs.dots.append_segments.Given as goal
+use Rattle.ref_resolve.proofs.dot_segments.append_segments.Given as goal
 
 abbrev pub decreases-segments : goal.decreases-segments
 decreases-segments l = length l.rest

@@ -2,7 +2,7 @@
 use Rattle.std.proofs.Common.{◌≡◌, length}
 use Rattle.std.specs.Str.{IsUtf8}
 use Rattle.reference_model.specs.Resolution.{segments_of, with_closing_slash, without_leading_dots}
-use Rattle.ref_resolve.proofs.dots.without_leading_dots.Given as goal
+use Rattle.ref_resolve.proofs.dot_segments.without_leading_dots.Given as goal
 
 abbrev pub decreases-segments : goal.decreases-segments
 decreases-segments l = length l.rest

@@ -7,7 +7,7 @@ use Rattle.reference_model.specs.References.{begins_with}
 use Rattle.reference_model.specs.Resolution.{with_closing_slash}
 use Rattle.ref_resolve.specs.Paths.{path_with, closed_segments}
 use Rattle.ref_resolve.proofs.PathGrowth.{one_segment, more_segments, no_segments, then_same, grown_last, grown_more, grown_all}
-use Rattle.ref_resolve.proofs.dots.append_segments.Goals as goal
+use Rattle.ref_resolve.proofs.dot_segments.append_segments.Goals as goal
 use Rattle.reference_model.proofs.ReferenceCuts.{from_first_fits}
 
 pub returns-then-is_empty-clause-path : goal.returns-then-is_empty-clause-path
