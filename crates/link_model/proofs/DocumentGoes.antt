@@ -47,7 +47,7 @@ over point link ends c s f g [] [] h = inl ends
 over point link ends c s f g [] (m ∷ links) h = inr (record { octet = comma; next = at_link; rest = m ∷ links; follows = c; made = f m links; fits = h })
 over point link ends c s f g (p ∷ ps) links h = inr (record { octet = semicolon; next = at_name; rest = link_of (p ∷ ps) ∷ links; follows = s; made = g p ps links; fits = h })
 
--- an octet that is this mark, where what is left after the mark goes on
+-- the first octet is this mark or another: what is left ends or goes on in either case
 where_mark : (c mark : ℕ) (point : Point) (links : ℕ → List Link) → ((fits_at point (links mark) ≡ true) → EndsOrGoes point (links mark)) → fits_at point (links c) ≡ true → ((c == mark) ≡ false → EndsOrGoes point (links c)) → EndsOrGoes point (links c)
 where_mark c mark point links at_mark h other = by (c == mark) refl
   where
