@@ -6,7 +6,7 @@ use Rattle.std.proofs.lemmas.Str.{IsUtf8-from_is_utf8}
 use Rattle.std.proofs.lemmas.Bool.{false≢true}
 use Rattle.link_model.specs.Documents.{Link}
 use Rattle.link_model.specs.DocumentReading.{document}
-use Rattle.link_format.specs.Left.{links_of, links_in}
+use Rattle.link_format.specs.LinksOfText.{links_of, links_in}
 
 -- a document is text, and its links are those of the text
 pub record Checked (bytes : List ℕ) : Type 0 where
@@ -25,6 +25,6 @@ checked bytes h = by_test (is_utf8 bytes) (links_of bytes) refl refl h
     by_test false o e f h = absurd (false≢true h)
 
 -- the same, by the test that found it
-pub checked_by : (bytes : List ℕ) (found : Bool) → found ≡ is_some (document bytes) → not found ≡ false → Checked bytes
-checked_by bytes true e h = checked bytes (sym e)
-checked_by bytes false e h = absurd (false≢true (sym h))
+pub checked_where_found : (bytes : List ℕ) (found : Bool) → found ≡ is_some (document bytes) → not found ≡ false → Checked bytes
+checked_where_found bytes true e h = checked bytes (sym e)
+checked_where_found bytes false e h = absurd (false≢true (sym h))

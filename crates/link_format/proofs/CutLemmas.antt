@@ -3,8 +3,9 @@ use Rattle.std.proofs.Common.{◌≡◌, ℕ, zero, suc, ◌+◌, ◌-◌, ◌�
 use Rattle.std.specs.Prelude.{◌==◌, if◌then◌else◌}
 use Rattle.std.proofs.lemmas.Bool.{eqb-true, and_parts, cases_lt}
 use Rattle.std.specs.Prelude.{slice_index}
+use Rattle.std.specs.Str.{IsCharBoundary}
 use Rattle.link_format.specs.Cuts.{quotes_after, is_separator, octets_before, onto_before, cut, from_separator}
-use Rattle.link_format.specs.declared.quoting.Quotes.{Quotes}
+use Rattle.link_format.specs.declared.cuts.Quotes.{Quotes}
 
 pub octets_before_end : (separator : ℕ) (quotes : Quotes) → octets_before separator quotes [] ≡ 0
 unfolding octets_before
@@ -23,12 +24,12 @@ pub record CutAt (separator : ℕ) (text : List ℕ) (n : ℕ) (parts : List ℕ
   pub within : n ≤ length text
   pub before : parts.0 ≡ take n text
   pub whole : n ≡ length text → parts.1 ≡ None
-  pub behind : n < length text → parts.1 ≡ Some (drop (suc n) text)
+  pub after : n < length text → parts.1 ≡ Some (drop (suc n) text)
   pub there : n < length text → slice_index text n ≡ separator
 
 pub cut_at : (separator : ℕ) (quotes : Quotes) (text : List ℕ) → CutAt separator text (octets_before separator quotes text) (cut separator quotes text)
 unfolding octets_before cut
-cut_at separator quotes [] = record { within = omega arith; before = refl; whole = λ _. refl; behind = λ h. absurd (omega arith); there = λ h. absurd (omega arith) }
+cut_at separator quotes [] = record { within = omega arith; before = refl; whole = λ _. refl; after = λ h. absurd (omega arith); there = λ h. absurd (omega arith) }
 cut_at separator quotes (b ∷ bs) = by_test (is_separator separator quotes b) refl (cut_at separator (quotes_after quotes b) bs)
   where
     further : (n : ℕ) (parts : List ℕ × Option (List ℕ)) → CutAt separator bs n parts → CutAt separator (b ∷ bs) (suc n) (onto_before b parts)
@@ -36,14 +37,18 @@ cut_at separator quotes (b ∷ bs) = by_test (is_separator separator quotes b) r
       within = let w = c.within in omega arith;
       before = ap (λ (x : List ℕ). b ∷ x) c.before;
       whole = λ h. c.whole (omega arith);
-      behind = λ h. c.behind (omega arith);
+      after = λ h. c.after (omega arith);
       there = λ h. c.there (omega arith);
     }
 
     by_test : (t : Bool) → is_separator separator quotes b ≡ t → CutAt separator bs (octets_before separator (quotes_after quotes b) bs) (cut separator (quotes_after quotes b) bs)
         → CutAt separator (b ∷ bs) (if t then 0 else suc (octets_before separator (quotes_after quotes b) bs)) (if t then ([], Some bs) else onto_before b (cut separator (quotes_after quotes b) bs))
-    by_test true e c = record { within = omega arith; before = refl; whole = λ h. absurd (omega arith); behind = λ h. refl; there = λ h. eqb-true b separator ((and_parts (b == separator) _ e).0) }
+    by_test true e c = record { within = omega arith; before = refl; whole = λ h. absurd (omega arith); after = λ h. refl; there = λ h. eqb-true b separator ((and_parts (b == separator) _ e).0) }
     by_test false e c = further (octets_before separator (quotes_after quotes b) bs) (cut separator (quotes_after quotes b) bs) c
+
+-- before a separator of ASCII a character ends
+pub boundary : (separator n : ℕ) (text : List ℕ) (parts : List ℕ × Option (List ℕ)) → CutAt separator text n parts → separator < 128 → IsCharBoundary text n
+boundary separator n text parts c low = (c.within, λ below high. let e = c.there below in absurd (omega arith))
 
 -- a count of octets has come to this rest of a text
 pub record Counted (separator : ℕ) (first : Quotes) (text : List ℕ) (quotes : Quotes) (rest : List ℕ) : Type 0 where
@@ -84,10 +89,10 @@ drop_whole (suc n) [] h = absurd (omega arith)
 drop_whole zero (b ∷ bs) h = absurd (omega arith)
 drop_whole (suc n) (b ∷ bs) h = drop_whole n bs (omega arith)
 
--- what stands from a separator on is what stands behind the octets before it
+-- what stands from a separator on is what stands after the octets before it
 pub rest_at : (separator n : ℕ) (text : List ℕ) (parts : List ℕ × Option (List ℕ)) → CutAt separator text n parts → drop n text ≡ from_separator separator parts.1
 rest_at separator n text parts c = by_order (cases_lt n (length text))
   where
     by_order : (n < length text) ⊎ (length text ≤ n) → drop n text ≡ from_separator separator parts.1
-    by_order (inl h) = drop_there n text h ∙ ap (λ (b : ℕ). b ∷ drop (suc n) text) (c.there h) ∙ ap (from_separator separator) (sym (c.behind h))
+    by_order (inl h) = drop_there n text h ∙ ap (λ (b : ℕ). b ∷ drop (suc n) text) (c.there h) ∙ ap (from_separator separator) (sym (c.after h))
     by_order (inr h) = let w = c.within in let e : n ≡ length text = omega arith in drop_whole n text e ∙ ap (from_separator separator) (sym (c.whole e))

@@ -1,21 +1,21 @@
 -- The first link of a text is what its parts say.
-use Rattle.std.proofs.Common.{◌≡◌, ℕ, true, ◌&&◌, List, [], ◌∷◌, ◌++◌, Option, Some, None, option_and_then, is_some, refl, sym, ap, ◌∙◌, subst, append_assoc, append-nil}
+use Rattle.std.proofs.Common.{◌≡◌, ℕ, true, ◌&&◌, List, [], ◌∷◌, ◌++◌, Option, Some, None, option_and_then, refl, ap, ◌∙◌, subst, append_assoc, append-nil}
 use Rattle.std.specs.Prelude.{◌==◌, not}
 use Rattle.std.specs.Char.{is_ascii}
 use Rattle.std.specs.List.{list_all}
-use Rattle.std.proofs.lemmas.Bool.{and_parts, false≢true}
+use Rattle.std.proofs.lemmas.Bool.{and_parts}
 use Rattle.link_model.specs.Characters.{comma, less_than_sign, greater_than_sign, is_empty, is_not_control, is_target_character}
 use Rattle.link_model.specs.Documents.{Parameter, Link, parameters_text, link_text, is_parameter, is_link}
-use Rattle.link_model.specs.DocumentReading.{at_beginning, behind_part, links_from}
-use Rattle.link_model.proofs.DocumentPlaces.{further, links_text}
+use Rattle.link_model.specs.DocumentReading.{at_beginning, after_part, links_from}
+use Rattle.link_model.proofs.DocumentPoints.{further, links_text}
 use Rattle.link_model.proofs.DocumentFound.{Spells, links_from_found}
 use Rattle.link_model.proofs.DocumentLaws.{links_from_only}
 use Rattle.rd_base.proofs.lemmas.Options.{some_same, none_some}
-use Rattle.link_format.specs.declared.quoting.Quotes.TheVariants.{Unread, Outside}
+use Rattle.link_format.specs.declared.cuts.Quotes.TheVariants.{Unread, Outside}
 use Rattle.link_format.specs.Cuts.{cut}
-use Rattle.link_format.specs.Parts.{text_or_empty, parts_behind, parts_opened, link_parts}
-use Rattle.link_format.specs.Left.{listed, links_of, lone_parameters, parameters_of, parameters_in}
-use Rattle.link_format.proofs.Passing.{onto_front, cut_there, cut_end, passes_unread, passes_parameters}
+use Rattle.link_format.specs.Parts.{text_or_empty, parts_after, parts_opened, link_parts}
+use Rattle.link_format.specs.LinksOfText.{links_of, lone_parameters, parameters_of}
+use Rattle.link_format.proofs.PassedTexts.{onto_front, cut_there, cut_end, passes_unread, passes_parameters}
 
 -- ---- the text of links
 
@@ -38,7 +38,7 @@ pub parameters_of-alike : (parameters : List Parameter) → list_all is_paramete
 unfolding parameters_of
 parameters_of-alike parameters h =
     let l : Link = record { target = []; parameters = parameters } in
-    ap (option_and_then lone_parameters) (links_from_only (parameters_text parameters) behind_part (l ∷ []) (rw h refl) (append-nil (parameters_text parameters)))
+    ap (option_and_then lone_parameters) (links_from_only (parameters_text parameters) after_part (l ∷ []) (rw h refl) (append-nil (parameters_text parameters)))
 
 -- what a text that spells parameters is
 pub record SpelledParameters (text : List ℕ) (parameters : List Parameter) : Type 0 where
@@ -47,9 +47,9 @@ pub record SpelledParameters (text : List ℕ) (parameters : List Parameter) : T
 
 pub parameters_spelled : (text : List ℕ) (parameters : List Parameter) → parameters_of text ≡ Some parameters → SpelledParameters text parameters
 unfolding parameters_of
-parameters_spelled text parameters e = by_links (links_from behind_part text) refl e
+parameters_spelled text parameters e = by_links (links_from after_part text) refl e
   where
-    by_one : (l : Link) → Spells behind_part text (l ∷ []) → Some l.parameters ≡ Some parameters → SpelledParameters text parameters
+    by_one : (l : Link) → Spells after_part text (l ∷ []) → Some l.parameters ≡ Some parameters → SpelledParameters text parameters
     by_one l s e =
         let same : l.parameters ≡ parameters = some_same e in
         let whole : text ≡ parameters_text l.parameters = s.0 ∙ append-nil (parameters_text l.parameters) in
@@ -57,10 +57,10 @@ parameters_spelled text parameters e = by_links (links_from behind_part text) re
         let more = and_parts (is_empty l.target) (list_all is_parameter l.parameters) parts.0 in
         subst (λ (ps : List Parameter). SpelledParameters text ps) same (record { text_is = whole; each = more.1 })
 
-    by_links : (o : Option (List Link)) → links_from behind_part text ≡ o → option_and_then lone_parameters o ≡ Some parameters → SpelledParameters text parameters
+    by_links : (o : Option (List Link)) → links_from after_part text ≡ o → option_and_then lone_parameters o ≡ Some parameters → SpelledParameters text parameters
     by_links None f e = absurd (none_some e)
     by_links (Some []) f e = absurd (none_some e)
-    by_links (Some (l ∷ [])) f e = by_one l (links_from_found behind_part text (l ∷ []) f) e
+    by_links (Some (l ∷ [])) f e = by_one l (links_from_found after_part text (l ∷ []) f) e
     by_links (Some (l ∷ m ∷ links)) f e = absurd (none_some e)
 
 -- ---- the parts of the first link
@@ -81,7 +81,7 @@ cut_further : (links : List Link) → (cut comma Outside (further links)).0 ≡ 
 cut_further [] = let e = cut_end comma Outside in (rw e refl, rw e refl)
 cut_further (l ∷ links) = let e = cut_there comma Outside comma (link_text l ++ further links) refl in (rw e refl, rw e refl)
 
-parts_of_rest : (target : List ℕ) (parameters : List Parameter) (links : List Link) → list_all is_parameter parameters ≡ true → parts_behind target (parameters_text parameters ++ further links) ≡ (target, parameters_text parameters, links_text links)
+parts_of_rest : (target : List ℕ) (parameters : List Parameter) (links : List Link) → list_all is_parameter parameters ≡ true → parts_after target (parameters_text parameters ++ further links) ≡ (target, parameters_text parameters, links_text links)
 parts_of_rest target parameters links h =
     let rest = cut_further links in
     ap (λ (p : List ℕ × Option (List ℕ)). (target, p.0, text_or_empty p.1)) ((passes_parameters parameters h).on (further links))
@@ -89,8 +89,8 @@ parts_of_rest target parameters links h =
     ∙ ap (λ (t : List ℕ). (target, t, text_or_empty (cut comma Outside (further links)).1)) (append-nil (parameters_text parameters))
     ∙ ap (λ (t : List ℕ). (target, parameters_text parameters, t)) rest.1
 
-opened_parts : (target closed : List ℕ) → list_all is_target_character target ≡ true → parts_opened (target ++ greater_than_sign ∷ closed) ≡ Some (parts_behind target closed)
-opened_parts target closed h = ap (λ (p : List ℕ × Option (List ℕ)). option_and_then (λ (c : List ℕ). Some (parts_behind p.0 c)) p.1) (cut_target target closed h)
+opened_parts : (target closed : List ℕ) → list_all is_target_character target ≡ true → parts_opened (target ++ greater_than_sign ∷ closed) ≡ Some (parts_after target closed)
+opened_parts target closed h = ap (λ (p : List ℕ × Option (List ℕ)). option_and_then (λ (c : List ℕ). Some (parts_after p.0 c)) p.1) (cut_target target closed h)
 
 pub first_parts : (l : Link) (links : List Link) → is_link l ≡ true → link_parts (links_text (l ∷ links)) ≡ Some (l.target, parameters_text l.parameters, links_text links)
 unfolding link_parts
@@ -105,11 +105,3 @@ first_parts l links h =
 pub no_parts : link_parts [] ≡ None
 unfolding link_parts
 no_parts = ap (λ (p : List ℕ × Option (List ℕ)). option_and_then parts_opened p.1) (cut_end less_than_sign Unread)
-
--- a text that spells parameters is their text
-pub parameters_text-in : (text : List ℕ) → is_some (parameters_of text) ≡ true → parameters_text (parameters_in text) ≡ text
-parameters_text-in text h = by_parameters (parameters_of text) refl h
-  where
-    by_parameters : (o : Option (List Parameter)) → parameters_of text ≡ o → is_some o ≡ true → parameters_text (listed (parameters_of text)) ≡ text
-    by_parameters None f h = absurd (false≢true h)
-    by_parameters (Some parameters) f h = ap (λ (o : Option (List Parameter)). parameters_text (listed o)) f ∙ sym (parameters_spelled text parameters f).text_is

@@ -3,10 +3,10 @@ use Rattle.std.proofs.Common.{◌≡◌, ℕ, true, List, [], ◌∷◌, Option,
 use Rattle.std.specs.List.{list_all}
 use Rattle.std.proofs.lemmas.Bool.{and_parts, false≢true}
 use Rattle.link_model.specs.Documents.{Parameter, Link, parameters_text, is_parameter, is_link}
-use Rattle.link_model.proofs.DocumentPlaces.{links_text}
+use Rattle.link_model.proofs.DocumentPoints.{links_text}
 use Rattle.rd_base.proofs.lemmas.Options.{some_same, none_some}
 use Rattle.link_format.specs.Parts.{link_parts}
-use Rattle.link_format.specs.Left.{listed, links_of, links_in, parameters_of, parameters_in}
+use Rattle.link_format.specs.LinksOfText.{listed, links_of, links_in, parameters_of, parameters_in}
 use Rattle.link_format.proofs.LinkLaws.{link_of-alike, links_spelled, parameters_of-alike, first_parts, no_parts}
 
 -- what the parts of the first link say of a text
@@ -14,9 +14,6 @@ pub record NextLink (text target params rest : List ℕ) : Type 0 where
   pub first : links_in text ≡ record { target = target; parameters = parameters_in params } ∷ links_in rest
   pub left : is_some (links_of rest) ≡ true
   pub readable : is_some (parameters_of params) ≡ true
-
-some_is : {A : Type 0} (o : Option A) (x : A) → o ≡ Some x → is_some o ≡ true
-some_is o x e = ap is_some e
 
 of_spelled : (l : Link) (links : List Link) → list_all is_parameter l.parameters ≡ true → list_all is_link links ≡ true → (text : List ℕ) → links_of text ≡ Some (l ∷ links) → NextLink text l.target (parameters_text l.parameters) (links_text links)
 of_spelled l links h g text e =

@@ -7,11 +7,11 @@ use Rattle.link_model.specs.Characters.{asterisk, semicolon, equals_sign, is_emp
 use Rattle.link_model.specs.Documents.{Parameter, value_text, parameter_text, parameters_text, are_name_characters, is_parameter_name, is_value, is_parameter}
 use Rattle.rd_base.proofs.lemmas.Options.{some_same, none_some}
 use Rattle.rd_base.proofs.lemmas.Numbers.{other_octet}
-use Rattle.link_format.specs.declared.quoting.Quotes.TheVariants.{Unread, Leading, Outside}
+use Rattle.link_format.specs.declared.cuts.Quotes.TheVariants.{Unread, Leading, Outside}
 use Rattle.link_format.specs.Cuts.{cut, from_separator}
 use Rattle.link_format.specs.Parts.{parts_named, parameter_parts}
-use Rattle.link_format.specs.Left.{listed, parameters_of, parameters_in}
-use Rattle.link_format.proofs.Passing.{onto_front, cut_there, cut_end, passes_unread, passes_leading}
+use Rattle.link_format.specs.LinksOfText.{listed, parameters_of, parameters_in}
+use Rattle.link_format.proofs.PassedTexts.{onto_front, cut_there, cut_end, passes_unread, passes_leading}
 use Rattle.link_format.proofs.LinkLaws.{parameters_of-alike, parameters_spelled}
 
 -- ---- a name and its value

@@ -50,21 +50,13 @@ escaped_high : (xs rest : List ℕ) → 0 < length xs → list_all is_high xs �
 escaped_high [] rest l h = absurd (omega arith)
 escaped_high (b ∷ xs) rest l h = let parts = and_parts (is_high b) (list_all is_high xs) h in ap (λ (t : List ℕ). b ∷ t) (content_high xs rest parts.1)
 
--- a character behind a backslash stands for itself
+-- a character after a backslash stands for itself
 pub content_escaped : (c : ℕ) (rest : List ℕ) → content_up_to_quote true (encode_utf8 c ++ rest) ≡ encode_utf8 c ++ content_up_to_quote false rest
 content_escaped c rest = by_size (cases_lt c 128)
   where
     by_size : (c < 128) ⊎ (128 ≤ c) → content_up_to_quote true (encode_utf8 c ++ rest) ≡ encode_utf8 c ++ content_up_to_quote false rest
     by_size (inl h) = rw (encode_one c h) refl
     by_size (inr h) = escaped_high (encode_utf8 c) rest (not_empty c h) (all_high c h)
-
--- a quote ends the content
-pub content_quote : (rest : List ℕ) → content_up_to_quote false (encode_utf8 quote_mark ++ rest) ≡ []
-content_quote rest = rw (encode_one quote_mark (omega arith)) refl
-
--- a backslash escapes what follows
-pub content_backslash : (rest : List ℕ) → content_up_to_quote false (encode_utf8 backslash ++ rest) ≡ content_up_to_quote true rest
-content_backslash rest = rw (encode_one backslash (omega arith)) refl
 
 -- any other character stands for itself
 pub content_plain : (c : ℕ) (rest : List ℕ) → (c == quote_mark) ≡ false → (c == backslash) ≡ false → content_up_to_quote false (encode_utf8 c ++ rest) ≡ encode_utf8 c ++ content_up_to_quote false rest
@@ -117,27 +109,23 @@ spelled_plain c q b = by_size (cases_lt c 128)
     by_size (inl h) = rw (encode_one c h) (rw (q, b) refl)
     by_size (inr h) = spelled_high (encode_utf8 c) (all_high c h)
 
--- a quote or a backslash
-pub spelled_mark : (c : ℕ) → c < 128 → (c == quote_mark || c == backslash) ≡ true → flat_map escaped_character (encode_utf8 c) ≡ encode_utf8 backslash ++ encode_utf8 c
-spelled_mark c h m = rw (encode_one c h, encode_one backslash (omega arith)) (rw m refl)
-
 -- ---- steps of loops over characters
 
 different : (c d : ℕ) → (c ≡ d → ⊥) → (c == d) ≡ false
 different c d h = grind (arith, nat_tests)
 
-pub content_plain_step : (text more whole rest behind : List ℕ) (c : ℕ) (escaped : Bool) → text ++ content_up_to_quote escaped rest ≡ whole → escaped ≡ false → rest ≡ encode_utf8 c ++ behind → (c ≡ quote_mark → ⊥) → (c ≡ backslash → ⊥) → more ≡ text ++ encode_utf8 c
-    → more ++ content_up_to_quote escaped behind ≡ whole
-content_plain_step text more whole rest behind c true w f r q b m = absurd (false≢true (sym f))
-content_plain_step text more whole rest behind c false w f r q b m =
-    ap (λ (t : List ℕ). t ++ content_up_to_quote false behind) m ∙ append_assoc text (encode_utf8 c) (content_up_to_quote false behind)
-    ∙ ap (λ (t : List ℕ). text ++ t) (sym (content_plain c behind (different c quote_mark q) (different c backslash b)) ∙ ap (content_up_to_quote false) (sym r)) ∙ w
+pub content_plain_step : (text more whole rest after : List ℕ) (c : ℕ) (escaped : Bool) → text ++ content_up_to_quote escaped rest ≡ whole → escaped ≡ false → rest ≡ encode_utf8 c ++ after → (c ≡ quote_mark → ⊥) → (c ≡ backslash → ⊥) → more ≡ text ++ encode_utf8 c
+    → more ++ content_up_to_quote escaped after ≡ whole
+content_plain_step text more whole rest after c true w f r q b m = absurd (false≢true (sym f))
+content_plain_step text more whole rest after c false w f r q b m =
+    ap (λ (t : List ℕ). t ++ content_up_to_quote false after) m ∙ append_assoc text (encode_utf8 c) (content_up_to_quote false after)
+    ∙ ap (λ (t : List ℕ). text ++ t) (sym (content_plain c after (different c quote_mark q) (different c backslash b)) ∙ ap (content_up_to_quote false) (sym r)) ∙ w
 
-pub content_escaped_step : (text more whole rest behind : List ℕ) (c : ℕ) (escaped : Bool) → text ++ content_up_to_quote escaped rest ≡ whole → escaped ≡ true → rest ≡ encode_utf8 c ++ behind → more ≡ text ++ encode_utf8 c → more ++ content_up_to_quote false behind ≡ whole
-content_escaped_step text more whole rest behind c false w f r m = absurd (false≢true f)
-content_escaped_step text more whole rest behind c true w f r m =
-    ap (λ (t : List ℕ). t ++ content_up_to_quote false behind) m ∙ append_assoc text (encode_utf8 c) (content_up_to_quote false behind)
-    ∙ ap (λ (t : List ℕ). text ++ t) (sym (content_escaped c behind) ∙ ap (content_up_to_quote true) (sym r)) ∙ w
+pub content_escaped_step : (text more whole rest after : List ℕ) (c : ℕ) (escaped : Bool) → text ++ content_up_to_quote escaped rest ≡ whole → escaped ≡ true → rest ≡ encode_utf8 c ++ after → more ≡ text ++ encode_utf8 c → more ++ content_up_to_quote false after ≡ whole
+content_escaped_step text more whole rest after c false w f r m = absurd (false≢true f)
+content_escaped_step text more whole rest after c true w f r m =
+    ap (λ (t : List ℕ). t ++ content_up_to_quote false after) m ∙ append_assoc text (encode_utf8 c) (content_up_to_quote false after)
+    ∙ ap (λ (t : List ℕ). text ++ t) (sym (content_escaped c after) ∙ ap (content_up_to_quote true) (sym r)) ∙ w
 
 pub unquoted_first : (value rest : List ℕ) (c : ℕ) → value ≡ encode_utf8 c ++ rest → (c ≡ quote_mark → ⊥) → value ≡ unquoted value
 unquoted_first value rest c e q = e ∙ sym (unquoted_plain c rest (different c quote_mark q)) ∙ ap unquoted (sym e)

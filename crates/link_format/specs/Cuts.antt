@@ -1,8 +1,8 @@
 -- What the code cuts: texts at a separator, which does not count in quoted strings (RFC 6690 section 2).
 use Rattle.std.specs.Prelude.{ℕ, suc, Bool, true, false, ◌&&◌, ◌==◌, List, [], ◌∷◌, Option, Some, None, if◌then◌else◌}
 use Rattle.link_model.specs.Characters.{quote_mark, backslash}
-use Rattle.link_format.specs.declared.quoting.Quotes.{Quotes}
-use Rattle.link_format.specs.declared.quoting.Quotes.TheVariants.{Unread, Leading, Outside, Inside, Escaped}
+use Rattle.link_format.specs.declared.cuts.Quotes.{Quotes}
+use Rattle.link_format.specs.declared.cuts.Quotes.TheVariants.{Unread, Leading, Outside, Inside, Escaped}
 
 -- an octet read so is outside quoted strings
 abbrev pub is_outside : Quotes → Bool
@@ -12,7 +12,7 @@ is_outside Outside = true
 is_outside Inside = false
 is_outside Escaped = false
 
--- how the text behind an octet is read
+-- how the text after an octet is read
 abbrev pub quotes_after : Quotes → ℕ → Quotes
 quotes_after Unread b = Unread
 quotes_after Leading b = Outside
@@ -33,7 +33,7 @@ octets_before separator quotes (b ∷ bs) = if is_separator separator quotes b t
 abbrev pub onto_before : ℕ → List ℕ × Option (List ℕ) → List ℕ × Option (List ℕ)
 onto_before b parts = (b ∷ parts.0, parts.1)
 
--- what stands before the first separator, and what stands behind it where there is one
+-- what stands before the first separator, and what stands after it where there is one
 unfoldable pub cut : ℕ → Quotes → List ℕ → List ℕ × Option (List ℕ)
 cut separator quotes [] = ([], None)
 cut separator quotes (b ∷ bs) = if is_separator separator quotes b then ([], Some bs) else onto_before b (cut separator (quotes_after quotes b) bs)
@@ -41,4 +41,4 @@ cut separator quotes (b ∷ bs) = if is_separator separator quotes b then ([], S
 -- the text from a separator on, where there is one
 abbrev pub from_separator : ℕ → Option (List ℕ) → List ℕ
 from_separator separator None = []
-from_separator separator (Some behind) = separator ∷ behind
+from_separator separator (Some after) = separator ∷ after

@@ -1,6 +1,7 @@
-pub mod Places
+-- What the contracts say beyond link_model: the points of the grammar, octets due in UTF-8, cuts, parts, and the views of links.
+pub mod Points
 pub mod Ranges
 pub mod Cuts
 pub mod Parts
-pub mod Left
+pub mod LinksOfText
 pub mod Views

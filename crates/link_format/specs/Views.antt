@@ -3,7 +3,7 @@ use Rattle.std.specs.Prelude.{option_map}
 use Rattle.link_model.specs.Documents.{Parameter, Link}
 use Rattle.link_format.specs.declared.links.LinkRef.{LinkRef}
 use Rattle.link_format.specs.declared.parameters.Param.{Param}
-use Rattle.link_format.specs.Left.{parameters_in}
+use Rattle.link_format.specs.LinksOfText.{parameters_in}
 
 -- the link that an item is
 abbrev pub link_seen : LinkRef → Link

@@ -1,4 +1,4 @@
-// The classes of characters that the grammar of links names (RFC 6690 section 2).
+//! The classes of characters that the grammar of links names (RFC 6690 section 2).
 ghost use Rattle.std.specs.Prelude.{◌≡◌, ◌==◌};
 ghost use Rattle.std.specs.List.{list_any};
 ghost use Rattle.link_model.specs.Characters as class;

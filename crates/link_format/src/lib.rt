@@ -2,20 +2,18 @@
 #![tactic(auto)]
 
 mod characters;
-mod checking;
-mod inner;
+mod cuts;
+mod documents;
 mod links;
 mod parameters;
-mod parting;
-mod places;
-mod quoting;
+mod parts;
+mod points;
 mod ranges;
+mod reach;
 mod values;
-mod walking;
 
-pub use checking::{LinkBad, check};
-pub use inner::params;
-pub use links::{LinkRef, Links};
+pub use documents::{LinkBad, check};
+pub use links::{LinkRef, Links, params};
 pub use parameters::{Param, Params};
 pub use values::{quoted, value_of};
 

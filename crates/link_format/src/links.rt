@@ -1,11 +1,12 @@
-// The links of a document, one after the other (RFC 6690 section 2).
+//! The links of a document, one after the other (RFC 6690 section 2).
 ghost use Rattle.std.specs.Prelude.{◌≡◌, is_some, true};
-ghost use Rattle.link_format.specs.Left.{links_of, links_in, parameters_of};
+ghost use Rattle.link_format.specs.LinksOfText.{links_of, links_in, parameters_of, parameters_in};
 
-use crate::parting::link_parts;
+use crate::parameters::{Params, params_of_text};
+use crate::parts::link_parts;
 use std::marker::Model;
 
-/// A link of a document: its target, and the text of its parameters behind it (RFC 6690 section 2, link-value).
+/// A link of a document: its target, and the text of its parameters after it (RFC 6690 section 2, link-value).
 #[derive(Clone, Copy, Debug)]
 pub struct LinkRef<'a> {
     /// What stands between `<` and `>`.
@@ -24,7 +25,7 @@ pub struct Links<'a> {
 impl<'a> Model for Links<'a> {
     ghost use Rattle.std.specs.Prelude.{◌≡◌, List, is_some, true};
     ghost use Rattle.link_model.specs.Documents.{Link};
-    ghost use Rattle.link_format.specs.Left.{links_of, links_in};
+    ghost use Rattle.link_format.specs.LinksOfText.{links_of, links_in};
 
     ghost Value = { List Link };
 
@@ -56,4 +57,11 @@ impl<'a> Iterator for Links<'a> {
         self.rest = rest;
         Some(LinkRef { target, params })
     }
+}
+
+/// The parameters of a link, in order. Takes no memory.
+pub fn params<'a>(link: &LinkRef<'a>) -> Params<'a>
+    ensures { result ≡ parameters_in link.now.params.now }
+{
+    params_of_text(link.params)
 }

@@ -1,9 +1,9 @@
-// The parameters of a link, one after the other (RFC 6690 section 2).
+//! The parameters of a link, one after the other (RFC 6690 section 2).
 ghost use Rattle.std.specs.Prelude.{◌≡◌, is_some, option_map, true};
 ghost use Rattle.link_model.specs.Documents.{parameter_text};
-ghost use Rattle.link_format.specs.Left.{parameters_of, parameters_in};
+ghost use Rattle.link_format.specs.LinksOfText.{parameters_of, parameters_in};
 
-use crate::parting::parameter_parts;
+use crate::parts::parameter_parts;
 use std::marker::Model;
 
 /// A parameter of a link (RFC 6690 section 2, link-param).
@@ -27,7 +27,7 @@ pub struct Params<'a> {
 impl<'a> Model for Params<'a> {
     ghost use Rattle.std.specs.Prelude.{◌≡◌, List, is_some, true};
     ghost use Rattle.link_model.specs.Documents.{Parameter};
-    ghost use Rattle.link_format.specs.Left.{parameters_of, parameters_in};
+    ghost use Rattle.link_format.specs.LinksOfText.{parameters_of, parameters_in};
 
     ghost Value = { List Parameter };
 

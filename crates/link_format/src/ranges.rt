@@ -1,10 +1,10 @@
-// Text in UTF-8, octet by octet (RFC 3629 section 4).
+//! Text in UTF-8, octet by octet (RFC 3629 section 4).
 ghost use Rattle.std.specs.Prelude.{◌≡◌, option_map};
 ghost use Rattle.std.specs.Int.{is_in_range};
 ghost use Rattle.link_model.specs.Utf8Prefix as utf8;
 ghost use Rattle.link_format.specs.Ranges.{tails_after};
 
-/// The least and the greatest octet that may stand at a place.
+/// The least and the greatest octet that may stand at a position.
 pub type OctetRange = (u8, u8);
 
 /// An octet that goes on with a character.

@@ -1,4 +1,4 @@
-// Documents and what is none, with the place where it stops being the beginning of one.
+//! Documents and what is none, with the offset at which it stops being the beginning of one.
 use crate::{LinkBad, Links, check, params, quoted, value_of};
 use rd_base::Starved;
 use std::alloc::Global;
@@ -20,6 +20,7 @@ fn shown(alloc: Global, links: Links<'_>) -> Result<String, Starved> {
     Ok(text)
 }
 
+/// Documents are shown link by link, and what is none is refused at its offset.
 #[test]
 fn documents(rt: HostRuntime) -> Result<(), Fail> {
     let alloc = rt.alloc();

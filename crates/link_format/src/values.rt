@@ -1,4 +1,4 @@
-// What values say, and texts in quotes (RFC 6690 section 2).
+//! What values say, and texts in quotes (RFC 6690 section 2).
 ghost use Rattle.std.specs.Prelude.{◌≡◌, ◌==◌, ◌||◌, ◌++◌, IfOk, false, true, flat_map};
 ghost use Rattle.std.specs.Char.{encode_utf8};
 ghost use Rattle.std.specs.String.{string_bytes};
@@ -12,7 +12,7 @@ use crate::parameters::Param;
 use rd_base::{Starved, Text};
 use std::alloc::Global;
 
-/// The value of a parameter, without quotes and escapes; empty where it has none. An error is want of memory.
+/// The value of a parameter, without quotes and escapes; empty where it has none. An error says that memory ran out.
 pub fn value_of(alloc: Global, param: &Param<'_>) -> Result<Text, Starved>
     ensures { IfOk result (λ text. text ≡ quoting.value_of (parameter_seen param.now)) }
 {
@@ -61,7 +61,7 @@ fn content(alloc: Global, inner: &str) -> Result<Text, Starved>
     Ok(Text::of(text))
 }
 
-/// The text in quotes, a backslash before each quote and backslash in it. An error is want of memory.
+/// The text in quotes, a backslash before each quote and backslash in it. An error says that memory ran out.
 ///
 /// What it writes is a quoted string of the grammar where the text has no control character, and [`value_of`] reads it back.
 pub fn quoted(alloc: Global, value: &str) -> Result<Text, Starved>
@@ -79,7 +79,7 @@ pub fn quoted(alloc: Global, value: &str) -> Result<Text, Starved>
     Ok(Text::of(text))
 }
 
-/// Whether a character wants a backslash in quotes.
+/// Whether a character needs a backslash in quotes.
 fn is_mark(character: char) -> bool
     ensures { result ≡ (character == quote_mark || character == backslash) }
 {

@@ -62,7 +62,7 @@ octets_four b c d f rest l h m k p q r s first_low last_high u =
     IsUtf8-character x (b ∷ c ∷ d ∷ f ∷ []) rest (scalar_of x (inr (omega arith, high)))
     (encode_four x low ∙ same_four (240 + x / 262144) (128 + (x / 4096) % 64) (128 + (x / 64) % 64) (128 + x % 64) b c d f first second third fourth) u
 
--- ---- text behind a first octet
+-- ---- text after a first octet
 
 -- what is shorter and is read is text
 abbrev Shorter : ℕ → Type 0

@@ -5,56 +5,56 @@ use Rattle.link_model.specs.Characters.{quote_mark, asterisk, comma, backslash, 
 use Rattle.link_model.specs.Utf8Prefix.{one_more, utf8_prefix}
 use Rattle.link_model.specs.Documents.{Parameter, Link}
 
--- the places of the grammar, by what may stand there
-pub data Place : Type 0 where
+-- the points of the grammar, by what may stand there
+pub data Point : Type 0 where
   -- the end of the document, or a link
-  at_beginning : Place
+  at_beginning : Point
   -- a link
-  at_link : Place
+  at_link : Point
   -- a character of a target, or its end
-  at_target : Place
+  at_target : Point
   -- a parameter, a further link, or the end
-  behind_part : Place
+  after_part : Point
   -- the first character of a name
-  at_name : Place
+  at_name : Point
   -- a further character of a name, an asterisk, or what may follow a name
-  within_name : Place
+  within_name : Point
   -- an equals sign, or what may follow a parameter
-  behind_name : Place
+  after_name : Point
   -- the first character of a value
-  at_value : Place
+  at_value : Point
   -- a further character of a token, or what may follow a parameter
-  in_token : Place
+  in_token : Point
   -- a character of a quoted string, a backslash, or the closing quote
-  in_quotes : Place
+  in_quotes : Point
   -- the character that a backslash escapes
-  behind_backslash : Place
+  after_backslash : Point
 
--- the place, where the test holds
-abbrev pub place_if : Bool → Place → Option Place
-place_if allowed place = if allowed then Some place else None
+-- the point, where the test holds
+abbrev pub point_if : Bool → Point → Option Point
+point_if allowed point = if allowed then Some point else None
 
 -- what may follow a link's target or a whole parameter
-abbrev pub place_after_part : ℕ → Option Place
-place_after_part c = if c == semicolon then Some at_name else place_if (c == comma) at_link
+abbrev pub point_after_part : ℕ → Option Point
+point_after_part c = if c == semicolon then Some at_name else point_if (c == comma) at_link
 
 -- what may follow a parameter's name
-abbrev pub place_after_name : ℕ → Option Place
-place_after_name c = if c == equals_sign then Some at_value else place_after_part c
+abbrev pub point_after_name : ℕ → Option Point
+point_after_name c = if c == equals_sign then Some at_value else point_after_part c
 
--- the place behind an octet, and None where the octet cannot stand at the place (RFC 6690 section 2)
-unfoldable pub place_after : Place → ℕ → Option Place
-place_after at_beginning c = place_if (c == less_than_sign) at_target
-place_after at_link c = place_if (c == less_than_sign) at_target
-place_after at_target c = if c == greater_than_sign then Some behind_part else place_if (is_target_character c) at_target
-place_after behind_part c = place_after_part c
-place_after at_name c = place_if (is_attribute_name_character c) within_name
-place_after within_name c = if is_attribute_name_character c then Some within_name else (if c == asterisk then Some behind_name else place_after_name c)
-place_after behind_name c = place_after_name c
-place_after at_value c = if c == quote_mark then Some in_quotes else place_if (is_token_character c) in_token
-place_after in_token c = if is_token_character c then Some in_token else place_after_part c
-place_after in_quotes c = if c == quote_mark then Some behind_part else (if c == backslash then Some behind_backslash else place_if (is_not_control c) in_quotes)
-place_after behind_backslash c = place_if (is_not_control c) in_quotes
+-- the point after an octet, and None where the octet cannot stand at the point (RFC 6690 section 2)
+unfoldable pub point_after : Point → ℕ → Option Point
+point_after at_beginning c = point_if (c == less_than_sign) at_target
+point_after at_link c = point_if (c == less_than_sign) at_target
+point_after at_target c = if c == greater_than_sign then Some after_part else point_if (is_target_character c) at_target
+point_after after_part c = point_after_part c
+point_after at_name c = point_if (is_attribute_name_character c) within_name
+point_after within_name c = if is_attribute_name_character c then Some within_name else (if c == asterisk then Some after_name else point_after_name c)
+point_after after_name c = point_after_name c
+point_after at_value c = if c == quote_mark then Some in_quotes else point_if (is_token_character c) in_token
+point_after in_token c = if is_token_character c then Some in_token else point_after_part c
+point_after in_quotes c = if c == quote_mark then Some after_part else (if c == backslash then Some after_backslash else point_if (is_not_control c) in_quotes)
+point_after after_backslash c = point_if (is_not_control c) in_quotes
 
 -- a link of which nothing is read, with these parameters
 abbrev pub link_of : List Parameter → Link
@@ -93,49 +93,49 @@ abbrev pub onto_value : ℕ → List Link → List Link
 onto_value c links = at_first (λ p. record p { value = option_map (λ value. c ∷ value) p.value }) links
 
 -- the links where a parameter has ended and this octet follows: a further link's comma, or a further parameter's semicolon
-abbrev pub behind_parameter : Parameter → ℕ → List Link → List Link
-behind_parameter p c links = if c == comma then link_of (p ∷ []) ∷ links else onto_parameters p links
+abbrev pub after_parameter : Parameter → ℕ → List Link → List Link
+after_parameter p c links = if c == comma then link_of (p ∷ []) ∷ links else onto_parameters p links
 
 -- the links where a parameter's name has ended and this octet follows
-abbrev pub behind_whole_name : ℕ → List Link → List Link
-behind_whole_name c links = if c == equals_sign then links else behind_parameter (parameter_of None) c links
+abbrev pub after_whole_name : ℕ → List Link → List Link
+after_whole_name c links = if c == equals_sign then links else after_parameter (parameter_of None) c links
 
--- the links that are read from an octet at a place on, where those from behind it on are read
-unfoldable pub with_octet : Place → ℕ → List Link → List Link
+-- the links that are read from an octet at a point on, where those from after it on are read
+unfoldable pub with_octet : Point → ℕ → List Link → List Link
 with_octet at_beginning c links = links
 with_octet at_link c links = links
 with_octet at_target c links = if c == greater_than_sign then links else onto_target c links
-with_octet behind_part c links = if c == comma then link_of [] ∷ links else links
+with_octet after_part c links = if c == comma then link_of [] ∷ links else links
 with_octet at_name c links = onto_name c links
-with_octet within_name c links = if is_attribute_name_character c || c == asterisk then onto_name c links else behind_whole_name c links
-with_octet behind_name c links = behind_whole_name c links
+with_octet within_name c links = if is_attribute_name_character c || c == asterisk then onto_name c links else after_whole_name c links
+with_octet after_name c links = after_whole_name c links
 with_octet at_value c links = onto_value c links
-with_octet in_token c links = if is_token_character c then onto_value c links else behind_parameter (parameter_of (Some [])) c links
+with_octet in_token c links = if is_token_character c then onto_value c links else after_parameter (parameter_of (Some [])) c links
 with_octet in_quotes c links = if c == quote_mark then onto_parameters (parameter_of (Some (c ∷ []))) links else onto_value c links
-with_octet behind_backslash c links = onto_value c links
+with_octet after_backslash c links = onto_value c links
 
--- the links that are read where the document ends at the place, and None where it cannot end there
-unfoldable pub links_at_end : Place → Option (List Link)
+-- the links that are read where the document ends at the point, and None where it cannot end there
+unfoldable pub links_at_end : Point → Option (List Link)
 links_at_end at_beginning = Some []
-links_at_end behind_part = Some (link_of [] ∷ [])
+links_at_end after_part = Some (link_of [] ∷ [])
 links_at_end within_name = Some (link_of (parameter_of None ∷ []) ∷ [])
-links_at_end behind_name = Some (link_of (parameter_of None ∷ []) ∷ [])
+links_at_end after_name = Some (link_of (parameter_of None ∷ []) ∷ [])
 links_at_end in_token = Some (link_of (parameter_of (Some []) ∷ []) ∷ [])
 links_at_end _ = None
 
--- the links that the octets from a place on spell, the first of them from that place on
-unfoldable pub links_from : Place → List ℕ → Option (List Link)
-links_from place [] = links_at_end place
-links_from place (c ∷ cs) = option_and_then (λ next. option_map (with_octet place c) (links_from next cs)) (place_after place c)
+-- the links that the octets from a point on spell, the first of them from that point on
+unfoldable pub links_from : Point → List ℕ → Option (List Link)
+links_from point [] = links_at_end point
+links_from point (c ∷ cs) = option_and_then (λ next. option_map (with_octet point c) (links_from next cs)) (point_after point c)
 
 -- the links of a document, and None where the octets are none: `IsDocument` as a function
 unfoldable pub document : List ℕ → Option (List Link)
 document bytes = if is_utf8 bytes then links_from at_beginning bytes else None
 
--- how many octets may stand one behind the other from the place on
-unfoldable pub prefix_from : Place → List ℕ → ℕ
-prefix_from place [] = 0
-prefix_from place (c ∷ cs) = one_more (place_after place c) (λ next. prefix_from next cs)
+-- how many octets may stand one after the other from the point on
+unfoldable pub prefix_from : Point → List ℕ → ℕ
+prefix_from point [] = 0
+prefix_from point (c ∷ cs) = one_more (point_after point c) (λ next. prefix_from next cs)
 
 -- the length of the longest prefix that begins some document: `IsGoodPrefix` as a function
 unfoldable pub good_prefix : List ℕ → ℕ

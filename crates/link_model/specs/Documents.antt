@@ -22,7 +22,7 @@ value_text (Some value) = equals_sign ∷ value
 abbrev pub parameter_text : Parameter → List ℕ
 parameter_text p = semicolon ∷ (p.name ++ value_text p.value)
 
--- the text of parameters, one behind the other
+-- the text of parameters, one after the other
 abbrev pub parameters_text : List Parameter → List ℕ
 parameters_text parameters = flat_map parameter_text parameters
 
@@ -39,7 +39,7 @@ abbrev pub are_name_characters : List ℕ → Bool
 are_name_characters [] = true
 are_name_characters (c ∷ cs) = if c == asterisk then is_empty cs else is_attribute_name_character c && are_name_characters cs
 
--- a parameter's name: one or more characters of a name, and an asterisk behind them or none (RFC 6690 section 2, parmname and ext-name-star)
+-- a parameter's name: one or more characters of a name, and an asterisk after them or none (RFC 6690 section 2, parmname and ext-name-star)
 abbrev pub is_parameter_name : List ℕ → Bool
 is_parameter_name [] = false
 is_parameter_name (c ∷ cs) = is_attribute_name_character c && are_name_characters cs
@@ -48,7 +48,7 @@ is_parameter_name (c ∷ cs) = is_attribute_name_character c && are_name_charact
 abbrev pub is_token : List ℕ → Bool
 is_token value = is_run_of is_token_character value
 
--- the rest of a quoted string: characters, each escape being a backslash with the next character, and the closing quote; the flag tells that a backslash stands before
+-- the rest of a quoted string: characters, each escape being a backslash with the next character, and the closing quote; the flag says that a backslash stands before
 abbrev pub closes_quotes : Bool → List ℕ → Bool
 closes_quotes escaped [] = false
 closes_quotes true (c ∷ cs) = is_not_control c && closes_quotes false cs

@@ -10,7 +10,7 @@ use Rattle.link_model.specs.DocumentReading.{document}
 abbrev pub kept_before : ℕ → List ℕ → List ℕ
 kept_before c rest = if c == backslash then rest else c ∷ rest
 
--- the characters up to the closing quote, each escape replaced by the character that it escapes; the flag tells that a backslash stands before
+-- the characters up to the closing quote, each escape replaced by the character that it escapes; the flag says that a backslash stands before
 abbrev pub content_up_to_quote : Bool → List ℕ → List ℕ
 content_up_to_quote escaped [] = []
 content_up_to_quote true (c ∷ cs) = c ∷ content_up_to_quote false cs

@@ -2,7 +2,7 @@
 use Rattle.std.specs.Prelude.{ℕ, suc, ◌==◌, List, [], ◌∷◌, Option, Some, None, if◌then◌else◌}
 use Rattle.std.specs.Int.{is_in_range}
 
--- the least and the greatest octet that may stand at a place
+-- the least and the greatest octet that may stand at a position
 abbrev pub OctetRange : Type 0
 OctetRange = ℕ × ℕ
 

@@ -8,7 +8,7 @@ use Rattle.link_model.specs.Characters.{slash}
 use Rattle.reference_model.specs.References.{has_octet}
 use Rattle.reference_model.proofs.ReferenceCuts.{has_octet-append}
 use Rattle.ref_resolve.specs.Paths.{before_last}
-use Rattle.ref_resolve.proofs.Kept.{before_last-slash}
+use Rattle.ref_resolve.proofs.KeptSegments.{before_last-slash}
 
 -- another octet at the end changes nothing
 ends_otherwise : (front : List ℕ) (c : ℕ) → c ≢ slash → before_last slash (front ++ c ∷ []) ≡ before_last slash front
@@ -24,14 +24,14 @@ ends_otherwise (x ∷ xs) c h =
     or_false false = refl
 
 -- an octet moves from the end of one list to the beginning of the next
-pub moved : (text rest front behind : List ℕ) (c : ℕ) → text ≡ rest ++ behind → rest ≡ front ++ c ∷ [] → text ≡ front ++ (c ∷ behind)
-moved text rest front behind c e h = e ∙ ap (λ (r : List ℕ). r ++ behind) h ∙ append_assoc front (c ∷ []) behind
+pub moved : (text rest front after : List ℕ) (c : ℕ) → text ≡ rest ++ after → rest ≡ front ++ c ∷ [] → text ≡ front ++ (c ∷ after)
+moved text rest front after c e h = e ∙ ap (λ (r : List ℕ). r ++ after) h ∙ append_assoc front (c ∷ []) after
 
-pub last_found : (text rest front behind : List ℕ) (c : ℕ) → text ≡ rest ++ behind → rest ≡ front ++ c ∷ [] → c ≡ slash → before_last slash rest ≡ before_last slash text
+pub last_found : (text rest front after : List ℕ) (c : ℕ) → text ≡ rest ++ after → rest ≡ front ++ c ∷ [] → c ≡ slash → before_last slash rest ≡ before_last slash text
     → before_last slash text ≡ take (length front) text
-last_found text rest front behind c e h k b =
+last_found text rest front after c e h k b =
     let cut : before_last slash rest ≡ front = ap (before_last slash) h ∙ ap (λ (x : ℕ). before_last slash (front ++ x ∷ [])) k ∙ before_last-slash front [] refl in
-    let taken : take (length front) text ≡ front = ap (take (length front)) (moved text rest front behind c e h) ∙ take-append_seam front (c ∷ behind) in
+    let taken : take (length front) text ≡ front = ap (take (length front)) (moved text rest front after c e h) ∙ take-append_seam front (c ∷ after) in
     sym b ∙ cut ∙ sym taken
 
 pub last_farther : (text rest front : List ℕ) (c : ℕ) → rest ≡ front ++ c ∷ [] → c ≢ slash → before_last slash rest ≡ before_last slash text → before_last slash front ≡ before_last slash text
@@ -42,10 +42,10 @@ unfolding before_last
 last_nowhere text [] h b = sym b
 last_nowhere text (c ∷ cs) h b = absurd (omega (arith, h))
 
--- what is behind a place, cut at a place of its own
-pub cut_at_place : (old bytes new : List ℕ) (start place : ℕ) → bytes ≡ old → before_last slash (take (length bytes - start) (drop start bytes)) ≡ take place (take (length bytes - start) (drop start bytes)) → new ≡ take (start + place) old
+-- what is after an offset, cut at an offset of its own
+pub cut_at_offset : (old bytes new : List ℕ) (start offset : ℕ) → bytes ≡ old → before_last slash (take (length bytes - start) (drop start bytes)) ≡ take offset (take (length bytes - start) (drop start bytes)) → new ≡ take (start + offset) old
     → drop start new ≡ before_last slash (drop start old)
-cut_at_place old bytes new start place e b n =
+cut_at_offset old bytes new start offset e b n =
     let whole : take (length bytes - start) (drop start bytes) ≡ drop start bytes = ap (λ (k : ℕ). take k (drop start bytes)) (sym (length-drop start bytes)) ∙ take-length (drop start bytes) in
     let same : take (length bytes - start) (drop start bytes) ≡ drop start old = whole ∙ ap (drop start) e in
-    ap (drop start) n ∙ drop-take start place old ∙ ap (take place) (sym same) ∙ sym b ∙ ap (before_last slash) same
+    ap (drop start) n ∙ drop-take start offset old ∙ ap (take offset) (sym same) ∙ sym b ∙ ap (before_last slash) same

@@ -1,4 +1,4 @@
--- The classes of characters of the components, and what a percent sign asks of the octets behind it (RFC 3986 section 2.1).
+-- The classes of characters of the components, and what a percent sign asks of the octets after it (RFC 3986 section 2.1).
 use Rattle.std.specs.Prelude.{ℕ, Bool, ◌||◌, ◌==◌, ◌-◌, Option, Some, None, if◌then◌else◌}
 use Rattle.std.specs.Char.{is_ascii_hexdigit}
 use Rattle.link_model.specs.Characters.{percent_sign, is_name_character, is_userinfo_character, is_path_character, is_query_character}
@@ -13,7 +13,7 @@ stands_in class.User = is_userinfo_character
 stands_in class.Path = is_path_character
 stands_in class.Query = is_query_character
 
--- how many hexadecimal digits must follow the octet, where it may stand behind a percent sign that misses so many
+-- how many hexadecimal digits must follow the octet, where it may stand after a percent sign that misses so many
 abbrev pub next_digits : (ℕ → Bool) → ℕ → ℕ → Option ℕ
 next_digits test digits c =
     if digits == 0 then (if c == percent_sign || test c then Some (digits_after c) else None)

@@ -1,5 +1,6 @@
-pub mod Seen
+-- What the contracts say beyond reference_model: the components that parts show, classes of characters, paths as they grow, and merged paths.
+pub mod ComponentsOfParts
 pub mod Classes
-pub mod Faults
+pub mod ComponentFaults
 pub mod Paths
-pub mod Merging
+pub mod MergedPaths

@@ -1,12 +1,12 @@
-// Cutting a text at its first octet of a kind.
+//! Cutting a text at its first octet of a kind.
 ghost use Rattle.std.specs.Prelude.{◌≡◌, ◌<◌, ◌+◌, ◌∷◌, length, option_map, MatchOption, false};
 ghost use Rattle.reference_model.specs.References as references;
 
-/// What stands before the first of these marks, or the whole text, and what stands behind it, if there is one.
+/// What stands before the first of these marks, or the whole text, and what stands after it, if there is one.
 pub(crate) fn around(text: &str, mark: char) -> (&str, Option<&str>)
     requires { mark < 128 }
     ensures before { result.0.now ≡ references.before mark text.now }
-    ensures behind { option_map (λ rest. rest.now) result.1 ≡ references.behind mark text.now }
+    ensures after { option_map (λ rest. rest.now) result.1 ≡ references.after mark text.now }
     ensures lengths { MatchOption result.1 (length result.0.now ≡ length text.now) (λ rest. length result.0.now + 1 + length rest.now ≡ length text.now) }
 {
     match text.split_once(mark) {
@@ -23,7 +23,7 @@ pub(crate) fn split_from(text: &str, mark: char) -> (&str, &str)
     ensures lengths { length result.0.now + length result.1.now ≡ length text.now }
 {
     match text.find(mark) {
-        Some(place) => text.split_at(place),
+        Some(offset) => text.split_at(offset),
         None => (text, ""),
     }
 }
@@ -34,22 +34,22 @@ pub(crate) fn through(text: &str, mark: char) -> &str
     ensures { result.now ≡ references.through mark text.now }
 {
     match text.find(mark) {
-        Some(place) => &text[..place + 1],
+        Some(offset) => &text[..offset + 1],
         None => text,
     }
 }
 
-/// What stands behind the mark, where the text begins with it.
-pub(crate) fn behind_first(text: &str, mark: char) -> Option<&str>
+/// What stands after the mark, where the text begins with it.
+pub(crate) fn after_first(text: &str, mark: char) -> Option<&str>
     requires { mark < 128 }
     ensures { MatchOption result (references.begins_with mark text.now ≡ false) (λ rest. text.now ≡ mark ∷ rest.now) }
 {
     text.strip_prefix(mark)
 }
 
-/// What stands behind two slashes at the beginning, where they stand there.
-pub(crate) fn behind_two_slashes(text: &str) -> Option<&str>
-    ensures { option_map (λ rest. rest.now) result ≡ references.behind_two_slashes text.now }
+/// What stands after two slashes at the beginning, where they stand there.
+pub(crate) fn after_two_slashes(text: &str) -> Option<&str>
+    ensures { option_map (λ rest. rest.now) result ≡ references.after_two_slashes text.now }
 {
     match text.strip_prefix('/') {
         Some(rest) => rest.strip_prefix('/'),

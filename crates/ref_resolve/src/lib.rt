@@ -1,16 +1,16 @@
 //! References: a text is taken apart into its components, and a reference is resolved against a base (RFC 3986).
 #![tactic(auto)]
 
+mod components;
 mod cuts;
-mod dots;
+mod dot_segments;
 mod reach;
-mod reading;
-mod resolving;
-mod splitting;
+mod references;
+mod resolution;
 
-pub use reading::{RefBad, host, is_uri, parts};
-pub use resolving::resolve;
-pub use splitting::Parts;
+pub use components::Parts;
+pub use references::{RefBad, host, is_uri, parts};
+pub use resolution::resolve;
 
 #[cfg(test)]
 mod tests;

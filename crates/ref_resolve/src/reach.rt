@@ -1,4 +1,4 @@
-// How far the text of a component goes before an octet that cannot stand there (RFC 3986 section 3).
+//! How far the text of a component goes before an octet that cannot stand there (RFC 3986 section 3).
 ghost use Rattle.std.specs.Prelude.{◌≡◌, ◌≤◌, ◌+◌, ◌∷◌, length};
 ghost use Rattle.std.specs.List.{prefix_len, list_all};
 ghost use Rattle.std.specs.Char.{is_ascii_digit};
@@ -7,7 +7,7 @@ ghost use Rattle.reference_model.specs.References as references;
 ghost use Rattle.reference_model.specs.ReferenceFaults as faults;
 ghost use Rattle.ref_resolve.specs.Classes.{stands_in, next_digits};
 
-use crate::cuts::{around, behind_first, split_from};
+use crate::cuts::{after_first, around, split_from};
 
 /// How far a text goes as the beginning of a component, and whether all of it is one.
 #[derive(Clone, Copy)]
@@ -55,7 +55,7 @@ fn is_name_character(octet: u8) -> bool
         )
 }
 
-/// Whether an octet may stand in a scheme behind its first letter (RFC 3986 section 3.1).
+/// Whether an octet may stand in a scheme after its first letter (RFC 3986 section 3.1).
 fn is_scheme_character(octet: u8) -> bool
     ensures { result ≡ characters.is_scheme_character octet }
 {
@@ -155,7 +155,7 @@ fn literal_at(text: &str) -> usize
 }
 
 /// Whether a text is the inside of an IP literal.
-#[tactic(auto, using(crate::proofs::Reaching::run_of))]
+#[tactic(auto, using(crate::proofs::ReachLaws::run_of))]
 fn is_literal(text: &str) -> bool
     ensures { result ≡ characters.is_run_of characters.is_literal_character text.now }
 {
@@ -163,13 +163,13 @@ fn is_literal(text: &str) -> bool
 }
 
 /// A port with its colon, or nothing (RFC 3986 section 3.2.3).
-#[tactic(auto, using(crate::proofs::Reaching::port_behind_colon, crate::proofs::Reaching::no_port))]
+#[tactic(auto, using(crate::proofs::ReachLaws::port_after_colon, crate::proofs::ReachLaws::no_port))]
 fn port_reach(text: &str) -> Reach
     ensures whole { result.whole ≡ references.is_port_text text.now }
     ensures at { result.at ≡ faults.port_prefix text.now }
     ensures bound { result.at ≤ length text.now }
 {
-    match behind_first(text, ':') {
+    match after_first(text, ':') {
         Some(digits) => {
             let count = digits_at(digits);
             Reach {
@@ -184,15 +184,15 @@ fn port_reach(text: &str) -> Reach
     }
 }
 
-/// An IP literal behind its opening bracket, and a port or none (RFC 3986 section 3.2.2).
-#[tactic(auto, using(crate::proofs::Reaching::octet_behind))]
+/// An IP literal after its opening bracket, and a port or none (RFC 3986 section 3.2.2).
+#[tactic(auto, using(crate::proofs::ReachLaws::octet_after))]
 fn literal_reach(text: &str) -> Reach
     ensures whole { result.whole ≡ references.is_literal_and_port (characters.left_bracket ∷ text.now) }
     ensures at { result.at + 1 ≡ faults.literal_prefix (characters.left_bracket ∷ text.now) }
     ensures bound { result.at ≤ length text.now }
 {
-    let (inside, behind) = around(text, ']');
-    match behind {
+    let (inside, after) = around(text, ']');
+    match after {
         Some(port) => {
             if !is_literal(inside) {
                 return Reach {
@@ -232,13 +232,13 @@ fn name_reach(text: &str) -> Reach
 }
 
 /// A host, and a port or none.
-#[tactic(auto, using(crate::proofs::Reaching::host_in_brackets, crate::proofs::Reaching::host_of_name))]
+#[tactic(auto, using(crate::proofs::ReachLaws::host_in_brackets, crate::proofs::ReachLaws::host_of_name))]
 fn host_reach(text: &str) -> Reach
     ensures whole { result.whole ≡ references.is_host_and_port text.now }
     ensures at { result.at ≡ faults.host_prefix text.now }
     ensures bound { result.at ≤ length text.now }
 {
-    match behind_first(text, '[') {
+    match after_first(text, '[') {
         Some(rest) => {
             let reach = literal_reach(rest);
             Reach {
@@ -251,15 +251,15 @@ fn host_reach(text: &str) -> Reach
 }
 
 /// An authority: user information or none, a host, and a port or none (RFC 3986 section 3.2).
-#[tactic(auto, using(crate::proofs::Reaching::octet_behind, crate::proofs::Cutting::before_nowhere, crate::proofs::Reaching::no_at_sign), unfolding(reference_model::specs::ReferenceFaults::authority_prefix))]
+#[tactic(auto, using(crate::proofs::ReachLaws::octet_after, reference_model::proofs::ReferenceCuts::before_alone, crate::proofs::ReachLaws::no_at_sign), unfolding(reference_model::specs::ReferenceFaults::authority_prefix))]
 pub(crate) fn authority_reach(text: &str) -> Reach
     ensures whole { result.whole ≡ references.is_authority text.now }
     ensures at { result.at ≡ faults.authority_prefix text.now }
     ensures bound { result.at ≤ length text.now }
 {
-    let (front, behind) = around(text, '@');
+    let (front, after) = around(text, '@');
     let user = text_reach(Class::User, front);
-    match behind {
+    match after {
         Some(rest) => {
             let host = host_reach(rest);
             if user.whole {
@@ -284,7 +284,7 @@ pub(crate) fn authority_reach(text: &str) -> Reach
     }
 }
 
-/// Whether each octet may stand in a scheme behind its first letter.
+/// Whether each octet may stand in a scheme after its first letter.
 fn are_scheme_characters(text: &[u8]) -> bool
     ensures { result ≡ list_all characters.is_scheme_character text.now }
 {
@@ -292,7 +292,7 @@ fn are_scheme_characters(text: &[u8]) -> bool
 }
 
 /// Whether a text is a scheme (RFC 3986 section 3.1).
-#[tactic(auto, using(crate::proofs::Reaching::scheme_cons))]
+#[tactic(auto, using(crate::proofs::ReachLaws::scheme_cons))]
 pub(crate) fn is_scheme(text: &str) -> bool
     ensures { result ≡ references.is_scheme text.now }
 {

@@ -1,11 +1,11 @@
-// References resolved, and texts that are none with the place of their first fault.
+//! References resolved, and texts that are none with the offset of their first fault.
 use crate::{RefBad, host, is_uri, parts, resolve};
 use rd_base::{Starved, Text};
 use std::alloc::Global;
 use std::process::Abort;
 use std::test::Fail;
 
-/// What came of a reference: its text resolved, or the place of its first fault.
+/// What came of a reference: its text resolved, or the offset of its first fault.
 #[derive(Drop)]
 enum Came {
     Resolved(Text),
@@ -30,9 +30,10 @@ const RFC: &str = "http://a/b/c/d;p?q";
 /// The base of a registration.
 const LINKS: &str = "coap://h/c/d";
 
-/// A base, a reference, and the text that is resolved or the place of the first fault.
+/// A base, a reference, and the text that is resolved or the offset of the first fault.
 type Case = (&'static str, &'static str, Result<&'static str, usize>);
 
+/// The examples of RFC 3986 section 5.4, links of a registration, and texts that are no references.
 static CASES: [Case; 79] = [
     // RFC 3986 section 5.4.1
     (RFC, "g:h", Ok("g:h")),
@@ -135,6 +136,7 @@ fn compare(
     Ok(())
 }
 
+/// Each case of the table, and a reference of many steps upward.
 #[test]
 fn references(rt: HostRuntime) -> Result<(), Fail> {
     let alloc = rt.alloc();
@@ -149,6 +151,7 @@ fn references(rt: HostRuntime) -> Result<(), Fail> {
     Ok(())
 }
 
+/// The host of a reference, and whether it is a URI.
 #[test]
 fn hosts(rt: HostRuntime) -> Result<(), Fail> {
     let cases = [

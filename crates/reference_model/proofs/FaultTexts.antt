@@ -4,9 +4,9 @@ use Rattle.std.specs.Prelude.{◌==◌}
 use Rattle.std.specs.List.{list_all, prefix_len}
 use Rattle.std.specs.Char.{is_ascii_hexdigit, is_ascii_digit}
 use Rattle.link_model.specs.Characters.{percent_sign, colon}
-use Rattle.reference_model.specs.References.{is_text_behind_digits, is_text_of, digits_after, is_port_text}
-use Rattle.reference_model.specs.ReferenceFaults.{prefix_behind_digits, text_prefix, port_prefix}
-use Rattle.reference_model.proofs.FaultWords.{IsLongest}
+use Rattle.reference_model.specs.References.{is_text_after_digits, is_text_of, digits_after, is_port_text}
+use Rattle.reference_model.specs.ReferenceFaults.{prefix_after_digits, text_prefix, port_prefix}
+use Rattle.reference_model.proofs.LongestPrefixes.{IsLongest}
 
 -- digits that complete a percent escape
 abbrev pub zeros : ℕ → List ℕ
@@ -15,61 +15,61 @@ zeros (suc k) = 48 ∷ zeros k
 
 -- ---- characters and percent escapes
 
-text_within : (test : ℕ → Bool) (d : ℕ) (text : List ℕ) → prefix_behind_digits test d text ≤ length text
+text_within : (test : ℕ → Bool) (d : ℕ) (text : List ℕ) → prefix_after_digits test d text ≤ length text
 text_within test d [] = omega arith
 text_within test zero (c ∷ cs) = by_test (c == percent_sign || test c) (text_within test (digits_after c) cs)
   where
-    by_test : (b : Bool) → prefix_behind_digits test (digits_after c) cs ≤ length cs → cond b (suc (prefix_behind_digits test (digits_after c) cs)) 0 ≤ suc (length cs)
+    by_test : (b : Bool) → prefix_after_digits test (digits_after c) cs ≤ length cs → cond b (suc (prefix_after_digits test (digits_after c) cs)) 0 ≤ suc (length cs)
     by_test true h = omega arith
     by_test false h = omega arith
 text_within test (suc d) (c ∷ cs) = by_test (is_ascii_hexdigit c) (text_within test d cs)
   where
-    by_test : (b : Bool) → prefix_behind_digits test d cs ≤ length cs → cond b (suc (prefix_behind_digits test d cs)) 0 ≤ suc (length cs)
+    by_test : (b : Bool) → prefix_after_digits test d cs ≤ length cs → cond b (suc (prefix_after_digits test d cs)) 0 ≤ suc (length cs)
     by_test true h = omega arith
     by_test false h = omega arith
 
-digits_alone : (test : ℕ → Bool) (d : ℕ) → is_text_behind_digits test d (zeros d) ≡ true
+digits_alone : (test : ℕ → Bool) (d : ℕ) → is_text_after_digits test d (zeros d) ≡ true
 digits_alone test zero = refl
 digits_alone test (suc d) = digits_alone test d
 
-pub text_begins : (test : ℕ → Bool) (d : ℕ) (text : List ℕ) → (k : ℕ) × (is_text_behind_digits test d (take (prefix_behind_digits test d text) text ++ zeros k) ≡ true)
+pub text_begins : (test : ℕ → Bool) (d : ℕ) (text : List ℕ) → (k : ℕ) × (is_text_after_digits test d (take (prefix_after_digits test d text) text ++ zeros k) ≡ true)
 text_begins test d [] = (d, digits_alone test d)
 text_begins test zero (c ∷ cs) = by_test (c == percent_sign || test c) refl (text_begins test (digits_after c) cs)
   where
     n : ℕ
-    n = prefix_behind_digits test (digits_after c) cs
+    n = prefix_after_digits test (digits_after c) cs
 
-    by_test : (b : Bool) → (c == percent_sign || test c) ≡ b → (k : ℕ) × (is_text_behind_digits test (digits_after c) (take n cs ++ zeros k) ≡ true)
-        → (k : ℕ) × (is_text_behind_digits test 0 (take (cond b (suc n) 0) (c ∷ cs) ++ zeros k) ≡ true)
+    by_test : (b : Bool) → (c == percent_sign || test c) ≡ b → (k : ℕ) × (is_text_after_digits test (digits_after c) (take n cs ++ zeros k) ≡ true)
+        → (k : ℕ) × (is_text_after_digits test 0 (take (cond b (suc n) 0) (c ∷ cs) ++ zeros k) ≡ true)
     by_test true e h = (h.0, rw e (h.1))
     by_test false e h = (0, refl)
 text_begins test (suc d) (c ∷ cs) = by_test (is_ascii_hexdigit c) refl (text_begins test d cs)
   where
     n : ℕ
-    n = prefix_behind_digits test d cs
+    n = prefix_after_digits test d cs
 
-    by_test : (b : Bool) → is_ascii_hexdigit c ≡ b → (k : ℕ) × (is_text_behind_digits test d (take n cs ++ zeros k) ≡ true)
-        → (k : ℕ) × (is_text_behind_digits test (suc d) (take (cond b (suc n) 0) (c ∷ cs) ++ zeros k) ≡ true)
+    by_test : (b : Bool) → is_ascii_hexdigit c ≡ b → (k : ℕ) × (is_text_after_digits test d (take n cs ++ zeros k) ≡ true)
+        → (k : ℕ) × (is_text_after_digits test (suc d) (take (cond b (suc n) 0) (c ∷ cs) ++ zeros k) ≡ true)
     by_test true e h = (h.0, rw e (h.1))
     by_test false e h = (suc d, digits_alone test (suc d))
 
-text_ends : (test : ℕ → Bool) (d : ℕ) (text : List ℕ) (m : ℕ) (more : List ℕ) → prefix_behind_digits test d text < m → m ≤ length text → is_text_behind_digits test d (take m text ++ more) ≡ false
+text_ends : (test : ℕ → Bool) (d : ℕ) (text : List ℕ) (m : ℕ) (more : List ℕ) → prefix_after_digits test d text < m → m ≤ length text → is_text_after_digits test d (take m text ++ more) ≡ false
 text_ends test d [] m more h k = absurd (omega arith)
 text_ends test d (c ∷ cs) zero more h k = absurd (omega arith)
 text_ends test zero (c ∷ cs) (suc m) more h k = by_test (c == percent_sign || test c) h (λ x. text_ends test (digits_after c) cs m more x (omega arith))
   where
     n : ℕ
-    n = prefix_behind_digits test (digits_after c) cs
+    n = prefix_after_digits test (digits_after c) cs
 
-    by_test : (b : Bool) → cond b (suc n) 0 < suc m → (n < m → is_text_behind_digits test (digits_after c) (take m cs ++ more) ≡ false) → (b && is_text_behind_digits test (digits_after c) (take m cs ++ more)) ≡ false
+    by_test : (b : Bool) → cond b (suc n) 0 < suc m → (n < m → is_text_after_digits test (digits_after c) (take m cs ++ more) ≡ false) → (b && is_text_after_digits test (digits_after c) (take m cs ++ more)) ≡ false
     by_test true x f = f (omega arith)
     by_test false x f = refl
 text_ends test (suc d) (c ∷ cs) (suc m) more h k = by_test (is_ascii_hexdigit c) h (λ x. text_ends test d cs m more x (omega arith))
   where
     n : ℕ
-    n = prefix_behind_digits test d cs
+    n = prefix_after_digits test d cs
 
-    by_test : (b : Bool) → cond b (suc n) 0 < suc m → (n < m → is_text_behind_digits test d (take m cs ++ more) ≡ false) → (b && is_text_behind_digits test d (take m cs ++ more)) ≡ false
+    by_test : (b : Bool) → cond b (suc n) 0 < suc m → (n < m → is_text_after_digits test d (take m cs ++ more) ≡ false) → (b && is_text_after_digits test d (take m cs ++ more)) ≡ false
     by_test true x f = f (omega arith)
     by_test false x f = refl
 

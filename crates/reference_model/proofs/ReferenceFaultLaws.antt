@@ -1,18 +1,18 @@
--- `reference_fault_at` gives the place of the first octet that no URI-reference with the same octets before it can have there.
-use Rattle.std.proofs.Common.{◌≡◌, ℕ, suc, ◌+◌, Bool, true, false, cond, not, ◌&&◌, ◌||◌, List, [], ◌∷◌, ◌++◌, take, length, Option, Some, None, unwrap_or, is_some, refl, sym, ap, ◌∙◌, arith}
-use Rattle.std.specs.Prelude.{◌==◌, if◌then◌else◌}
+-- `reference_fault_at` gives the offset of the first octet that no URI-reference with the same octets before it can have there.
+use Rattle.std.proofs.Common.{◌≡◌, ℕ, suc, ◌+◌, Bool, true, false, not, ◌&&◌, ◌||◌, List, [], ◌∷◌, ◌++◌, take, length, Option, Some, None, unwrap_or, is_some, refl, sym, ap, ◌∙◌, arith}
+use Rattle.std.specs.Prelude.{if◌then◌else◌}
 use Rattle.std.proofs.lemmas.Bool.{and_parts, true≢false, and_left}
 use Rattle.std.proofs.lemmas.List.{length-append}
-use Rattle.link_model.specs.Characters.{colon, slash, question_mark, number_sign, is_empty, is_path_character, is_query_character}
-use Rattle.reference_model.specs.References.{Components, IsReference, before, behind, begins_with, from_first, has_octet, marked, without_fragment, without_query, has_colon_in_first_segment, scheme_in, behind_scheme, behind_two_slashes, authority_in, path_in, components, scheme_text, authority_text, query_text, fragment_text, where_present, is_text_of, is_scheme, is_authority, path_fits, is_allowed, reference}
+use Rattle.link_model.specs.Characters.{colon, slash, question_mark, number_sign, is_path_character, is_query_character}
+use Rattle.reference_model.specs.References.{Components, IsReference, before, after, has_octet, marked, without_fragment, without_query, has_colon_in_first_segment, scheme_in, after_scheme, after_two_slashes, authority_in, path_in, components, scheme_text, authority_text, query_text, fragment_text, where_present, is_text_of, is_scheme, is_authority, path_fits, is_allowed, reference}
 use Rattle.reference_model.specs.ReferenceFaults.{IsReferenceFault, text_prefix, authority_prefix, prefix_of_parts, parts_of, reference_fault_at}
-use Rattle.reference_model.proofs.ReferenceCuts.{cut}
+use Rattle.reference_model.proofs.ReferenceCuts.{cut, from_first_fits}
 use Rattle.rd_base.proofs.lemmas.Options.{some_same, none_some}
 use Rattle.reference_model.proofs.ReferenceLaws.{scheme_and_rest, authority_and_path, recomposed-components}
 use Rattle.reference_model.proofs.ReferenceReading.{no_end_before_path, no_number_sign_in_query, no_mark_appended, end_question_mark, end_number_sign, reference_only}
-use Rattle.reference_model.proofs.FaultWords.{IsLongest, cut_passes, both_pass, second_fails, front_longest, behind_longest, length-cut, longest_at}
+use Rattle.reference_model.proofs.LongestPrefixes.{IsLongest, cut_passes, both_pass, second_fails, front_longest, after_longest, length-cut, longest_at}
 use Rattle.reference_model.proofs.FaultTexts.{text_longest}
-use Rattle.reference_model.proofs.FaultPaths.{rest_passes, rest_prefix, behind_slashes_prefix}
+use Rattle.reference_model.proofs.FaultPaths.{rest_passes, rest_prefix, after_slashes_prefix}
 use Rattle.reference_model.proofs.FaultSchemes.{front_passes, front_prefix, front_prefix-IsLongest}
 
 -- ---- what is allowed, part by part
@@ -27,24 +27,15 @@ hier_passes text = cut_passes front_passes query_passes question_mark text
 pub whole_passes : List ℕ → Bool
 whole_passes text = cut_passes hier_passes query_passes number_sign text
 
-from_first_fits : (text : List ℕ) → (is_empty (from_first slash text) || begins_with slash (from_first slash text)) ≡ true
-unfolding from_first
-from_first_fits [] = refl
-from_first_fits (c ∷ cs) = by_slash (c == slash) refl (from_first_fits cs)
-  where
-    by_slash : (b : Bool) → (c == slash) ≡ b → (is_empty (from_first slash cs) || begins_with slash (from_first slash cs)) ≡ true → (is_empty (cond b (c ∷ cs) (from_first slash cs)) || begins_with slash (cond b (c ∷ cs) (from_first slash cs))) ≡ true
-    by_slash true e h = e
-    by_slash false e h = h
-
 -- the path of a text fits beside its scheme and its authority
-fits_in : (x : List ℕ) (q f : Option (List ℕ)) → path_fits (record { scheme = scheme_in x; authority = authority_in (behind_scheme x); path = path_in (behind_scheme x); query = q; fragment = f }) ≡ true
-fits_in x q f = by_slashes (behind_two_slashes (behind_scheme x)) refl
+pub path_fits_beside : (x : List ℕ) (q f : Option (List ℕ)) → path_fits (record { scheme = scheme_in x; authority = authority_in (after_scheme x); path = path_in (after_scheme x); query = q; fragment = f }) ≡ true
+path_fits_beside x q f = by_slashes (after_two_slashes (after_scheme x)) refl
   where
-    by_colon : (b : Bool) → has_colon_in_first_segment x ≡ b → (is_some (if b then Some (before colon x) else None) || not (has_colon_in_first_segment (if b then unwrap_or (behind colon x) [] else x))) ≡ true
+    by_colon : (b : Bool) → has_colon_in_first_segment x ≡ b → (is_some (if b then Some (before colon x) else None) || not (has_colon_in_first_segment (if b then unwrap_or (after colon x) [] else x))) ≡ true
     by_colon true e = refl
     by_colon false e = rw e refl
 
-    by_slashes : (o : Option (List ℕ)) → behind_two_slashes (behind_scheme x) ≡ o → path_fits (record { scheme = scheme_in x; authority = authority_in (behind_scheme x); path = path_in (behind_scheme x); query = q; fragment = f }) ≡ true
+    by_slashes : (o : Option (List ℕ)) → after_two_slashes (after_scheme x) ≡ o → path_fits (record { scheme = scheme_in x; authority = authority_in (after_scheme x); path = path_in (after_scheme x); query = q; fragment = f }) ≡ true
     by_slashes None e = rw (e, e) (by_colon (has_colon_in_first_segment x) refl)
     by_slashes (Some rest) e = rw e (from_first_fits rest)
 
@@ -58,28 +49,28 @@ pub is_allowed-components : (text : List ℕ) → is_allowed (components text) �
 unfolding components whole_passes hier_passes query_passes
 is_allowed-components text =
     let x = without_query text in
-    regrouped (where_present is_scheme (scheme_in x)) (where_present is_authority (authority_in (behind_scheme x))) (is_text_of is_path_character (path_in (behind_scheme x))) (path_fits (components text))
-    (where_present (is_text_of is_query_character) (behind question_mark (without_fragment text))) (where_present (is_text_of is_query_character) (behind number_sign text))
-    (fits_in x (behind question_mark (without_fragment text)) (behind number_sign text))
+    regrouped (where_present is_scheme (scheme_in x)) (where_present is_authority (authority_in (after_scheme x))) (is_text_of is_path_character (path_in (after_scheme x))) (path_fits (components text))
+    (where_present (is_text_of is_query_character) (after question_mark (without_fragment text))) (where_present (is_text_of is_query_character) (after number_sign text))
+    (path_fits_beside x (after question_mark (without_fragment text)) (after number_sign text))
 
 -- ---- marks
 
 no_end_in_front : (text : List ℕ) → front_passes text ≡ true → (has_octet question_mark text ≡ false) × (has_octet number_sign text ≡ false)
 no_end_in_front text h =
-    let parts = and_parts (where_present is_scheme (scheme_in text)) (rest_passes (behind_scheme text)) h in
-    let rest = and_parts (where_present is_authority (authority_in (behind_scheme text))) (is_text_of is_path_character (path_in (behind_scheme text))) (parts.1) in
-    let spelled : text ≡ scheme_text (scheme_in text) ++ (authority_text (authority_in (behind_scheme text)) ++ path_in (behind_scheme text)) =
-    scheme_and_rest text ∙ ap (λ (t : List ℕ). scheme_text (scheme_in text) ++ t) (authority_and_path (behind_scheme text)) in (
-      ap (has_octet question_mark) spelled ∙ no_end_before_path question_mark end_question_mark (scheme_in text) (authority_in (behind_scheme text)) (path_in (behind_scheme text)) (parts.0) (rest.0) (rest.1),
-      ap (has_octet number_sign) spelled ∙ no_end_before_path number_sign end_number_sign (scheme_in text) (authority_in (behind_scheme text)) (path_in (behind_scheme text)) (parts.0) (rest.0) (rest.1),
+    let parts = and_parts (where_present is_scheme (scheme_in text)) (rest_passes (after_scheme text)) h in
+    let rest = and_parts (where_present is_authority (authority_in (after_scheme text))) (is_text_of is_path_character (path_in (after_scheme text))) (parts.1) in
+    let spelled : text ≡ scheme_text (scheme_in text) ++ (authority_text (authority_in (after_scheme text)) ++ path_in (after_scheme text)) =
+    scheme_and_rest text ∙ ap (λ (t : List ℕ). scheme_text (scheme_in text) ++ t) (authority_and_path (after_scheme text)) in (
+      ap (has_octet question_mark) spelled ∙ no_end_before_path question_mark end_question_mark (scheme_in text) (authority_in (after_scheme text)) (path_in (after_scheme text)) (parts.0) (rest.0) (rest.1),
+      ap (has_octet number_sign) spelled ∙ no_end_before_path number_sign end_number_sign (scheme_in text) (authority_in (after_scheme text)) (path_in (after_scheme text)) (parts.0) (rest.0) (rest.1),
     )
 
 no_number_sign_in_hier : (text : List ℕ) → hier_passes text ≡ true → has_octet number_sign text ≡ false
 unfolding hier_passes query_passes
 no_number_sign_in_hier text h =
-    let parts = and_parts (front_passes (before question_mark text)) (query_passes (behind question_mark text)) h in
+    let parts = and_parts (front_passes (before question_mark text)) (query_passes (after question_mark text)) h in
     ap (has_octet number_sign) (cut question_mark text)
-    ∙ no_mark_appended number_sign (before question_mark text) (marked question_mark (behind question_mark text)) ((no_end_in_front (before question_mark text) (parts.0)).1) (no_number_sign_in_query (behind question_mark text) (parts.1))
+    ∙ no_mark_appended number_sign (before question_mark text) (marked question_mark (after question_mark text)) ((no_end_in_front (before question_mark text) (parts.0)).1) (no_number_sign_in_query (after question_mark text) (parts.1))
 
 hier_by_front : (text : List ℕ) (n : ℕ) → front_passes (before question_mark text) ≡ false → IsLongest front_passes (before question_mark text) n → IsLongest hier_passes text n
 unfolding hier_passes query_passes
@@ -89,29 +80,29 @@ whole_by_hier : (text : List ℕ) (n : ℕ) → hier_passes (before number_sign 
 unfolding whole_passes query_passes
 whole_by_hier text n e l = front_longest hier_passes query_passes number_sign no_number_sign_in_hier refl text n e l
 
-hier_by_query : (text query : List ℕ) → front_passes (before question_mark text) ≡ true → behind question_mark text ≡ Some query → IsLongest hier_passes text (suc (length (before question_mark text)) + text_prefix is_query_character query)
+hier_by_query : (text query : List ℕ) → front_passes (before question_mark text) ≡ true → after question_mark text ≡ Some query → IsLongest hier_passes text (suc (length (before question_mark text)) + text_prefix is_query_character query)
 unfolding hier_passes query_passes
-hier_by_query text query e f = behind_longest front_passes query_passes question_mark text query (text_prefix is_query_character query) e f (text_longest is_query_character query)
+hier_by_query text query e f = after_longest front_passes query_passes question_mark text query (text_prefix is_query_character query) e f (text_longest is_query_character query)
 
-whole_by_fragment : (text fragment : List ℕ) → hier_passes (before number_sign text) ≡ true → behind number_sign text ≡ Some fragment → IsLongest whole_passes text (suc (length (before number_sign text)) + text_prefix is_query_character fragment)
+whole_by_fragment : (text fragment : List ℕ) → hier_passes (before number_sign text) ≡ true → after number_sign text ≡ Some fragment → IsLongest whole_passes text (suc (length (before number_sign text)) + text_prefix is_query_character fragment)
 unfolding whole_passes query_passes
-whole_by_fragment text fragment e f = behind_longest hier_passes query_passes number_sign text fragment (text_prefix is_query_character fragment) e f (text_longest is_query_character fragment)
+whole_by_fragment text fragment e f = after_longest hier_passes query_passes number_sign text fragment (text_prefix is_query_character fragment) e f (text_longest is_query_character fragment)
 
 -- ---- the number of octets
 
 no_authority_count : (r : List ℕ) → where_present is_authority (authority_in r) ≡ false → rest_prefix r ≡ 2 + authority_prefix (unwrap_or (authority_in r) [])
-unfolding rest_prefix behind_slashes_prefix
-no_authority_count r h = by_slashes (behind_two_slashes r) refl h
+unfolding rest_prefix after_slashes_prefix
+no_authority_count r h = by_slashes (after_two_slashes r) refl h
   where
-    by_slashes : (o : Option (List ℕ)) → behind_two_slashes r ≡ o → where_present is_authority (authority_in r) ≡ false → rest_prefix r ≡ 2 + authority_prefix (unwrap_or (authority_in r) [])
+    by_slashes : (o : Option (List ℕ)) → after_two_slashes r ≡ o → where_present is_authority (authority_in r) ≡ false → rest_prefix r ≡ 2 + authority_prefix (unwrap_or (authority_in r) [])
     by_slashes None e k = absurd (true≢false (rw e at k))
     by_slashes (Some rest) e k = let a : is_authority (before slash rest) ≡ false = rw e at k in rw e (rw a (omega arith))
 
 path_count : (r : List ℕ) → where_present is_authority (authority_in r) ≡ true → rest_prefix r ≡ length (authority_text (authority_in r)) + text_prefix is_path_character (path_in r)
-unfolding rest_prefix behind_slashes_prefix
-path_count r h = by_slashes (behind_two_slashes r) refl h
+unfolding rest_prefix after_slashes_prefix
+path_count r h = by_slashes (after_two_slashes r) refl h
   where
-    by_slashes : (o : Option (List ℕ)) → behind_two_slashes r ≡ o → where_present is_authority (authority_in r) ≡ true → rest_prefix r ≡ length (authority_text (authority_in r)) + text_prefix is_path_character (path_in r)
+    by_slashes : (o : Option (List ℕ)) → after_two_slashes r ≡ o → where_present is_authority (authority_in r) ≡ true → rest_prefix r ≡ length (authority_text (authority_in r)) + text_prefix is_path_character (path_in r)
     by_slashes None e k = rw e (omega arith)
     by_slashes (Some rest) e k = let a : is_authority (before slash rest) ≡ true = rw e at k in rw e (rw a (omega arith))
 
@@ -123,11 +114,11 @@ no_scheme_count x h = by_colon (has_colon_in_first_segment x) refl h
     by_colon false e k = absurd (true≢false (rw e at k))
     by_colon true e k = let a : is_scheme (before colon x) ≡ false = rw e at k in rw (e, a) refl
 
-rest_count : (x : List ℕ) → where_present is_scheme (scheme_in x) ≡ true → front_prefix x ≡ length (scheme_text (scheme_in x)) + rest_prefix (behind_scheme x)
+rest_count : (x : List ℕ) → where_present is_scheme (scheme_in x) ≡ true → front_prefix x ≡ length (scheme_text (scheme_in x)) + rest_prefix (after_scheme x)
 unfolding front_prefix
 rest_count x h = by_colon (has_colon_in_first_segment x) refl h
   where
-    by_colon : (b : Bool) → has_colon_in_first_segment x ≡ b → where_present is_scheme (scheme_in x) ≡ true → front_prefix x ≡ length (scheme_text (scheme_in x)) + rest_prefix (behind_scheme x)
+    by_colon : (b : Bool) → has_colon_in_first_segment x ≡ b → where_present is_scheme (scheme_in x) ≡ true → front_prefix x ≡ length (scheme_text (scheme_in x)) + rest_prefix (after_scheme x)
     by_colon false e k = rw e (omega arith)
     by_colon true e k =
         let a : is_scheme (before colon x) ≡ true = rw e at k in
@@ -135,10 +126,10 @@ rest_count x h = by_colon (has_colon_in_first_segment x) refl h
         rw (e, a) (omega arith)
 
 -- the length of what stands before a query
-front_count : (x : List ℕ) → length x ≡ length (scheme_text (scheme_in x)) + (length (authority_text (authority_in (behind_scheme x))) + length (path_in (behind_scheme x)))
+front_count : (x : List ℕ) → length x ≡ length (scheme_text (scheme_in x)) + (length (authority_text (authority_in (after_scheme x))) + length (path_in (after_scheme x)))
 front_count x =
-    ap length (scheme_and_rest x) ∙ length-append (scheme_text (scheme_in x)) (behind_scheme x)
-    ∙ ap (λ (n : ℕ). length (scheme_text (scheme_in x)) + n) (ap length (authority_and_path (behind_scheme x)) ∙ length-append (authority_text (authority_in (behind_scheme x))) (path_in (behind_scheme x)))
+    ap length (scheme_and_rest x) ∙ length-append (scheme_text (scheme_in x)) (after_scheme x)
+    ∙ ap (λ (n : ℕ). length (scheme_text (scheme_in x)) + n) (ap length (authority_and_path (after_scheme x)) ∙ length-append (authority_text (authority_in (after_scheme x))) (path_in (after_scheme x)))
 
 -- the parts, with what is known of them
 parts_count : Bool → Bool → Bool → Bool → Bool → Components → ℕ
@@ -175,19 +166,19 @@ fault_longest text h =
     s = scheme_in x
 
     a : Option (List ℕ)
-    a = authority_in (behind_scheme x)
+    a = authority_in (after_scheme x)
 
     p : List ℕ
-    p = path_in (behind_scheme x)
+    p = path_in (after_scheme x)
 
     q : Option (List ℕ)
-    q = behind question_mark front
+    q = after question_mark front
 
     f : Option (List ℕ)
-    f = behind number_sign text
+    f = after number_sign text
 
     r : List ℕ
-    r = behind_scheme x
+    r = after_scheme x
 
     in_front : front_passes x ≡ false → (n : ℕ) → front_prefix x ≡ n → IsLongest whole_passes text n
     in_front e n c = whole_by_hier text n (and_left (front_passes x) (query_passes q) e) (hier_by_front front n e (longest_at front_passes x (front_prefix x) n c (front_prefix-IsLongest x)))
@@ -231,7 +222,7 @@ fault_longest text h =
     by_parts true es true ea true ep true eq true ef =
         absurd (true≢false (sym (both_pass (hier_passes front) (query_passes f) (both_pass (front_passes x) (query_passes q) (front_holds es ea ep) eq) ef) ∙ h))
 
--- ---- the place
+-- ---- the offset
 
 fault_by_test : (bytes : List ℕ) (n : ℕ) → reference_fault_at bytes ≡ Some n → (is_allowed (components bytes) ≡ false) × (prefix_of_parts (parts_of (components bytes)) ≡ n)
 unfolding reference_fault_at
@@ -250,7 +241,7 @@ is_allowed-reference bytes c r = by_test (is_allowed (components bytes)) refl
     by_test true e = refl
     by_test false e = absurd (none_some (rw e at (reference_only bytes c r)))
 
--- where `reference_fault_at` gives a place, the octets are no reference and it is the place of the fault
+-- where `reference_fault_at` gives an offset, the octets are no reference and it is the place of the fault
 pub reference_fault_at-IsReferenceFault : (bytes : List ℕ) (n : ℕ) → reference_fault_at bytes ≡ Some n → IsReferenceFault bytes n
 reference_fault_at-IsReferenceFault bytes n h =
     let test = fault_by_test bytes n h in
@@ -265,6 +256,7 @@ reference_fault_at-IsReferenceFault bytes n h =
     }
 
 -- where it gives none, the octets are a reference
+-- An end theorem: nothing here cites it.
 pub reference_fault_at-none : (bytes : List ℕ) → reference_fault_at bytes ≡ None → IsReference bytes (components bytes)
 unfolding reference_fault_at
 reference_fault_at-none bytes h = by_test (is_allowed (components bytes)) refl h

@@ -6,8 +6,8 @@ use Rattle.std.specs.Char.{is_ascii_alphabetic}
 use Rattle.std.proofs.lemmas.Bool.{and_parts, not-true, false≢true}
 use Rattle.std.proofs.lemmas.Bool.Decides.{nat_tests}
 use Rattle.link_model.specs.Characters.{colon, slash, question_mark, number_sign, is_empty, is_scheme_character, is_path_character, is_query_character}
-use Rattle.reference_model.specs.References.{Components, before, behind, begins_with, from_first, has_octet, without_fragment, without_query, has_colon_in_first_segment, scheme_in, behind_scheme, behind_two_slashes, authority_in, path_in, scheme_text, authority_text, query_text, fragment_text, components, recomposed, where_present, is_scheme, is_authority, is_text_of, path_fits, IsReference, is_allowed, reference}
-use Rattle.reference_model.proofs.ReferenceCuts.{before-marked, behind-marked, has_octet-append}
+use Rattle.reference_model.specs.References.{Components, before, after, begins_with, from_first, has_octet, without_fragment, without_query, has_colon_in_first_segment, scheme_in, after_scheme, after_two_slashes, authority_in, path_in, scheme_text, authority_text, query_text, fragment_text, components, recomposed, where_present, is_scheme, is_authority, is_text_of, path_fits, IsReference, is_allowed, reference}
+use Rattle.reference_model.proofs.ReferenceCuts.{before-marked, after-marked, has_octet-append}
 use Rattle.rd_base.proofs.lemmas.Options.{some_same}
 use Rattle.reference_model.proofs.ReferenceMarks.{no_mark_in_run, no_mark_in_text, no_mark_in_authority, no_mark_first, IsNoAuthorityMark}
 use Rattle.rd_base.proofs.lemmas.Numbers.{other_octet}
@@ -33,44 +33,41 @@ no_mark_in_scheme mark a s (c ∷ cs) h =
     let parts = and_parts (is_ascii_alphabetic c) (list_all is_scheme_character cs) h in
     no_mark_first mark c cs (other_octet is_ascii_alphabetic c mark (parts.0) a) (no_mark_in_run is_scheme_character mark s cs (parts.1))
 
-pub colon_behind_scheme : (scheme rest : List ℕ) → is_scheme scheme ≡ true → has_colon_in_first_segment (scheme ++ colon ∷ rest) ≡ true
+pub colon_after_scheme : (scheme rest : List ℕ) → is_scheme scheme ≡ true → has_colon_in_first_segment (scheme ++ colon ∷ rest) ≡ true
 unfolding before
-colon_behind_scheme scheme rest h =
+colon_after_scheme scheme rest h =
     rw (before-append slash scheme (colon ∷ rest) (no_mark_in_scheme slash refl refl scheme h))
     (has_octet-append colon scheme (colon ∷ before slash rest) ∙ grind (arith, nat_tests))
 
 scheme_read : (scheme : Option (List ℕ)) (rest : List ℕ) → where_present is_scheme scheme ≡ true → (is_some scheme || not (has_colon_in_first_segment rest)) ≡ true
-    → (scheme_in (scheme_text scheme ++ rest) ≡ scheme) × (behind_scheme (scheme_text scheme ++ rest) ≡ rest)
+    → (scheme_in (scheme_text scheme ++ rest) ≡ scheme) × (after_scheme (scheme_text scheme ++ rest) ≡ rest)
 scheme_read None rest h k = let no_colon = not-true (has_colon_in_first_segment rest) k in (rw no_colon refl, rw no_colon refl)
 scheme_read (Some scheme) rest h k =
     let flat : (scheme ++ colon ∷ []) ++ rest ≡ scheme ++ colon ∷ rest = append_assoc scheme (colon ∷ []) rest in
-    let here = colon_behind_scheme scheme rest h in
+    let here = colon_after_scheme scheme rest h in
     let no_colon = no_mark_in_scheme colon refl refl scheme h in
     let front : before colon (scheme ++ colon ∷ rest) ≡ scheme = before-marked colon scheme (Some rest) no_colon in
-    let back : behind colon (scheme ++ colon ∷ rest) ≡ Some rest = behind-marked colon scheme (Some rest) no_colon in
+    let back : after colon (scheme ++ colon ∷ rest) ≡ Some rest = after-marked colon scheme (Some rest) no_colon in
     (rw (flat, here, front) refl, rw (flat, here, back) refl)
 
 -- ---- authorities and paths
 
-behind_slashes : (text : List ℕ) → behind_two_slashes (slash ∷ slash ∷ text) ≡ Some text
-behind_slashes text = refl
-
-path_behind_authority : (path : List ℕ) → (is_empty path || begins_with slash path) ≡ true → (before slash path ≡ []) × (from_first slash path ≡ path)
+path_after_authority : (path : List ℕ) → (is_empty path || begins_with slash path) ≡ true → (before slash path ≡ []) × (from_first slash path ≡ path)
 unfolding before from_first
-path_behind_authority [] h = (refl, refl)
-path_behind_authority (c ∷ cs) h = (rw h refl, rw h refl)
+path_after_authority [] h = (refl, refl)
+path_after_authority (c ∷ cs) h = (rw h refl, rw h refl)
 
 none_from : {A : Type 0} (o : Option A) → not (is_some o) ≡ true → o ≡ None
 none_from None h = refl
 none_from (Some x) h = absurd (false≢true h)
 
 authority_read : (authority : Option (List ℕ)) (path : List ℕ) → where_present (λ a. not (has_octet slash a)) authority ≡ true
-    → (if is_some authority then is_empty path || begins_with slash path else not (is_some (behind_two_slashes path))) ≡ true
+    → (if is_some authority then is_empty path || begins_with slash path else not (is_some (after_two_slashes path))) ≡ true
     → (authority_in (authority_text authority ++ path) ≡ authority) × (path_in (authority_text authority ++ path) ≡ path)
-authority_read None path h k = let none = none_from (behind_two_slashes path) k in (rw none refl, rw none refl)
+authority_read None path h k = let none = none_from (after_two_slashes path) k in (rw none refl, rw none refl)
 authority_read (Some a) path h k =
     let no_slash = not-true (has_octet slash a) h in
-    let parts = path_behind_authority path k in
+    let parts = path_after_authority path k in
     (ap (λ (x : List ℕ). Some x) (before-append slash a path no_slash ∙ rw (parts.0) (append-nil a)), from_first-append slash a path no_slash ∙ parts.1)
 
 -- ---- the whole
@@ -139,13 +136,13 @@ fits scheme authority path = path_fits (record { scheme = scheme; authority = au
 
 no_colon : (scheme authority : Option (List ℕ)) (path : List ℕ) → fits scheme authority path ≡ true → (is_some scheme || not (has_colon_in_first_segment (authority_text authority ++ path))) ≡ true
 unfolding before
-no_colon scheme None path h = (and_parts (not (is_some (behind_two_slashes path))) (is_some scheme || not (has_colon_in_first_segment path)) h).1
+no_colon scheme None path h = (and_parts (not (is_some (after_two_slashes path))) (is_some scheme || not (has_colon_in_first_segment path)) h).1
 no_colon None (Some a) path h = refl
 no_colon (Some s) (Some a) path h = refl
 
 path_fits_alone : (scheme authority : Option (List ℕ)) (path : List ℕ) → fits scheme authority path ≡ true
-    → (if is_some authority then is_empty path || begins_with slash path else not (is_some (behind_two_slashes path))) ≡ true
-path_fits_alone scheme None path h = (and_parts (not (is_some (behind_two_slashes path))) (is_some scheme || not (has_colon_in_first_segment path)) h).0
+    → (if is_some authority then is_empty path || begins_with slash path else not (is_some (after_two_slashes path))) ≡ true
+path_fits_alone scheme None path h = (and_parts (not (is_some (after_two_slashes path))) (is_some scheme || not (has_colon_in_first_segment path)) h).0
 path_fits_alone scheme (Some a) path h = h
 
 same_components : (a b : Components) → a.scheme ≡ b.scheme → a.authority ≡ b.authority → a.path ≡ b.path → a.query ≡ b.query → a.fragment ≡ b.fragment → a ≡ b
@@ -174,12 +171,12 @@ components-recomposed c h =
     let before_fragment : has_octet number_sign hier ≡ false = no_end_before_path number_sign end_number_sign c.scheme c.authority c.path (all.0) (all.1) (all.2) in
     let in_front : has_octet number_sign front ≡ false = rw (flat_hier s a (c.path) q) (no_mark_appended number_sign hier q before_fragment (no_number_sign_in_query c.query (all.4))) in
     let e1 : without_fragment text ≡ front = ap (before number_sign) (flat_front s a (c.path) q f) ∙ before-marked number_sign front c.fragment in_front in
-    let e2 : behind number_sign text ≡ c.fragment = ap (behind number_sign) (flat_front s a (c.path) q f) ∙ behind-marked number_sign front c.fragment in_front in
+    let e2 : after number_sign text ≡ c.fragment = ap (after number_sign) (flat_front s a (c.path) q f) ∙ after-marked number_sign front c.fragment in_front in
     let e3 : without_query text ≡ hier = ap (before question_mark) (e1 ∙ flat_hier s a (c.path) q) ∙ before-marked question_mark hier c.query before_query in
-    let e4 : behind question_mark (without_fragment text) ≡ c.query = ap (behind question_mark) (e1 ∙ flat_hier s a (c.path) q) ∙ behind-marked question_mark hier c.query before_query in
+    let e4 : after question_mark (without_fragment text) ≡ c.query = ap (after question_mark) (e1 ∙ flat_hier s a (c.path) q) ∙ after-marked question_mark hier c.query before_query in
     let by_scheme = scheme_read c.scheme (a ++ c.path) (all.0) (no_colon c.scheme c.authority c.path (all.3)) in
     let by_authority = authority_read c.authority c.path (no_slash_in_authority c.authority (all.1)) (path_fits_alone c.scheme c.authority c.path (all.3)) in
-    let e5 : behind_scheme (without_query text) ≡ a ++ c.path = ap behind_scheme e3 ∙ by_scheme.1 in
+    let e5 : after_scheme (without_query text) ≡ a ++ c.path = ap after_scheme e3 ∙ by_scheme.1 in
     same_components (components text) c (ap scheme_in e3 ∙ by_scheme.0) (ap authority_in e5 ∙ by_authority.0) (ap path_in e5 ∙ by_authority.1) e4 e2
 
 -- `reference` reads each URI-reference
@@ -190,5 +187,6 @@ reference_only bytes c r =
     rw (same, r.allowed) refl
 
 -- a reference has one reading
+-- An end theorem: nothing here cites it.
 pub one_reading : (bytes : List ℕ) (c d : Components) → IsReference bytes c → IsReference bytes d → c ≡ d
 one_reading bytes c d r s = some_same (sym (reference_only bytes c r) ∙ reference_only bytes d s)

@@ -1,2 +1,3 @@
+-- Computed examples of the definitions.
 mod ReferenceExamples
 mod ResolutionExamples

@@ -3,7 +3,7 @@ use Rattle.std.specs.Prelude.{ℕ, zero, suc, ◌+◌, ◌<◌, ◌≤◌, max, 
 use Rattle.std.specs.List.{prefix_len}
 use Rattle.std.specs.Char.{is_ascii_digit, is_ascii_hexdigit}
 use Rattle.link_model.specs.Characters.{percent_sign, colon, at_sign, left_bracket, right_bracket, is_run_of, is_name_character, is_userinfo_character, is_literal_character, is_path_character, is_query_character}
-use Rattle.reference_model.specs.References.{Components, IsReference, before, behind, begins_with, has_octet, from_first, components, scheme_text, authority_text, query_text, fragment_text, where_present, is_scheme, is_authority, is_allowed, is_text_of, digits_after}
+use Rattle.reference_model.specs.References.{Components, IsReference, before, after, begins_with, has_octet, from_first, components, scheme_text, authority_text, query_text, fragment_text, where_present, is_scheme, is_authority, is_allowed, is_text_of, digits_after}
 
 -- the octets begin some URI-reference
 abbrev pub BeginsReference : List ℕ → Type 0
@@ -19,14 +19,14 @@ pub record IsReferenceFault (bytes : List ℕ) (n : ℕ) : Type 0 where
 -- ---- how far a text begins some text of a kind: the length of its longest prefix that does
 
 -- as many hexadecimal digits, and then characters that pass the test and percent escapes
-abbrev pub prefix_behind_digits : (ℕ → Bool) → ℕ → List ℕ → ℕ
-prefix_behind_digits test digits [] = 0
-prefix_behind_digits test zero (c ∷ cs) = if c == percent_sign || test c then suc (prefix_behind_digits test (digits_after c) cs) else 0
-prefix_behind_digits test (suc n) (c ∷ cs) = if is_ascii_hexdigit c then suc (prefix_behind_digits test n cs) else 0
+abbrev pub prefix_after_digits : (ℕ → Bool) → ℕ → List ℕ → ℕ
+prefix_after_digits test digits [] = 0
+prefix_after_digits test zero (c ∷ cs) = if c == percent_sign || test c then suc (prefix_after_digits test (digits_after c) cs) else 0
+prefix_after_digits test (suc n) (c ∷ cs) = if is_ascii_hexdigit c then suc (prefix_after_digits test n cs) else 0
 
 -- characters that pass the test and percent escapes
 abbrev pub text_prefix : (ℕ → Bool) → List ℕ → ℕ
-text_prefix test text = prefix_behind_digits test 0 text
+text_prefix test text = prefix_after_digits test 0 text
 
 -- a colon and digits, or nothing
 abbrev pub port_prefix : List ℕ → ℕ
@@ -38,7 +38,7 @@ abbrev pub literal_prefix : List ℕ → ℕ
 literal_prefix [] = 0
 literal_prefix (c ∷ cs) =
     if is_run_of is_literal_character (before right_bracket cs) && has_octet right_bracket cs
-    then 2 + length (before right_bracket cs) + port_prefix (unwrap_or (behind right_bracket cs) [])
+    then 2 + length (before right_bracket cs) + port_prefix (unwrap_or (after right_bracket cs) [])
     else suc (prefix_len is_literal_character (before right_bracket cs))
 
 -- a registered name and a port or none
@@ -52,11 +52,11 @@ name_prefix text =
 abbrev pub host_prefix : List ℕ → ℕ
 host_prefix text = if begins_with left_bracket text then literal_prefix text else name_prefix text
 
--- an authority: before an `@` it may be user information or a host, and behind one a host
+-- an authority: before an `@` it may be user information or a host, and after one a host
 unfoldable pub authority_prefix : List ℕ → ℕ
 authority_prefix authority =
     if is_text_of is_userinfo_character (before at_sign authority) && has_octet at_sign authority
-    then length (before at_sign authority) + 1 + host_prefix (unwrap_or (behind at_sign authority) [])
+    then length (before at_sign authority) + 1 + host_prefix (unwrap_or (after at_sign authority) [])
     else max (text_prefix is_userinfo_character (before at_sign authority)) (host_prefix (before at_sign authority))
 
 -- ---- the parts of a reference in their order
@@ -76,15 +76,19 @@ prefix_of_parts (part ∷ parts) = if part.allowed then length part.text + prefi
 abbrev pub scheme_part : Option (List ℕ) → Part
 scheme_part scheme = record { text = scheme_text scheme; allowed = where_present is_scheme scheme; prefix = text_prefix is_path_character (unwrap_or scheme []) }
 
+-- an authority after its two slashes
 abbrev pub authority_part : Option (List ℕ) → Part
 authority_part authority = record { text = authority_text authority; allowed = where_present is_authority authority; prefix = 2 + authority_prefix (unwrap_or authority []) }
 
+-- a path
 abbrev pub path_part : List ℕ → Part
 path_part path = record { text = path; allowed = is_text_of is_path_character path; prefix = text_prefix is_path_character path }
 
+-- a query after its question mark
 abbrev pub query_part : Option (List ℕ) → Part
 query_part query = record { text = query_text query; allowed = where_present (is_text_of is_query_character) query; prefix = 1 + text_prefix is_query_character (unwrap_or query []) }
 
+-- a fragment after its number sign
 abbrev pub fragment_part : Option (List ℕ) → Part
 fragment_part fragment = record { text = fragment_text fragment; allowed = where_present (is_text_of is_query_character) fragment; prefix = 1 + text_prefix is_query_character (unwrap_or fragment []) }
 
@@ -92,6 +96,6 @@ fragment_part fragment = record { text = fragment_text fragment; allowed = where
 abbrev pub parts_of : Components → List Part
 parts_of c = scheme_part c.scheme ∷ authority_part c.authority ∷ path_part c.path ∷ query_part c.query ∷ fragment_part c.fragment ∷ []
 
--- the place of the first octet that no URI-reference with the same octets before it can have there, or the length; None where the text is a URI-reference: `IsReferenceFault` as a function
+-- the offset of the first octet that no URI-reference with the same octets before it can have there, or the length; None where the text is a URI-reference: `IsReferenceFault` as a function
 unfoldable pub reference_fault_at : List ℕ → Option ℕ
 reference_fault_at bytes = if is_allowed (components bytes) then None else Some (prefix_of_parts (parts_of (components bytes)))

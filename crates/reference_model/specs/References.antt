@@ -17,10 +17,10 @@ unfoldable pub before : ℕ → List ℕ → List ℕ
 before mark [] = []
 before mark (c ∷ cs) = if c == mark then [] else c ∷ before mark cs
 
--- the text behind the first octet of that kind, where there is one
-unfoldable pub behind : ℕ → List ℕ → Option (List ℕ)
-behind mark [] = None
-behind mark (c ∷ cs) = if c == mark then Some cs else behind mark cs
+-- the text after the first octet of that kind, where there is one
+unfoldable pub after : ℕ → List ℕ → Option (List ℕ)
+after mark [] = None
+after mark (c ∷ cs) = if c == mark then Some cs else after mark cs
 
 -- the octet stands in the text
 abbrev pub has_octet : ℕ → List ℕ → Bool
@@ -33,10 +33,11 @@ begins_with mark (c ∷ cs) = c == mark
 
 -- ---- taking a reference apart (RFC 3986 appendix B)
 
--- the text without its fragment, and that without its query
+-- the text without its fragment
 abbrev pub without_fragment : List ℕ → List ℕ
 without_fragment text = before number_sign text
 
+-- the text without its fragment and its query
 abbrev pub without_query : List ℕ → List ℕ
 without_query text = before question_mark (without_fragment text)
 
@@ -49,18 +50,18 @@ abbrev pub scheme_in : List ℕ → Option (List ℕ)
 scheme_in text = if has_colon_in_first_segment text then Some (before colon text) else None
 
 -- what follows the scheme and its colon
-abbrev pub behind_scheme : List ℕ → List ℕ
-behind_scheme text = if has_colon_in_first_segment text then unwrap_or (behind colon text) [] else text
+abbrev pub after_scheme : List ℕ → List ℕ
+after_scheme text = if has_colon_in_first_segment text then unwrap_or (after colon text) [] else text
 
 -- what follows two slashes at the beginning, where they stand there
-abbrev pub behind_two_slashes : List ℕ → Option (List ℕ)
-behind_two_slashes [] = None
-behind_two_slashes (c ∷ []) = None
-behind_two_slashes (c ∷ d ∷ cs) = if c == slash && d == slash then Some cs else None
+abbrev pub after_two_slashes : List ℕ → Option (List ℕ)
+after_two_slashes [] = None
+after_two_slashes (c ∷ []) = None
+after_two_slashes (c ∷ d ∷ cs) = if c == slash && d == slash then Some cs else None
 
 -- an authority is what stands between two slashes at the beginning and the next slash
 abbrev pub authority_in : List ℕ → Option (List ℕ)
-authority_in text = up_to_slash (behind_two_slashes text)
+authority_in text = up_to_slash (after_two_slashes text)
   where
     up_to_slash : Option (List ℕ) → Option (List ℕ)
     up_to_slash None = None
@@ -73,41 +74,44 @@ from_first mark (c ∷ cs) = if c == mark then c ∷ cs else from_first mark cs
 
 -- a path is what follows the authority, or all of the text where there is none
 abbrev pub path_in : List ℕ → List ℕ
-path_in text = behind_authority (behind_two_slashes text)
+path_in text = after_authority (after_two_slashes text)
   where
-    behind_authority : Option (List ℕ) → List ℕ
-    behind_authority None = text
-    behind_authority (Some rest) = from_first slash rest
+    after_authority : Option (List ℕ) → List ℕ
+    after_authority None = text
+    after_authority (Some rest) = from_first slash rest
 
 -- the components of a text
 unfoldable pub components : List ℕ → Components
 components text = record {
   scheme = scheme_in (without_query text);
-  authority = authority_in (behind_scheme (without_query text));
-  path = path_in (behind_scheme (without_query text));
-  query = behind question_mark (without_fragment text);
-  fragment = behind number_sign text;
+  authority = authority_in (after_scheme (without_query text));
+  path = path_in (after_scheme (without_query text));
+  query = after question_mark (without_fragment text);
+  fragment = after number_sign text;
 }
 
 -- ---- putting it together (RFC 3986 section 5.3)
 
--- the text of a scheme and of an authority with their delimiters, where there is one
+-- the text of a scheme with its colon, where there is one
 abbrev pub scheme_text : Option (List ℕ) → List ℕ
 scheme_text None = []
 scheme_text (Some scheme) = scheme ++ colon ∷ []
 
+-- the text of an authority after two slashes, where there is one
 abbrev pub authority_text : Option (List ℕ) → List ℕ
 authority_text None = []
 authority_text (Some authority) = slash ∷ slash ∷ authority
 
--- the text behind its mark, where there is one
+-- the text after its mark, where there is one
 abbrev pub marked : ℕ → Option (List ℕ) → List ℕ
 marked mark None = []
 marked mark (Some text) = mark ∷ text
 
+-- the text of a query after its question mark, where there is one
 abbrev pub query_text : Option (List ℕ) → List ℕ
 query_text query = marked question_mark query
 
+-- the text of a fragment after its number sign, where there is one
 abbrev pub fragment_text : Option (List ℕ) → List ℕ
 fragment_text fragment = marked number_sign fragment
 
@@ -122,32 +126,33 @@ abbrev pub where_present : (List ℕ → Bool) → Option (List ℕ) → Bool
 where_present test None = true
 where_present test (Some text) = test text
 
--- how many hexadecimal digits must follow the octet: two behind a percent sign (RFC 3986 section 2.1)
+-- how many hexadecimal digits must follow the octet: two after a percent sign (RFC 3986 section 2.1)
 abbrev pub digits_after : ℕ → ℕ
 digits_after c = if c == percent_sign then 2 else 0
 
 -- the text has as many hexadecimal digits at its beginning, and then characters that pass the test and percent escapes
-abbrev pub is_text_behind_digits : (ℕ → Bool) → ℕ → List ℕ → Bool
-is_text_behind_digits test zero [] = true
-is_text_behind_digits test (suc n) [] = false
-is_text_behind_digits test zero (c ∷ cs) = (c == percent_sign || test c) && is_text_behind_digits test (digits_after c) cs
-is_text_behind_digits test (suc n) (c ∷ cs) = is_ascii_hexdigit c && is_text_behind_digits test n cs
+abbrev pub is_text_after_digits : (ℕ → Bool) → ℕ → List ℕ → Bool
+is_text_after_digits test zero [] = true
+is_text_after_digits test (suc n) [] = false
+is_text_after_digits test zero (c ∷ cs) = (c == percent_sign || test c) && is_text_after_digits test (digits_after c) cs
+is_text_after_digits test (suc n) (c ∷ cs) = is_ascii_hexdigit c && is_text_after_digits test n cs
 
 -- the text has only characters that pass the test, and percent escapes of two hexadecimal digits
 abbrev pub is_text_of : (ℕ → Bool) → List ℕ → Bool
-is_text_of test text = is_text_behind_digits test 0 text
+is_text_of test text = is_text_after_digits test 0 text
 
 -- a letter, and then letters, digits, plus signs, hyphens and full stops (RFC 3986 section 3.1)
 abbrev pub is_scheme : List ℕ → Bool
 is_scheme [] = false
 is_scheme (c ∷ cs) = is_ascii_alphabetic c && list_all is_scheme_character cs
 
--- the parts of an authority: what stands before its first `@`, and the rest (RFC 3986 section 3.2)
+-- the user information of an authority: what stands before its first `@`, where it has one (RFC 3986 section 3.2)
 abbrev pub userinfo_of : List ℕ → Option (List ℕ)
 userinfo_of authority = if has_octet at_sign authority then Some (before at_sign authority) else None
 
-abbrev pub behind_userinfo : List ℕ → List ℕ
-behind_userinfo authority = unwrap_or (behind at_sign authority) authority
+-- the host of an authority, and its port or none
+abbrev pub after_userinfo : List ℕ → List ℕ
+after_userinfo authority = unwrap_or (after at_sign authority) authority
 
 -- the text up to and with the first octet of that kind, or all of it
 unfoldable pub through : ℕ → List ℕ → List ℕ
@@ -166,7 +171,7 @@ is_port_text (c ∷ cs) = c == colon && list_all is_ascii_digit cs
 -- what begins with a bracket: one or more hexadecimal digits, colons and full stops, a closing bracket, and a port or none
 abbrev pub is_literal_and_port : List ℕ → Bool
 is_literal_and_port [] = false
-is_literal_and_port (c ∷ cs) = c == left_bracket && is_run_of is_literal_character (before right_bracket cs) && where_present is_port_text (behind right_bracket cs) && has_octet right_bracket cs
+is_literal_and_port (c ∷ cs) = c == left_bracket && is_run_of is_literal_character (before right_bracket cs) && where_present is_port_text (after right_bracket cs) && has_octet right_bracket cs
 
 -- a registered name, and a port or none
 abbrev pub is_name_and_port : List ℕ → Bool
@@ -178,14 +183,14 @@ is_host_and_port text = is_literal_and_port text || is_name_and_port text
 
 -- user information or none, a host, and a port or none (RFC 3986 section 3.2)
 abbrev pub is_authority : List ℕ → Bool
-is_authority authority = where_present (is_text_of is_userinfo_character) (userinfo_of authority) && is_host_and_port (behind_userinfo authority)
+is_authority authority = where_present (is_text_of is_userinfo_character) (userinfo_of authority) && is_host_and_port (after_userinfo authority)
 
--- the path may stand beside the scheme and the authority: behind an authority it begins with a slash or is empty,
+-- the path may stand beside the scheme and the authority: after an authority it begins with a slash or is empty,
 -- without one it does not begin with two, and without a scheme its first segment has no colon (RFC 3986 section 3.3)
 abbrev pub path_fits : Components → Bool
 path_fits c =
     if is_some c.authority then is_empty c.path || begins_with slash c.path
-    else not (is_some (behind_two_slashes c.path)) && (is_some c.scheme || not (has_colon_in_first_segment c.path))
+    else not (is_some (after_two_slashes c.path)) && (is_some c.scheme || not (has_colon_in_first_segment c.path))
 
 -- each component has only what may stand in it
 abbrev pub is_allowed : Components → Bool
@@ -207,7 +212,7 @@ has_scheme c = is_some c.scheme
 
 -- the host of an authority, as it is spelled
 unfoldable pub host_of : List ℕ → List ℕ
-host_of authority = host_in (behind_userinfo authority)
+host_of authority = host_in (after_userinfo authority)
 
 -- the host of a reference, where it has an authority
 abbrev pub host : Components → Option (List ℕ)

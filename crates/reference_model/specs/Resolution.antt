@@ -11,21 +11,24 @@ abbrev pub onto_first_segment : ℕ → List (List ℕ) → List (List ℕ)
 onto_first_segment c [] = (c ∷ []) ∷ []
 onto_first_segment c (segment ∷ segments) = (c ∷ segment) ∷ segments
 
--- the segments of a path: what stands before, between and behind its slashes
+-- the segments of a path: what stands before, between and after its slashes
 unfoldable pub segments_of : List ℕ → List (List ℕ)
 segments_of [] = [] ∷ []
 segments_of (c ∷ cs) = if c == slash then [] ∷ segments_of cs else onto_first_segment c (segments_of cs)
 
+-- a segment of one dot
 abbrev pub is_single_dot : List ℕ → Bool
 is_single_dot segment = bytes_eq segment (codes ".")
 
+-- a segment of two dots
 abbrev pub is_double_dot : List ℕ → Bool
 is_double_dot segment = bytes_eq segment (codes "..")
 
+-- a segment of one dot or two
 abbrev pub is_dot_segment : List ℕ → Bool
 is_dot_segment segment = is_single_dot segment || is_double_dot segment
 
--- the segments, and an empty one behind them where the last is a dot segment
+-- the segments, and an empty one after them where the last is a dot segment
 abbrev pub with_closing_slash : List (List ℕ) → List (List ℕ)
 with_closing_slash [] = []
 with_closing_slash (segment ∷ []) = if is_dot_segment segment then segment ∷ [] ∷ [] else segment ∷ []
@@ -41,7 +44,7 @@ abbrev pub without_last_kept : List (List ℕ) → List (List ℕ)
 without_last_kept [] = []
 without_last_kept (segment ∷ kept) = kept
 
--- the segments that are kept, last one first, behind one more: two dots take the last one away, and one dot is left out
+-- the segments that are kept, last one first, after one more: two dots take the last one away, and one dot is left out
 abbrev pub kept_with : List (List ℕ) → List ℕ → List (List ℕ)
 kept_with kept segment = if is_double_dot segment then without_last_kept kept else (if is_single_dot segment then kept else (slash ∷ segment) ∷ kept)
 
@@ -65,13 +68,13 @@ up_to_last_slash path = path_text (segments_of path)
     path_text (segment ∷ []) = []
     path_text (segment ∷ next ∷ segments) = segment ++ slash ∷ path_text (next ∷ segments)
 
--- the path of a reference, put behind that of the base
+-- the path of a reference, put after that of the base
 unfoldable pub merged : Components → List ℕ → List ℕ
 merged base path = if is_some base.authority && is_empty base.path then slash ∷ path else up_to_last_slash base.path ++ path
 
 -- ---- resolving (RFC 3986 section 5.2.2)
 
--- the first, where it is given, else the second
+-- the first, where it is present, else the second
 abbrev pub present_or : Option (List ℕ) → Option (List ℕ) → Option (List ℕ)
 present_or None other = other
 present_or (Some text) other = Some text
@@ -80,12 +83,13 @@ present_or (Some text) other = Some text
 abbrev pub with_path : Components → List ℕ → Components
 with_path c path = record c { path = path }
 
--- the path and the query of a reference with neither scheme nor authority, against a base
+-- the path of a reference with neither scheme nor authority, against a base
 abbrev pub resolved_path : Components → Components → List ℕ
 resolved_path base r =
     if is_empty r.path then base.path
     else (if begins_with slash r.path then remove_dot_segments r.path else remove_dot_segments (merged base r.path))
 
+-- the query of a reference with neither scheme nor authority, against a base
 abbrev pub resolved_query : Components → Components → Option (List ℕ)
 resolved_query base r = if is_empty r.path then present_or r.query base.query else r.query
 

@@ -17,8 +17,8 @@ abbrev a_link : List ℕ → List Parameter → Link
 a_link target parameters = record { target = target; parameters = parameters }
 
 -- the text is refused, and its first n octets are the longest prefix that begins a document
-abbrev FailsAt : List ℕ → ℕ → Type 0
-FailsAt text n = (document text ≡ None) × (good_prefix text ≡ n)
+abbrev DocumentFailsAt : List ℕ → ℕ → Type 0
+DocumentFailsAt text n = (document text ≡ None) × (good_prefix text ≡ n)
 
 empty : document [] ≡ Some []
 unfolding document_on_literals
@@ -57,94 +57,94 @@ anchors : option_map (map anchor) (document (codes "<x>;anchor=\"\",<y>;anchor;a
 unfolding document_on_literals
 anchors = refl
 
-comma_alone : FailsAt (codes ",") 0
+comma_alone : DocumentFailsAt (codes ",") 0
 unfolding document_on_literals
 comma_alone = (refl, refl)
 
-comma_at_end : FailsAt (codes "<a>,") 4
+comma_at_end : DocumentFailsAt (codes "<a>,") 4
 unfolding document_on_literals
 comma_at_end = (refl, refl)
 
-space_before_comma : FailsAt (codes "<a> ,<b>") 3
+space_before_comma : DocumentFailsAt (codes "<a> ,<b>") 3
 unfolding document_on_literals
 space_before_comma = (refl, refl)
 
-space_behind_comma : FailsAt (codes "<a>, <b>") 4
+space_after_comma : DocumentFailsAt (codes "<a>, <b>") 4
 unfolding document_on_literals
-space_behind_comma = (refl, refl)
+space_after_comma = (refl, refl)
 
-space_behind_semicolon : FailsAt (codes "<a>; t=b") 4
+space_after_semicolon : DocumentFailsAt (codes "<a>; t=b") 4
 unfolding document_on_literals
-space_behind_semicolon = (refl, refl)
+space_after_semicolon = (refl, refl)
 
-space_at_equals_sign : FailsAt (codes "<a>;t =b") 5
+space_at_equals_sign : DocumentFailsAt (codes "<a>;t =b") 5
 unfolding document_on_literals
 space_at_equals_sign = (refl, refl)
 
-semicolon_at_end : FailsAt (codes "<t>;") 4
+semicolon_at_end : DocumentFailsAt (codes "<t>;") 4
 unfolding document_on_literals
 semicolon_at_end = (refl, refl)
 
-no_name : FailsAt (codes "<a>;=x") 4
+no_name : DocumentFailsAt (codes "<a>;=x") 4
 unfolding document_on_literals
 no_name = (refl, refl)
 
-no_value : FailsAt (codes "<a>;t=") 6
+no_value : DocumentFailsAt (codes "<a>;t=") 6
 unfolding document_on_literals
 no_value = (refl, refl)
 
-asterisk_alone : FailsAt (codes "<a>;*") 4
+asterisk_alone : DocumentFailsAt (codes "<a>;*") 4
 unfolding document_on_literals
 asterisk_alone = (refl, refl)
 
-asterisk_inside : FailsAt (codes "<a>;t*u=x") 6
+asterisk_inside : DocumentFailsAt (codes "<a>;t*u=x") 6
 unfolding document_on_literals
 asterisk_inside = (refl, refl)
 
-unclosed_quotes : FailsAt (codes "<a>;t=\"") 7
+unclosed_quotes : DocumentFailsAt (codes "<a>;t=\"") 7
 unfolding document_on_literals
 unclosed_quotes = (refl, refl)
 
-backslash_before_quote : FailsAt (codes "<a>;t=\"x\\\"") 10
+backslash_before_quote : DocumentFailsAt (codes "<a>;t=\"x\\\"") 10
 unfolding document_on_literals
 backslash_before_quote = (refl, refl)
 
-text_behind_quotes : FailsAt (codes "<a>;t=\"x\"y") 9
+text_after_quotes : DocumentFailsAt (codes "<a>;t=\"x\"y") 9
 unfolding document_on_literals
-text_behind_quotes = (refl, refl)
+text_after_quotes = (refl, refl)
 
-control_in_quotes : FailsAt (codes "<a>;t=\"" ++ (9 ∷ codes "\"")) 7
+control_in_quotes : DocumentFailsAt (codes "<a>;t=\"" ++ (9 ∷ codes "\"")) 7
 unfolding document_on_literals
 control_in_quotes = (refl, refl)
 
-escaped_control : FailsAt (codes "<a>;t=\"\\" ++ (0x7F ∷ codes "\"")) 8
+escaped_control : DocumentFailsAt (codes "<a>;t=\"\\" ++ (0x7F ∷ codes "\"")) 8
 unfolding document_on_literals
 escaped_control = (refl, refl)
 
-past_ascii_in_target : FailsAt (codes "<" ++ (0xC3 ∷ 0xA9 ∷ codes ">")) 1
+past_ascii_in_target : DocumentFailsAt (codes "<" ++ (0xC3 ∷ 0xA9 ∷ codes ">")) 1
 unfolding document_on_literals
 past_ascii_in_target = (refl, refl)
 
-past_ascii_in_token : FailsAt (codes "<a>;t=" ++ (0xC3 ∷ 0xA9 ∷ [])) 6
+past_ascii_in_token : DocumentFailsAt (codes "<a>;t=" ++ (0xC3 ∷ 0xA9 ∷ [])) 6
 unfolding document_on_literals
 past_ascii_in_token = (refl, refl)
 
-cut_character : FailsAt (codes "<a>;t=\"" ++ (0xE2 ∷ 0x82 ∷ [])) 9
+cut_character : DocumentFailsAt (codes "<a>;t=\"" ++ (0xE2 ∷ 0x82 ∷ [])) 9
 unfolding document_on_literals
 cut_character = (refl, refl)
 
-broken_character : FailsAt (codes "<a>;t=\"" ++ (0xE2 ∷ 0x82 ∷ codes "\"")) 9
+broken_character : DocumentFailsAt (codes "<a>;t=\"" ++ (0xE2 ∷ 0x82 ∷ codes "\"")) 9
 unfolding document_on_literals
 broken_character = (refl, refl)
 
-no_character : FailsAt (codes "<a>;t=\"" ++ (0x80 ∷ codes "\"")) 7
+no_character : DocumentFailsAt (codes "<a>;t=\"" ++ (0x80 ∷ codes "\"")) 7
 unfolding document_on_literals
 no_character = (refl, refl)
 
-surrogate : FailsAt (codes "<a>;t=\"" ++ (0xED ∷ 0xA0 ∷ 0x80 ∷ codes "\"")) 8
+surrogate : DocumentFailsAt (codes "<a>;t=\"" ++ (0xED ∷ 0xA0 ∷ 0x80 ∷ codes "\"")) 8
 unfolding document_on_literals
 surrogate = (refl, refl)
 
-unclosed_target : FailsAt (codes "<<<<<<<<<<<<<<<<") 16
+unclosed_target : DocumentFailsAt (codes "<<<<<<<<<<<<<<<<") 16
 unfolding document_on_literals
 unclosed_target = (refl, refl)

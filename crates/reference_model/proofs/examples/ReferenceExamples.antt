@@ -5,9 +5,9 @@ use Rattle.reference_model.specs.ReferenceFaults.{reference_fault_at}
 use Rattle.reference_model.specs.Resolution.{remove_dot_segments, resolved}
 use Rattle.reference_model.proofs.OnLiterals.{reference_on_literals}
 
--- the text is refused at the place
-abbrev FailsAt : List ℕ → ℕ → Type 0
-FailsAt text n = (reference text ≡ None) × (reference_fault_at text ≡ Some n)
+-- the text is refused, and this is the offset of its first fault
+abbrev ReferenceFailsAt : List ℕ → ℕ → Type 0
+ReferenceFailsAt text n = (reference text ≡ None) × (reference_fault_at text ≡ Some n)
 
 -- the text is a reference
 abbrev IsRead : List ℕ → Type 0
@@ -47,9 +47,9 @@ no_host : option_map host (reference (codes "s:x")) ≡ Some None
 unfolding reference_on_literals
 no_host = refl
 
-colon_behind_slash : IsRead (codes "./1a:b")
+colon_after_slash : IsRead (codes "./1a:b")
 unfolding reference_on_literals
-colon_behind_slash = refl
+colon_after_slash = refl
 
 colon_in_query : IsRead (codes "?a:b")
 unfolding reference_on_literals
@@ -59,95 +59,95 @@ colon_in_user : IsRead (codes "//a:b:c@d")
 unfolding reference_on_literals
 colon_in_user = refl
 
-no_scheme_before_colon : FailsAt (codes "1a:b") 2
+no_scheme_before_colon : ReferenceFailsAt (codes "1a:b") 2
 unfolding reference_on_literals
 no_scheme_before_colon = (refl, refl)
 
-nothing_before_colon : FailsAt (codes ":b") 0
+nothing_before_colon : ReferenceFailsAt (codes ":b") 0
 unfolding reference_on_literals
 nothing_before_colon = (refl, refl)
 
-percent_in_scheme : FailsAt (codes "a%41:b") 4
+percent_in_scheme : ReferenceFailsAt (codes "a%41:b") 4
 unfolding reference_on_literals
 percent_in_scheme = (refl, refl)
 
-space_before_colon : FailsAt (codes "a b:c") 1
+space_before_colon : ReferenceFailsAt (codes "a b:c") 1
 unfolding reference_on_literals
 space_before_colon = (refl, refl)
 
-one_digit : FailsAt (codes "a%4") 3
+one_digit : ReferenceFailsAt (codes "a%4") 3
 unfolding reference_on_literals
 one_digit = (refl, refl)
 
-one_digit_more_behind : FailsAt (codes "a%4/b") 3
+one_digit_more_after : ReferenceFailsAt (codes "a%4/b") 3
 unfolding reference_on_literals
-one_digit_more_behind = (refl, refl)
+one_digit_more_after = (refl, refl)
 
-one_digit_in_query : FailsAt (codes "a?%4g") 4
+one_digit_in_query : ReferenceFailsAt (codes "a?%4g") 4
 unfolding reference_on_literals
 one_digit_in_query = (refl, refl)
 
-percent_at_end : FailsAt (codes "s://h%") 6
+percent_at_end : ReferenceFailsAt (codes "s://h%") 6
 unfolding reference_on_literals
 percent_at_end = (refl, refl)
 
-unclosed_bracket : FailsAt (codes "//[::1") 6
+unclosed_bracket : ReferenceFailsAt (codes "//[::1") 6
 unfolding reference_on_literals
 unclosed_bracket = (refl, refl)
 
-unclosed_bracket_more_behind : FailsAt (codes "//[::1/x") 6
+unclosed_bracket_more_after : ReferenceFailsAt (codes "//[::1/x") 6
 unfolding reference_on_literals
-unclosed_bracket_more_behind = (refl, refl)
+unclosed_bracket_more_after = (refl, refl)
 
-nothing_in_brackets : FailsAt (codes "//[]") 3
+nothing_in_brackets : ReferenceFailsAt (codes "//[]") 3
 unfolding reference_on_literals
 nothing_in_brackets = (refl, refl)
 
-letter_in_brackets : FailsAt (codes "//[v1.x]") 3
+letter_in_brackets : ReferenceFailsAt (codes "//[v1.x]") 3
 unfolding reference_on_literals
 letter_in_brackets = (refl, refl)
 
-zone_in_brackets : FailsAt (codes "//[fe80::1%25en0]") 10
+zone_in_brackets : ReferenceFailsAt (codes "//[fe80::1%25en0]") 10
 unfolding reference_on_literals
 zone_in_brackets = (refl, refl)
 
-bracket_behind_host : FailsAt (codes "//h[1]") 3
+bracket_after_host : ReferenceFailsAt (codes "//h[1]") 3
 unfolding reference_on_literals
-bracket_behind_host = (refl, refl)
+bracket_after_host = (refl, refl)
 
-bracket_in_path : FailsAt (codes "a[1]") 1
+bracket_in_path : ReferenceFailsAt (codes "a[1]") 1
 unfolding reference_on_literals
 bracket_in_path = (refl, refl)
 
-name_behind_brackets : FailsAt (codes "//[::1]x") 7
+name_after_brackets : ReferenceFailsAt (codes "//[::1]x") 7
 unfolding reference_on_literals
-name_behind_brackets = (refl, refl)
+name_after_brackets = (refl, refl)
 
-at_behind_brackets : FailsAt (codes "//[::1]@h") 7
+at_after_brackets : ReferenceFailsAt (codes "//[::1]@h") 7
 unfolding reference_on_literals
-at_behind_brackets = (refl, refl)
+at_after_brackets = (refl, refl)
 
-two_at_signs : FailsAt (codes "//a@b@c") 5
+two_at_signs : ReferenceFailsAt (codes "//a@b@c") 5
 unfolding reference_on_literals
 two_at_signs = (refl, refl)
 
-letter_in_port : FailsAt (codes "//h:8a") 6
+letter_in_port : ReferenceFailsAt (codes "//h:8a") 6
 unfolding reference_on_literals
 letter_in_port = (refl, refl)
 
-letter_in_port_more_behind : FailsAt (codes "//h:8a/") 6
+letter_in_port_more_after : ReferenceFailsAt (codes "//h:8a/") 6
 unfolding reference_on_literals
-letter_in_port_more_behind = (refl, refl)
+letter_in_port_more_after = (refl, refl)
 
-letter_in_port_behind_user : FailsAt (codes "//u@h:8a") 7
+letter_in_port_after_user : ReferenceFailsAt (codes "//u@h:8a") 7
 unfolding reference_on_literals
-letter_in_port_behind_user = (refl, refl)
+letter_in_port_after_user = (refl, refl)
 
-past_ascii : FailsAt (codes "/" ++ (0xC3 ∷ 0xA9 ∷ [])) 1
+past_ascii : ReferenceFailsAt (codes "/" ++ (0xC3 ∷ 0xA9 ∷ [])) 1
 unfolding reference_on_literals
 past_ascii = (refl, refl)
 
-two_fragments : FailsAt (codes "#a#b") 2
+two_fragments : ReferenceFailsAt (codes "#a#b") 2
 unfolding reference_on_literals
 two_fragments = (refl, refl)
 
@@ -169,9 +169,9 @@ other_host : resolved (codes "coap://h/c/d") (codes "//k/y") ≡ codes "coap://k
 unfolding reference_on_literals
 other_host = refl
 
-dots_behind_scheme : resolved (codes "coap://h/c/d") (codes "http://e.org/./z") ≡ codes "http://e.org/z"
+dots_after_scheme : resolved (codes "coap://h/c/d") (codes "http://e.org/./z") ≡ codes "http://e.org/z"
 unfolding reference_on_literals
-dots_behind_scheme = refl
+dots_after_scheme = refl
 
 dots_of_base : resolved (codes "coap://h/c/../d") [] ≡ codes "coap://h/c/../d"
 unfolding reference_on_literals

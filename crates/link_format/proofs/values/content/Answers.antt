@@ -1,3 +1,4 @@
+-- The content of a quoted string, character by character.
 use Rattle.std.specs.String.{string_bytes}
 use Rattle.std.specs.Str.Iter.{chars_rest}
 use Rattle.link_format.proofs.ValueLemmas.{content_plain_step, content_escaped_step}

@@ -1,3 +1,4 @@
+-- What is written and what the characters left say is the content.
 use Rattle.std.proofs.Common.{◌≡◌, false, ◌++◌, length}
 use Rattle.std.specs.String.{string_bytes}
 use Rattle.std.specs.Str.Iter.{chars_rest}

@@ -1,3 +1,4 @@
+-- A character is written as the definition escapes it.
 use Rattle.std.proofs.Common.{List, ◌++◌, sym, ap, ◌∙◌}
 use Rattle.std.specs.String.{string_bytes}
 use Rattle.link_format.proofs.ValueLemmas.{spelled_other}

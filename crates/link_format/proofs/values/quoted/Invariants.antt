@@ -1,3 +1,4 @@
+-- What is written and the spelling of the characters left make the quoted text.
 use Rattle.std.proofs.Common.{◌≡◌, ◌∷◌, ◌++◌, length, flat_map}
 use Rattle.std.specs.String.{string_bytes}
 use Rattle.std.specs.Str.Iter.{chars_rest}

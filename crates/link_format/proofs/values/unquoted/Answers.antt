@@ -1,3 +1,4 @@
+-- What a value says, by its first character.
 use Rattle.std.proofs.Common.{◌≡◌, ℕ, List, IfOk, sym, ap, ◌∙◌, subst}
 use Rattle.std.specs.Str.Iter.{chars_rest}
 use Rattle.link_format.proofs.ValueLemmas.{unquoted_empty, unquoted_first, unquoted_opened}

@@ -1,7 +1,7 @@
 -- One octet more, and the one that ends the text.
 use Rattle.std.proofs.Common.{sym, ◌∙◌, arith, ap, length}
 use Rattle.ref_resolve.specs.Classes.{stands_in}
-use Rattle.ref_resolve.proofs.Reaching.{ended, one_more}
+use Rattle.ref_resolve.proofs.ReachLaws.{ended, one_more}
 use Rattle.ref_resolve.proofs.reach.text_reach.Goals as goal
 
 pub returns-in-None-clause-whole : goal.returns-in-None-clause-whole

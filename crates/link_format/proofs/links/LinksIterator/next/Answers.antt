@@ -1,6 +1,7 @@
+-- The next link is the first of those that the text spells.
 use Rattle.std.proofs.Common.{◌≡◌, ◌<◌, ◌∷◌, List, [], length, sym, ap, ◌∙◌, arith}
 use Rattle.link_model.specs.Documents.{Link}
-use Rattle.link_format.specs.Left.{links_in}
+use Rattle.link_format.specs.LinksOfText.{links_in}
 use Rattle.link_format.proofs.LinkSteps.{next_link, no_link}
 use Rattle.link_format.proofs.links.LinksIterator.next.Goals as goal
 

@@ -1,6 +1,7 @@
+-- The next parameter is the first of those that the text spells.
 use Rattle.std.proofs.Common.{◌≡◌, ◌<◌, ◌∷◌, List, [], length, sym, ap, ◌∙◌, arith}
 use Rattle.link_model.specs.Documents.{Parameter}
-use Rattle.link_format.specs.Left.{parameters_in}
+use Rattle.link_format.specs.LinksOfText.{parameters_in}
 use Rattle.link_format.proofs.ParameterSteps.{next_parameter, no_parameter}
 use Rattle.link_format.proofs.parameters.ParamsIterator.next.Goals as goal
 

@@ -1,9 +1,0 @@
-use Rattle.std.proofs.Common.{length}
-use Rattle.link_format.proofs.CutLemmas.{Counted}
-use Rattle.link_format.proofs.quoting.octets_before.Given as goal
-
-abbrev pub invariant-octets : goal.invariant-octets
-invariant-octets l = Counted l.fn.separator l.initial.quotes l.text l.quotes l.rest
-
-abbrev pub decreases-octets : goal.decreases-octets
-decreases-octets l = length l.rest

@@ -1,0 +1,155 @@
+//! The points of the grammar of links, and what may stand at each (RFC 6690 section 2).
+ghost use Rattle.std.specs.Prelude.{◌≡◌, option_map, is_some};
+ghost use Rattle.link_model.specs.DocumentReading as grammar;
+ghost use Rattle.link_format.specs.Points.{point_in};
+
+use crate::characters::{
+    is_name_character, is_not_control, is_target_character, is_token_character,
+};
+
+/// A point of the grammar, by what may stand there.
+#[derive(Clone, Copy, Debug, PartialEq, Eq)]
+pub enum Point {
+    /// The end of the document, or a link.
+    Beginning,
+    /// A link.
+    Link,
+    /// A character of a target, or its end.
+    Target,
+    /// A parameter, a further link, or the end.
+    AfterPart,
+    /// The first character of a name.
+    Name,
+    /// A further character of a name, an asterisk, or what may follow a name.
+    WithinName,
+    /// An equals sign, or what may follow a parameter.
+    AfterName,
+    /// The first character of a value.
+    Value,
+    /// A further character of a token, or what may follow a parameter.
+    Token,
+    /// A character of a quoted string, a backslash, or the closing quote.
+    Quotes,
+    /// The character that a backslash escapes.
+    AfterBackslash,
+}
+
+use Point::*;
+
+/// The point, where it is allowed.
+fn point_if(allowed: bool, point: Point) -> Option<Point>
+    ensures { option_map point_in result ≡ grammar.point_if allowed (point_in point) }
+{
+    if allowed { Some(point) } else { None }
+}
+
+/// The point after an octet that follows a link's target or a whole parameter.
+fn point_after_part(octet: u8) -> Option<Point>
+    ensures { option_map point_in result ≡ grammar.point_after_part octet }
+{
+    if octet == b';' {
+        return Some(Name);
+    }
+    point_if(octet == b',', Link)
+}
+
+/// The point after an octet that follows a parameter's name.
+fn point_after_name(octet: u8) -> Option<Point>
+    ensures { option_map point_in result ≡ grammar.point_after_name octet }
+{
+    if octet == b'=' {
+        return Some(Value);
+    }
+    point_after_part(octet)
+}
+
+/// The point after an octet of a target.
+#[tactic(auto, unfolding(link_model::specs::DocumentReading::point_after))]
+fn point_in_target(octet: u8) -> Option<Point>
+    ensures { option_map point_in result ≡ grammar.point_after grammar.at_target octet }
+{
+    if octet == b'>' {
+        return Some(AfterPart);
+    }
+    point_if(is_target_character(octet), Target)
+}
+
+/// The point after a further octet of a name.
+#[tactic(auto, unfolding(link_model::specs::DocumentReading::point_after))]
+fn point_within_name(octet: u8) -> Option<Point>
+    ensures { option_map point_in result ≡ grammar.point_after grammar.within_name octet }
+{
+    if is_name_character(octet) {
+        return Some(WithinName);
+    }
+    if octet == b'*' {
+        return Some(AfterName);
+    }
+    point_after_name(octet)
+}
+
+/// The point after the first octet of a value.
+#[tactic(auto, unfolding(link_model::specs::DocumentReading::point_after))]
+fn point_at_value(octet: u8) -> Option<Point>
+    ensures { option_map point_in result ≡ grammar.point_after grammar.at_value octet }
+{
+    if octet == b'"' {
+        return Some(Quotes);
+    }
+    point_if(is_token_character(octet), Token)
+}
+
+/// The point after a further octet of a token.
+#[tactic(auto, unfolding(link_model::specs::DocumentReading::point_after))]
+fn point_in_token(octet: u8) -> Option<Point>
+    ensures { option_map point_in result ≡ grammar.point_after grammar.in_token octet }
+{
+    if is_token_character(octet) {
+        return Some(Token);
+    }
+    point_after_part(octet)
+}
+
+/// The point after an octet of a quoted string.
+#[tactic(auto, unfolding(link_model::specs::DocumentReading::point_after))]
+fn point_in_quotes(octet: u8) -> Option<Point>
+    ensures { option_map point_in result ≡ grammar.point_after grammar.in_quotes octet }
+{
+    if octet == b'"' {
+        return Some(AfterPart);
+    }
+    if octet == b'\\' {
+        return Some(AfterBackslash);
+    }
+    point_if(is_not_control(octet), Quotes)
+}
+
+/// The point after an octet, where it may stand at the point.
+#[tactic(auto, unfolding(link_model::specs::DocumentReading::point_after))]
+pub fn point_after(point: Point, octet: u8) -> Option<Point>
+    ensures { option_map point_in result ≡ grammar.point_after (point_in point) octet }
+{
+    match point {
+        Beginning | Link => point_if(octet == b'<', Target),
+        Target => point_in_target(octet),
+        AfterPart => point_after_part(octet),
+        Name => point_if(is_name_character(octet), WithinName),
+        WithinName => point_within_name(octet),
+        AfterName => point_after_name(octet),
+        Value => point_at_value(octet),
+        Token => point_in_token(octet),
+        Quotes => point_in_quotes(octet),
+        AfterBackslash => point_if(is_not_control(octet), Quotes),
+    }
+}
+
+/// Whether a document may end at the point.
+#[tactic(auto, unfolding(link_model::specs::DocumentReading::links_at_end))]
+pub fn may_end(point: Point) -> bool
+    ensures { result ≡ is_some (grammar.links_at_end (point_in point)) }
+{
+    matches!(
+        point,
+        Beginning | AfterPart | WithinName | AfterName | Token
+    )
+}

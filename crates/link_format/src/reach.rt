@@ -1,0 +1,51 @@
+//! One walk over octets: how far they begin a document, and whether they are one.
+ghost use Rattle.std.specs.Prelude.{◌≡◌, ◌≤◌, ◌-◌, length, false, is_some};
+ghost use Rattle.link_model.specs.DocumentReading.{document, good_prefix};
+
+use crate::points::{Point, may_end, point_after};
+use crate::ranges::{OctetRange, tails_after};
+
+/// What a walk over octets finds.
+#[derive(Clone, Copy, Debug, PartialEq, Eq)]
+pub struct Reach {
+    /// The length of the longest prefix that begins some document.
+    pub good_prefix: usize,
+    /// Whether the octets are a document.
+    pub is_document: bool,
+}
+
+/// Walks over the octets once, up to the first that no document has there.
+pub fn walk(body: &[u8]) -> Reach
+    ensures good_prefix { result.good_prefix ≡ good_prefix body.now }
+    ensures document { result.is_document ≡ is_some (document body.now) }
+{
+    let mut point = Point::Beginning;
+    let mut tails: &'static [OctetRange] = &[];
+    let mut rest = body;
+    'octets: while let Some((octet, more)) = rest.split_first() {
+        let Some(next_point) = point_after(point, *octet) else {
+            return stopped(body, rest);
+        };
+        let Some(next_tails) = tails_after(tails, *octet) else {
+            return stopped(body, rest);
+        };
+        point = next_point;
+        tails = next_tails;
+        rest = more;
+    }
+    Reach {
+        good_prefix: body.len(),
+        is_document: tails.is_empty() && may_end(point),
+    }
+}
+
+/// A walk that stops before the rest of a body.
+fn stopped(body: &[u8], rest: &[u8]) -> Reach
+    requires { length rest.now ≤ length body.now }
+    ensures { result ≡ record { good_prefix = length body.now - length rest.now; is_document = false } }
+{
+    Reach {
+        good_prefix: body.len() - rest.len(),
+        is_document: false,
+    }
+}

@@ -1,0 +1,27 @@
+-- The parts of the answer, one after the other.
+use Rattle.std.proofs.Common.{ℕ, List, Option, ◌++◌, sym, ap, ◌∙◌}
+use Rattle.std.specs.String.{string_bytes}
+use Rattle.reference_model.specs.References.{scheme_text, authority_text, query_text}
+use Rattle.reference_model.specs.Resolution.{resolution}
+use Rattle.ref_resolve.specs.ComponentsOfParts.{components_of}
+use Rattle.ref_resolve.proofs.MergedPaths.{appended, fragment_kept, resolved_of}
+use Rattle.ref_resolve.proofs.resolution.resolve.Goals as goal
+
+pub returns-clause-value : goal.returns-clause-value
+returns-clause-value c =
+    let base = components_of c.args.base.now in
+    let reference = components_of c.args.reference.now in
+    let t0 = string_bytes c.new-text.result in
+    let t1 = string_bytes c.append_scheme.new.text in
+    let t2 = string_bytes c.append_authority.new.text in
+    let t3 = string_bytes c.append_path.new.text in
+    let t4 = string_bytes c.append_query.new.text in
+    c.of.ensures ∙ appended (resolution base reference) reference.fragment t0 t1 t2 t3 t4 (string_bytes c.append_fragment.new.text) c.new-text.ensures.bytes
+    (c.in_ok-append_scheme.ensures ∙ ap (λ (s : Option (List ℕ)). t0 ++ scheme_text s) c.target_scheme.ensures)
+    (c.in_ok-append_authority.ensures ∙ ap (λ (a : Option (List ℕ)). t1 ++ authority_text a) c.target_authority.ensures)
+    c.in_ok-append_path.ensures
+    (c.in_ok-append_query.ensures ∙ ap (λ (q : Option (List ℕ)). t3 ++ query_text q) c.target_query.ensures)
+    c.in_ok-append_fragment.ensures (sym (fragment_kept base reference))
+
+pub returns-clause-texts : goal.returns-clause-texts
+returns-clause-texts c = λ b r x y. resolved_of b r (components_of c.args.base.now) (components_of c.args.reference.now) c.of.result x y (returns-clause-value c)

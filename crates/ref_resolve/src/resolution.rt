@@ -1,0 +1,179 @@
+//! Resolving a reference against a base (RFC 3986 section 5.2, strict).
+ghost use Rattle.std.specs.Prelude.{◌≡◌, ◌++◌, ◌∷◌, [], ◌<◌, ℕ, List, option_map, OnOk, IfOk};
+ghost use Rattle.std.specs.String.{string_bytes};
+ghost use Rattle.link_model.specs.Characters.{slash, is_empty};
+ghost use Rattle.reference_model.specs.References as references;
+ghost use Rattle.reference_model.specs.Resolution as resolution;
+ghost use Rattle.ref_resolve.specs.ComponentsOfParts.{components_of};
+ghost use Rattle.ref_resolve.specs.MergedPaths.{front_of};
+
+use crate::components::Parts;
+use crate::dot_segments::append_without_dots;
+use rd_base::{Starved, Text};
+use std::alloc::Global;
+
+/// The scheme of the reference, or else that of the base.
+#[tactic(auto, unfolding(reference_model::specs::Resolution::resolution))]
+fn target_scheme<'a>(base: &Parts<'a>, reference: &Parts<'a>) -> Option<&'a str>
+    ensures { option_map (λ text. text.now) result ≡ (resolution.resolution (components_of base.now) (components_of reference.now)).scheme }
+{
+    if reference.scheme.is_some() {
+        return reference.scheme;
+    }
+    base.scheme
+}
+
+/// The authority of a reference that has a scheme or an authority, or else that of the base.
+#[tactic(auto, unfolding(reference_model::specs::Resolution::resolution))]
+fn target_authority<'a>(base: &Parts<'a>, reference: &Parts<'a>) -> Option<&'a str>
+    ensures { option_map (λ text. text.now) result ≡ (resolution.resolution (components_of base.now) (components_of reference.now)).authority }
+{
+    if reference.scheme.is_some() {
+        return reference.authority;
+    }
+    match reference.authority {
+        Some(authority) => Some(authority),
+        None => base.authority,
+    }
+}
+
+/// The query of the reference, or that of the base where the reference has nothing before its fragment.
+#[tactic(auto, unfolding(reference_model::specs::Resolution::resolution))]
+fn target_query<'a>(base: &Parts<'a>, reference: &Parts<'a>) -> Option<&'a str>
+    ensures { option_map (λ text. text.now) result ≡ (resolution.resolution (components_of base.now) (components_of reference.now)).query }
+{
+    if reference.scheme.is_some() {
+        return reference.query;
+    }
+    if reference.authority.is_some() {
+        return reference.query;
+    }
+    if !reference.path.is_empty() {
+        return reference.query;
+    }
+    if reference.query.is_some() {
+        return reference.query;
+    }
+    base.query
+}
+
+/// A path up to its last slash, with it.
+fn directory(path: &str) -> &str
+    ensures { result.now ≡ resolution.up_to_last_slash path.now }
+{
+    match path.rfind('/') {
+        Some(offset) => &path[..offset + 1],
+        None => "",
+    }
+}
+
+/// The path of a reference after that of the base (RFC 3986 section 5.2.3).
+#[tactic(auto, unfolding(reference_model::specs::Resolution::merged))]
+fn merged(alloc: Global, base: &Parts<'_>, path: &str) -> Result<String, Starved>
+    ensures { IfOk result (λ text. string_bytes text ≡ resolution.merged (components_of base.now) path.now) }
+{
+    let mut text = String::new(alloc);
+    text.push_str(front_of_merged(base))?;
+    text.push_str(path)?;
+    Ok(text)
+}
+
+/// What stands before the path of a reference when it is merged: a slash where the base has an authority and no path.
+fn front_of_merged<'a>(base: &Parts<'a>) -> &'a str
+    ensures { result.now ≡ front_of (components_of base.now) }
+{
+    if base.authority.is_some() && base.path.is_empty() {
+        return "/";
+    }
+    directory(base.path)
+}
+
+/// Appends the path of a resolved reference.
+#[tactic(auto, unfolding(reference_model::specs::Resolution::resolution))]
+fn append_path(
+    alloc: Global,
+    text: &mut String,
+    base: &Parts<'_>,
+    reference: &Parts<'_>,
+) -> Result<(), Starved>
+    ensures { OnOk result (string_bytes text.new ≡ string_bytes text.old ++ (resolution.resolution (components_of base.now) (components_of reference.now)).path) }
+{
+    if reference.scheme.is_some() {
+        return append_without_dots(text, reference.path);
+    }
+    if reference.authority.is_some() {
+        return append_without_dots(text, reference.path);
+    }
+    if reference.path.is_empty() {
+        text.push_str(base.path)?;
+        return Ok(());
+    }
+    if reference.path.as_bytes().starts_with(b"/") {
+        return append_without_dots(text, reference.path);
+    }
+    let path = merged(alloc, base, reference.path)?;
+    append_without_dots(text, path.as_str())
+}
+
+/// Appends a scheme with its colon, where there is one.
+fn append_scheme(text: &mut String, scheme: Option<&str>) -> Result<(), Starved>
+    ensures { OnOk result (string_bytes text.new ≡ string_bytes text.old ++ references.scheme_text (option_map (λ part. part.now) scheme.entry)) }
+{
+    if let Some(part) = scheme {
+        text.push_str(part)?;
+        text.push_str(":")?;
+    }
+    Ok(())
+}
+
+/// Appends an authority after two slashes, where there is one.
+fn append_authority(text: &mut String, authority: Option<&str>) -> Result<(), Starved>
+    ensures { OnOk result (string_bytes text.new ≡ string_bytes text.old ++ references.authority_text (option_map (λ part. part.now) authority.entry)) }
+{
+    if let Some(part) = authority {
+        text.push_str("//")?;
+        text.push_str(part)?;
+    }
+    Ok(())
+}
+
+/// Appends a query after its question mark, where there is one.
+fn append_query(text: &mut String, query: Option<&str>) -> Result<(), Starved>
+    ensures { OnOk result (string_bytes text.new ≡ string_bytes text.old ++ references.query_text (option_map (λ part. part.now) query.entry)) }
+{
+    if let Some(part) = query {
+        text.push_str("?")?;
+        text.push_str(part)?;
+    }
+    Ok(())
+}
+
+/// Appends a fragment after its number sign, where there is one.
+fn append_fragment(text: &mut String, fragment: Option<&str>) -> Result<(), Starved>
+    ensures { OnOk result (string_bytes text.new ≡ string_bytes text.old ++ references.fragment_text (option_map (λ part. part.now) fragment.entry)) }
+{
+    if let Some(part) = fragment {
+        text.push_str("#")?;
+        text.push_str(part)?;
+    }
+    Ok(())
+}
+
+/// The text of a reference, resolved against a base (RFC 3986 sections 5.2.2 and 5.3, strict). Dot segments are removed of
+/// a reference with a scheme too. A base has a scheme and an authority; where it has none, the answer has none from it.
+///
+/// # Errors
+///
+/// `Starved` where memory runs out, and for nothing else.
+pub fn resolve(alloc: Global, base: &Parts<'_>, reference: &Parts<'_>) -> Result<Text, Starved>
+    ensures value { IfOk result (λ text. text ≡ references.recomposed (resolution.resolution (components_of base.now) (components_of reference.now))) }
+    ensures texts { IfOk result (λ text. (b r : List ℕ) → references.IsReference b (components_of base.now) → references.IsReference r (components_of reference.now) → text ≡ resolution.resolved b r) }
+{
+    let mut text = String::new(alloc);
+    append_scheme(&mut text, target_scheme(base, reference))?;
+    append_authority(&mut text, target_authority(base, reference))?;
+    append_path(alloc, &mut text, base, reference)?;
+    append_query(&mut text, target_query(base, reference))?;
+    append_fragment(&mut text, reference.fragment)?;
+    Ok(Text::of(text))
+}
