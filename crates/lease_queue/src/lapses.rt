@@ -1,4 +1,4 @@
-//! The leases that have lapsed, one after the other.
+//! The leases that have lapsed, one after another.
 ghost use Rattle.std.specs.Prelude.{◌≡◌, ◌+◌, ◌∷◌, [], map, IfSome, IfNone};
 ghost use Rattle.lease_queue.specs.declared.leases.Lease.{Lease};
 

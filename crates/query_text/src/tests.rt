@@ -1,10 +1,10 @@
-// Query options: read, or refused with the first fault and its place.
+//! Query options: read, or refused with the first fault and its index.
 use crate::{Pieces, QueryBad, Reading, Why, fault, lookup_query, reg_params, update_params};
 use rd_base::{Kind, Starved};
 use std::alloc::Global;
 use std::test::Fail;
 
-/// Options that stand in a slice, from a place on.
+/// Options that stand in a slice, from an index on.
 #[derive(Clone, Copy)]
 struct Listed<'a> {
     options: &'a [&'a [u8]],
@@ -45,7 +45,7 @@ fn fault_of_value(
     }
 }
 
-/// What is read, its options, each behind a semicolon, and the place and the reason of the first fault, or a hyphen where there is none.
+/// What is read, its options, each after a semicolon, and the index and the reason of the first fault, or a hyphen where there is none.
 /// In the options `<` stands for the octet 0xC3, with which a longer character begins, and `>` for 0xFF, which no UTF-8 text has.
 const CASES: &str = "register||0 NoEp
 simple||0 NoEp

@@ -37,7 +37,7 @@ numbered n = registered n (record { 0 = 100 }) device (registration_values (code
 
 -- so many of them
 abbrev many : ℕ → State
-many n = record { records = map numbered (range_with_len 1 n); drawn = n }
+many n = record { records = map numbered (range_with_len 1 n); last_number = n }
 
 -- a registration of another name
 abbrev one_more : Entry
