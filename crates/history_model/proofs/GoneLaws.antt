@@ -25,6 +25,7 @@ live_before_apply moment state entries entry n numbered accepts order used there
     (any_kept (is_numbered n) (is_live_at moment) (apply (only_live moment state) entry).records (subst (λ records. has_number n records ≡ true) same there))
 
 -- A number not above the last one that is live later was live at each moment before that is not after the entries in between: a registration that has lapsed or was removed is not live again.
+-- An end theorem: nothing here cites it.
 pub live_before : (first : ℕ) (front more : List Entry) (moment later n : ℕ) → IsLegalFrom first (front ++ more) → AllByRecursion (λ e. moment ≤ e.moment.0) more → moment ≤ later → n ≤ (replay front).last_number
     → has_number n (live (front ++ more) later) ≡ true → has_number n (live front moment) ≡ true
 unfolding live

@@ -41,6 +41,7 @@ by_legal_pushes first P none push = by_pushes (λ h. IsLegalFrom first h → P h
     (λ h e holds legal. let before : IsLegalFrom first h = IsLegalFrom-append first h (e ∷ []) legal in push h e before (IsLegalFrom_last first h e legal) (holds before))
 
 -- a front of a legal history ends no later
+-- An end theorem: nothing here cites it.
 pub last_moment-IsFront : (first : ℕ) (front history : List Entry) → IsFront front history → IsLegalFrom first history → last_moment front ≤ last_moment history
 last_moment-IsFront first front history begins legal = subst (λ h. last_moment front ≤ last_moment h) (begins.1) (extends begins.0 (subst (IsLegalFrom first) (sym (begins.1)) legal))
   where

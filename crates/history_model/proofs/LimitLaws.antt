@@ -104,5 +104,6 @@ length-le-max_entries first history low = by_legal_pushes first (λ h. first + l
     omega (arith, more)) history
 
 -- so no number is higher
+-- An end theorem: nothing here cites it.
 pub last_number-le-max_entries : (first : ℕ) (history : List Entry) → first ≤ max_entries → IsLegalFrom first history → (replay history).last_number ≤ max_entries
 last_number-le-max_entries first history low legal = let last = last_number-le-length history in let few = length-le-max_entries first history low legal in omega (arith, last, few)

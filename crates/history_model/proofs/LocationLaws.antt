@@ -35,6 +35,7 @@ changed_named name moment number new named (r ∷ rs) pairs e = by (is_live_name
     by false false eb en h more = rw eb (more h)
 
 -- after a registration the live record of its name has the number that it was to have
+-- An end theorem: nothing here cites it.
 pub number_named-apply : (state : State) (entry : Entry) (params : RegParams) (links : List SubmittedLink) → HasRisingNumbers state → entry.change ≡ change.Register params links → 0 < params.lt
     → number_named params.name entry.moment.0 (apply state entry).records ≡ Some (number_for params.name entry.moment.0 state)
 unfolding apply registered

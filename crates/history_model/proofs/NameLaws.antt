@@ -67,6 +67,7 @@ replay-AreApart first = by_legal_pushes first (λ h. PairsByRecursion (AreApart 
     (apply-AreApart (replay h) (first + length h) e (replay-HasRisingNumbers h) (next-Accepted first h e next) (apart_later (last_moment h) e.moment.0 (replay h).records next.in_time before)))
 
 -- the records that are live at a moment not below the last have distinct names
+-- An end theorem: nothing here cites it.
 pub live-HaveDistinctNames : (first : ℕ) (history : List Entry) (moment : ℕ) → IsLegalFrom first history → last_moment history ≤ moment → HaveDistinctNames (live history moment)
 unfolding live
 live-HaveDistinctNames first history moment legal order =

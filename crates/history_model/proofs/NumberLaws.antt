@@ -60,9 +60,11 @@ apply-HasRisingNumbers state entry before = by_change HasRisingNumbers state ent
 pub replay-HasRisingNumbers : (history : List Entry) → HasRisingNumbers (replay history)
 replay-HasRisingNumbers history = by_pushes (λ h. HasRisingNumbers (replay h)) (rw replay-nil (record { ascending = tt; each_numbered = tt })) (λ h e before. subst HasRisingNumbers (sym (replay_push h e)) (apply-HasRisingNumbers (replay h) e before)) history
 
+-- An end theorem: nothing here cites it.
 pub replay-AreAscending : (history : List Entry) → AreAscending (replay history).records
 replay-AreAscending history = AllPairs-from_recursion IsBelow (replay history).records (replay-HasRisingNumbers history).ascending
 
+-- An end theorem: nothing here cites it.
 pub live-AreAscending : (history : List Entry) (moment : ℕ) → AreAscending (live history moment)
 unfolding live
 live-AreAscending history moment = AllPairs-from_recursion IsBelow (live_among moment (replay history).records) (pairs_filter IsBelow (is_live_at moment) (replay history).records (replay-HasRisingNumbers history).ascending)
@@ -134,6 +136,7 @@ number_not_again front history begins n used there = (extends begins.0).1 (subst
     extends more = by_pushes Extends (rw (append-nil front) (used, λ same. same)) push more
 
 -- a number that was not there before is above the last number before
+-- An end theorem: nothing here cites it.
 pub number_is_new : (front history : List Entry) → IsFront front history → (n : ℕ) → has_number n (replay front).records ≡ false → has_number n (replay history).records ≡ true → (replay front).last_number < n
 number_is_new front history begins n without there = by (cases_lt (replay front).last_number n)
   where

@@ -37,16 +37,19 @@ last_moment_push history entry = fold_push (λ (before : ℕ) (e : Entry). e.mom
 -- ---- what an entry makes
 
 -- by the kind of the change
+-- An end theorem: nothing here cites it.
 pub apply-Register : (state : State) (now : Moment) (worker : ℕ) (peer : Peer) (params : RegParams) (links : List SubmittedLink)
     → apply state (record { moment = now; worker = worker; peer = peer; change = change.Register params links }) ≡ registered_under (number_named params.name now.0 state.records) state now peer params links
 unfolding apply
 apply-Register state now worker peer params links = refl
 
+-- An end theorem: nothing here cites it.
 pub apply-Update : (state : State) (now : Moment) (worker : ℕ) (peer : Peer) (number : ℕ) (given : UpdateParams)
     → apply state (record { moment = now; worker = worker; peer = peer; change = change.Update number given }) ≡ record { records = with_changed number (updated now peer given) state.records; last_number = state.last_number }
 unfolding apply
 apply-Update state now worker peer number given = refl
 
+-- An end theorem: nothing here cites it.
 pub apply-Remove : (state : State) (now : Moment) (worker : ℕ) (peer : Peer) (number : ℕ)
     → apply state (record { moment = now; worker = worker; peer = peer; change = change.Remove number }) ≡ record { records = filter (λ r. not (is_numbered number r)) state.records; last_number = state.last_number }
 unfolding apply

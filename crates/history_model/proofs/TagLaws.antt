@@ -101,6 +101,7 @@ listing-live query front other moment later same = ap (λ lines. shown query (ma
     map_lines lines = map (λ numbered. numbered.1) lines
 
 -- equal tags of fronts of one legal history mean equal listings for an equal query
+-- An end theorem: nothing here cites it.
 pub listing-tag_from : (first : ℕ) (history front other : List Entry) (moment later : ℕ) (query : Query) → first ≤ max_entries → IsLegalFrom first history → IsFront front history → IsFront other history
     → last_moment front ≤ moment → last_moment other ≤ later → tag_from first front moment ≡ tag_from first other later → listing query front moment ≡ listing query other later
 listing-tag_from first history front other moment later query counted legal begins also low high e =

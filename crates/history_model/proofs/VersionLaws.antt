@@ -113,6 +113,7 @@ apply-only_live swept state entries entry numbered e lasts order granted =
 abbrev pub empty_version : ℕ → Version
 empty_version first = record { records = []; entries = first; at = 0; last_number = 0; swept_live = 0; swept = 0 }
 
+-- An end theorem: nothing here cites it.
 pub empty-VersionStandsFor : (first : ℕ) → VersionStandsFor first [] (empty_version first)
 unfolding replay last_moment lapsed_since live
 empty-VersionStandsFor first = record { records = refl; entries = omega arith; at = refl; last_number = refl; swept_live = refl }
@@ -125,6 +126,7 @@ state_of-VersionStandsFor first history version stands = ap₂ made stands.last_
     made last_number records = record { records = records; last_number = last_number }
 
 -- it refuses what its history refuses, at moments not below its sweep
+-- An end theorem: nothing here cites it.
 pub change_refusal-VersionStandsFor : (first : ℕ) (history : List Entry) (version : Version) (entry : Entry) → VersionStandsFor first history version → version.swept ≤ entry.moment.0
     → refusal_in (state_of version) version.entries entry ≡ change_refusal first history entry
 unfolding change_refusal
@@ -132,10 +134,12 @@ change_refusal-VersionStandsFor first history version entry stands order =
     ap₂ (λ state entries. refusal_in state entries entry) (state_of-VersionStandsFor first history version stands) stands.entries ∙ refusal_in-only_live version.swept (replay history) (first + length history) entry order
 
 -- the same number of a name
+-- An end theorem: nothing here cites it.
 pub number_named-VersionStandsFor : (first : ℕ) (history : List Entry) (version : Version) (name : Name) (moment : ℕ) → VersionStandsFor first history version → version.swept ≤ moment
     → number_named name moment version.records ≡ number_named name moment (replay history).records
 number_named-VersionStandsFor first history version name moment stands order = ap (number_named name moment) stands.records ∙ number_named-live version.swept moment name (replay history).records order
 
+-- An end theorem: nothing here cites it.
 pub number_for-VersionStandsFor : (first : ℕ) (history : List Entry) (version : Version) (name : Name) (moment : ℕ) → VersionStandsFor first history version → version.swept ≤ moment
     → number_for name moment (state_of version) ≡ number_for name moment (replay history)
 number_for-VersionStandsFor first history version name moment stands order = ap (number_for name moment) (state_of-VersionStandsFor first history version stands)
@@ -147,12 +151,14 @@ unfolding live
 live-VersionStandsFor first history version moment stands order = ap (live_among moment) stands.records ∙ live_among_live version.swept moment (replay history).records order
 
 -- the same records lapse after a moment that is not below its sweep, and up to a later one
+-- An end theorem: nothing here cites it.
 pub lapsing-VersionStandsFor : (first : ℕ) (history : List Entry) (version : Version) (from to : ℕ) → VersionStandsFor first history version → version.swept ≤ from
     → lapsing_among from to version.records ≡ lapsing_among from to (replay history).records
 lapsing-VersionStandsFor first history version from to stands order = ap (lapsing_among from to) stands.records
     ∙ filter_stronger (λ r. nat_lt from (lapse r) && nat_le (lapse r) to) (is_live_at version.swept) (λ r both. is_live_before version.swept from r order (and_parts (nat_lt from (lapse r)) (nat_le (lapse r) to) both).0) (replay history).records
 
 -- the same lines
+-- An end theorem: nothing here cites it.
 pub all_lines-VersionStandsFor : (first : ℕ) (history : List Entry) (version : Version) (query : Query) (moment : ℕ) → VersionStandsFor first history version → version.swept ≤ moment
     → lines_of query (live_among moment version.records) ≡ all_lines query history moment
 unfolding all_lines
@@ -180,6 +186,7 @@ none_lapsed swept moment records order = none (live_among moment records) (each_
     none (r ∷ rs) live = let above : moment < lapse r = ltb-true _ _ (live.0) in let later : nat_le (lapse r) swept ≡ false = lt-leb _ _ (omega arith) in rw later (none rs live.1)
 
 -- after an entry that is not refused a version stands for the history with that entry
+-- An end theorem: nothing here cites it.
 pub with_entry-VersionStandsFor : (first : ℕ) (history : List Entry) (version : Version) (entry : Entry) → IsLegalFrom first history → last_moment history ≤ entry.moment.0 → change_refusal first history entry ≡ None → IsLasting entry.change
     → VersionStandsFor first history version → version.swept ≤ entry.moment.0 → VersionStandsFor first (history ++ entry ∷ []) (with_entry version entry)
 unfolding change_refusal lapsed_since live
@@ -230,6 +237,7 @@ lapsed_since-VersionStandsFor first history version moment stands order =
     ∙ lapsed_split (last_moment history) version.swept moment order (replay history).records
 
 -- its tag
+-- An end theorem: nothing here cites it.
 pub tag_from-VersionStandsFor : (first : ℕ) (history : List Entry) (version : Version) (moment : ℕ) → VersionStandsFor first history version → version.swept ≤ moment
     → tag_octets version.entries (version.swept_live + lapsed_between version.at moment version.records) ≡ tag_from first history moment
 unfolding tag_from
@@ -244,6 +252,7 @@ swept_to moment version = record version {
 }
 
 -- after a sweep a version stands for the same history
+-- An end theorem: nothing here cites it.
 pub swept_to-VersionStandsFor : (first : ℕ) (history : List Entry) (version : Version) (moment : ℕ) → VersionStandsFor first history version → version.swept ≤ moment → VersionStandsFor first history (swept_to moment version)
 swept_to-VersionStandsFor first history version moment stands order = record {
   records = ap (live_among moment) stands.records ∙ live_among_live version.swept moment (replay history).records order;

@@ -10,6 +10,7 @@ use std::sync::ledger::Ledger;
 /// A cursor over numbers of leases: contracts see it as the numbers that are left, in order.
 #[derive(Drop)]
 pub struct LapsedIter<'a> {
+    /// The leases that are left.
     left: &'a [Lease],
 }
 

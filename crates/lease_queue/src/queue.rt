@@ -13,6 +13,7 @@ use std::marker::Model;
 /// [`LeaseQueue::put`] and [`LeaseQueue::take`] make another one. Contracts see it as the list of its leases.
 #[derive(Debug, Drop)]
 pub struct LeaseQueue {
+    /// The leases in their order.
     leases: Vec<Lease>,
 }
 

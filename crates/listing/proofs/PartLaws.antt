@@ -1,15 +1,15 @@
--- Lines that are skipped, and lines that are appended one after the other.
+-- Lines that are skipped, and lines that are appended one after another.
 use Rattle.std.proofs.Common.{not, true, ◌≡◌, ℕ, ◌+◌, List, [], ◌∷◌, ◌++◌, flat_map, refl, sym, ap, ◌∙◌, append_assoc, append-nil, add-one, arith}
 use Rattle.std.specs.List.{join_with_byte, list_all}
 use Rattle.link_model.specs.Characters.{comma, is_empty}
-use Rattle.listing.specs.Appending.{appended, separated, shown_lines}
+use Rattle.listing.specs.AppendedLines.{appended, separated, shown_lines}
 
--- what follows the first line stands behind commas
+-- what follows the first line stands after commas
 join-cons : (line : List ℕ) (lines : List (List ℕ)) → join_with_byte comma (line ∷ lines) ≡ line ++ flat_map (λ l. comma ∷ l) lines
 join-cons line [] = sym (append-nil line)
 join-cons line (next ∷ lines) = ap (λ (xs : List ℕ). line ++ comma ∷ xs) (join-cons next lines)
 
--- a line behind a text, and then others
+-- a line after a text, and then others
 pub appended-cons : (text line rest : List ℕ) (c : ℕ) (lines : List (List ℕ)) → line ≡ c ∷ rest → appended (separated text ++ line) lines ≡ appended text (line ∷ lines)
 unfolding appended
 appended-cons [] line rest c lines begins =
@@ -40,7 +40,7 @@ skip_one skip left most line lines e = rw (e, add-one) refl
 pub write_one : (most left : ℕ) (line : List ℕ) (lines : List (List ℕ)) → most ≡ left + 1 → shown_lines 0 most (line ∷ lines) ≡ line ∷ shown_lines 0 left lines
 write_one most left line lines e = rw (e, add-one) refl
 
--- lines behind lines, of which none is empty
+-- lines after lines, of which none is empty
 pub appended-append : (text : List ℕ) (lines more : List (List ℕ)) → list_all (λ line. not (is_empty line)) lines ≡ true → appended (appended text lines) more ≡ appended text (lines ++ more)
 appended-append text [] more full = ap (λ (t : List ℕ). appended t more) (appended-nil text)
 appended-append text ((c ∷ rest) ∷ lines) more full =

@@ -8,13 +8,13 @@ use Rattle.listing.specs.declared.pieces.Piece.{Piece}
 use Rattle.listing.specs.declared.pieces.Piece.TheVariants.{Plain, Escaped}
 
 -- the octets of a piece
-abbrev pub said : Piece → List ℕ
-said (Plain text) = text.now
-said (Escaped text) = flat_map escaped_character text.now
+abbrev pub octets_of_piece : Piece → List ℕ
+octets_of_piece (Plain text) = text.now
+octets_of_piece (Escaped text) = flat_map escaped_character text.now
 
 -- the octets of pieces in a row
-abbrev pub said_in_order : List Piece → List ℕ
-said_in_order pieces = flat_map said pieces
+abbrev pub octets_of_pieces : List Piece → List ℕ
+octets_of_pieces pieces = flat_map octets_of_piece pieces
 
 -- the line of an endpoint before its extra attributes
 unfoldable pub own_line : Record → List ℕ

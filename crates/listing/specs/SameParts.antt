@@ -10,6 +10,6 @@ abbrev pub same_lines : List (List ℕ) → List (List ℕ) → Bool
 same_lines = pointwise bytes_eq
 
 -- the lines that a registration gives, where there is one
-abbrev pub part_given : Query → Option Record → List (List ℕ)
-part_given query None = []
-part_given query (Some r) = part query r
+abbrev pub part_or_none : Query → Option Record → List (List ℕ)
+part_or_none query None = []
+part_or_none query (Some r) = part query r

@@ -1,9 +1,9 @@
-// Lines that are appended to a listing.
+//! Lines that are appended to a listing.
 ghost use Rattle.std.specs.Prelude.{◌≡◌, ◌++◌, ◌∷◌, [], flat_map, OnOk, OnErr};
 ghost use Rattle.record_model.specs.ListingLines as listing_model;
 ghost use Rattle.link_model.specs.Quoting.{escaped_character};
-ghost use Rattle.listing.specs.Appending.{separated};
-ghost use Rattle.listing.specs.Saying.{own_line, said, said_in_order};
+ghost use Rattle.listing.specs.AppendedLines.{separated};
+ghost use Rattle.listing.specs.Pieces.{own_line, octets_of_piece, octets_of_pieces};
 
 use crate::locations::{ROOM, write_location};
 use crate::pieces::{Piece, attribute_pieces, endpoint_pieces, is_escaped, link_pieces};
@@ -37,7 +37,7 @@ fn append_escaped(text: &[u8], into: &mut Bytes) -> Result<(), Starved>
 
 /// Appends a piece.
 fn append_piece(piece: &Piece<'_>, into: &mut Bytes) -> Result<(), Starved>
-    ensures ok { OnOk result (into.new ≡ into.old ++ said piece.now) }
+    ensures ok { OnOk result (into.new ≡ into.old ++ octets_of_piece piece.now) }
     ensures starved { OnErr result (into.new ≡ into.old) }
 {
     match piece {
@@ -48,7 +48,7 @@ fn append_piece(piece: &Piece<'_>, into: &mut Bytes) -> Result<(), Starved>
 
 /// Appends pieces.
 fn append_pieces(pieces: &[Piece<'_>], into: &mut Bytes) -> Result<(), Starved>
-    ensures ok { OnOk result (into.new ≡ into.old ++ said_in_order pieces.now) }
+    ensures ok { OnOk result (into.new ≡ into.old ++ octets_of_pieces pieces.now) }
     ensures starved { OnErr result (into.new ≡ into.old) }
 {
     let before = into.len();
@@ -61,7 +61,7 @@ fn append_pieces(pieces: &[Piece<'_>], into: &mut Bytes) -> Result<(), Starved>
     Ok(())
 }
 
-/// Appends a comma behind what is there.
+/// Appends a comma after what is there.
 fn append_comma(into: &mut Bytes) -> Result<(), Starved>
     ensures ok { OnOk result (into.new ≡ separated into.old) }
     ensures starved { OnErr result (into.new ≡ into.old) }
@@ -72,7 +72,7 @@ fn append_comma(into: &mut Bytes) -> Result<(), Starved>
     into.append(b",")
 }
 
-/// Appends the line of a link. Where memory is wanted the octets are as before.
+/// Appends the line of a link. Out of memory, the octets are as before.
 pub fn append_link(item: &Item, into: &mut Bytes) -> Result<(), Starved>
     ensures ok { OnOk result (into.new ≡ separated into.old ++ listing_model.link_line item.now) }
     ensures starved { OnErr result (into.new ≡ into.old) }
@@ -111,7 +111,7 @@ fn append_own(record_of: &Record, into: &mut Bytes) -> Result<(), Starved>
     append_pieces(&endpoint_pieces(record_of, &octets[start..]), into)
 }
 
-/// Appends the line of an endpoint. Where memory is wanted the octets are as before.
+/// Appends the line of an endpoint. Out of memory, the octets are as before.
 #[tactic(auto, using(crate::proofs::PieceLaws::endpoint_whole))]
 pub fn append_endpoint(record_of: &Record, into: &mut Bytes) -> Result<(), Starved>
     ensures ok { OnOk result (into.new ≡ separated into.old ++ listing_model.endpoint_line record_of.now) }

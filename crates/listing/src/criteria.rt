@@ -1,11 +1,11 @@
-// Which links and endpoints meet criteria (RFC 6690 section 4.1, RFC 9176 section 6.2).
+//! Which links and endpoints meet criteria (RFC 6690 section 4.1, RFC 9176 section 6.2).
 ghost use Rattle.std.specs.Prelude.{◌≡◌, ◌<◌, ◌&&◌, bytes_eq, length};
 ghost use Rattle.std.specs.List.{list_any, HoldsAt};
 ghost use Rattle.record_model.specs.Matching as model;
 ghost use Rattle.std.specs.Option.{option_copied};
 ghost use Rattle.record_model.specs.Discovery as discovery_model;
 ghost use Rattle.record_model.specs.ListingLines as listing_model;
-ghost use Rattle.listing.specs.Listed.{listed_of};
+ghost use Rattle.listing.specs.ListedLinks.{listed_of};
 
 use crate::locations::{ROOM, write_location};
 use crate::patterns::{matches_named, matches_value};

@@ -1,11 +1,11 @@
-// What the directory tells of itself (RFC 9176 section 4.1, RFC 6690 section 4).
+//! The links of the directory itself (RFC 9176 section 4.1, RFC 6690 section 4).
 ghost use Rattle.std.specs.Prelude.{◌≡◌, ◌*◌, ◌∷◌, ◌^◌, ◌<◌, ℕ, List, [], length, IfOk, OnOk};
 ghost use Rattle.record_model.specs.Discovery as discovery_model;
 ghost use Rattle.record_model.specs.ListingLines.{page_of};
-ghost use Rattle.listing.specs.Appending.{shown_lines};
-ghost use Rattle.listing.specs.Own.{own_item};
+ghost use Rattle.listing.specs.AppendedLines.{shown_lines};
+ghost use Rattle.listing.specs.OwnLinks.{own_item};
 
-use crate::showing::append_links;
+use crate::parts::append_links;
 use rd_base::{Bytes, Item, Items, Pair, Pairs, Query, Starved, Text};
 use std::alloc::Global;
 

@@ -1,17 +1,17 @@
-// The lines that one registration gives to a listing (RFC 9176 sections 6.3 and 6.4).
+//! The lines that one registration gives to a listing (RFC 9176 sections 6.3 and 6.4).
 ghost use Rattle.std.specs.Prelude.{◌≡◌, length, min, IfOk, OnOk, OnErr};
 ghost use Rattle.std.specs.Option.{option_copied};
 ghost use Rattle.record_model.specs.ListingLines.{part};
-ghost use Rattle.listing.specs.Appending.{appended, shown_lines};
-ghost use Rattle.listing.specs.Listed.{listed_endpoint, listed_lines};
+ghost use Rattle.listing.specs.AppendedLines.{appended, shown_lines};
+ghost use Rattle.listing.specs.ListedLinks.{listed_endpoint, listed_lines};
 
-use crate::appending::{append_endpoint, append_link};
-use crate::matching::{endpoint_listed, is_listed};
+use crate::appended_lines::{append_endpoint, append_link};
+use crate::criteria::{endpoint_listed, is_listed};
 use rd_base::{Bytes, Item, Kind, Query, Record, Starved};
 use std::alloc::Global;
 
-/// Appends the lines of the links that are listed, behind the first `skip` and at most `most`, and answers how many it
-/// skipped and wrote. Where memory is wanted the octets are as before.
+/// Appends the lines of the links that are listed, after the first `skip` and at most `most`, and answers how many it
+/// skipped and wrote. Out of memory, the octets are as before.
 pub fn append_links(
     query: &Query,
     owner: Option<&Record>,
@@ -76,10 +76,10 @@ fn append_listed_endpoint(
     Ok((0, 1))
 }
 
-/// Appends the lines that the registration gives to a lookup of this kind, behind the first `skip` and at most `most`:
+/// Appends the lines that the registration gives to a lookup of this kind, after the first `skip` and at most `most`:
 /// the links that a resource lookup lists, or the endpoint where an endpoint lookup lists it. A comma stands before each
 /// line where the octets are not empty (RFC 6690 section 2). Answers how many lines were skipped and how many written;
-/// those skipped are all that there are where that is fewer than `skip`. Where memory is wanted the octets are as
+/// those skipped are all that there are where that is fewer than `skip`. Out of memory, the octets are as
 /// before.
 #[tactic(auto, unfolding(record_model::specs::ListingLines::part))]
 pub fn lines(

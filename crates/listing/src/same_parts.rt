@@ -1,14 +1,14 @@
-// Whether two states of a registration give the same lines.
+//! Whether two states of a registration give the same lines.
 ghost use Rattle.std.specs.Prelude.{◌≡◌, ◌↔◌, [], Some, bytes_eq, IsTrue};
 ghost use Rattle.std.specs.Option.{option_copied};
 ghost use Rattle.record_model.specs.ListingLines as listing_model;
 ghost use Rattle.record_model.specs.Matching as model;
-ghost use Rattle.listing.specs.Comparing.{part_given, same_lines};
+ghost use Rattle.listing.specs.SameParts.{part_or_none, same_lines};
 ghost use Rattle.listing.specs.Views.{FirstListed, left};
-ghost use Rattle.listing.specs.Listed.{listed_endpoint, listed_lines};
+ghost use Rattle.listing.specs.ListedLinks.{listed_endpoint, listed_lines};
 
+use crate::criteria::{endpoint_listed, is_listed};
 use crate::locations::{ROOM, write_location};
-use crate::matching::{endpoint_listed, is_listed};
 use crate::octets::{Octets, octets_of, same_octets};
 use crate::pieces::{endpoint_pieces, link_pieces};
 use rd_base::{Item, Kind, Query, Record};
@@ -39,16 +39,16 @@ fn endpoint_octets<'a>(record_of: &'a Record, location: &'a [u8]) -> Octets<'a>
 fn same_endpoint(old: &Record, new: &Record) -> bool
     ensures { result ≡ bytes_eq (listing_model.endpoint_line old.now) (listing_model.endpoint_line new.now) }
 {
-    let mut old_place = [0; ROOM];
-    let old_start = write_location(old.number, &mut old_place);
-    let mut new_place = [0; ROOM];
-    let new_start = write_location(new.number, &mut new_place);
-    let mut old_line = endpoint_octets(old, &old_place[old_start..]);
-    let mut new_line = endpoint_octets(new, &new_place[new_start..]);
+    let mut old_octets = [0; ROOM];
+    let old_start = write_location(old.number, &mut old_octets);
+    let mut new_octets = [0; ROOM];
+    let new_start = write_location(new.number, &mut new_octets);
+    let mut old_line = endpoint_octets(old, &old_octets[old_start..]);
+    let mut new_line = endpoint_octets(new, &new_octets[new_start..]);
     same_octets(&mut old_line, &mut new_line)
 }
 
-/// The first of the links that is listed, and those behind it.
+/// The first of the links that is listed, and those after it.
 fn first_listed<'a>(
     query: &Query,
     record_of: &Record,
@@ -130,9 +130,9 @@ fn gives_none(query: &Query, record_of: &Record) -> bool
 
 /// Whether both give the same lines, in the same order, to a lookup of this kind; where there is no registration, there
 /// is no line (RFC 9176 section 6). Takes no memory.
-#[tactic(auto, using(crate::proofs::ComparingLaws::comparing))]
+#[tactic(auto, using(crate::proofs::SamePartLaws::same_lines_answered))]
 pub fn same_part(query: &Query, old: Option<&Record>, new: Option<&Record>) -> bool
-    ensures { IsTrue result ↔ (part_given query.now (option_copied old.entry) ≡ part_given query.now (option_copied new.entry)) }
+    ensures { IsTrue result ↔ (part_or_none query.now (option_copied old.entry) ≡ part_or_none query.now (option_copied new.entry)) }
 {
     match (old, new) {
         (Some(before), Some(after)) => same_parts(query, before, after),

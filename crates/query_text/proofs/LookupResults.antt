@@ -13,7 +13,7 @@ use Rattle.query_text.specs.declared.asked_options.Asked.{Asked}
 use Rattle.query_text.specs.Walks.{start_of, faults_from}
 use Rattle.query_text.specs.AskedOptions.{wanted_in, wanted_of, query_of}
 use Rattle.query_text.specs.Outcomes.{Answers, Asks}
-use Rattle.query_text.proofs.Meeting.{same_fault}
+use Rattle.query_text.proofs.RuleLaws.{same_fault}
 use Rattle.query_text.proofs.Results.{error_at}
 
 pub of_lookup : (queries : List (List ℕ)) → faults_from (start_of reading.Lookup) queries ≡ lookup_fault queries

@@ -12,7 +12,7 @@ use Rattle.query_text.specs.declared.walks.Walk.{Walk}
 use Rattle.query_text.specs.Numbers.{lifetime_in}
 use Rattle.query_text.specs.Rules.{is_lookup}
 use Rattle.query_text.specs.Walks.{IsPast}
-use Rattle.query_text.specs.GivenParameters.{GivenValues, values_of, given_with, nothing_given}
+use Rattle.query_text.specs.GivenParameters.{GivenValues, values_of, given_with}
 use Rattle.query_text.proofs.Choices.{if_filter, first_of, or_nothing, value_before, number_before, good_lifetime}
 
 -- what is given first and then
@@ -106,7 +106,3 @@ unfolding values_of value_named
 gathered_all g left e =
     ap (λ (l : List (List ℕ)). joined g (values_of l)) e
     ∙ same_seen (or_nothing g.ep) (or_nothing g.sector) (or_nothing g.lifetime) (or_nothing g.base) (append-nil g.attributes)
-
--- nothing was given
-pub gathered_none : (left : List (List ℕ)) → joined nothing_given (values_of left) ≡ values_of left
-gathered_none left = refl

@@ -14,7 +14,7 @@ use Rattle.query_text.specs.declared.given_parameters.Given.{Given}
 use Rattle.query_text.specs.Rules.{is_lookup}
 use Rattle.query_text.specs.Walks.{start_of, faults_from}
 use Rattle.query_text.specs.Outcomes.{Answers, Gathers}
-use Rattle.query_text.proofs.Meeting.{of_parameters}
+use Rattle.query_text.proofs.RuleLaws.{of_parameters}
 
 -- an error of that kind
 pub error_at : {A : Type 0} (fault : QueryBad) (P : Result A QueryBad → Type 0) (result : Result A QueryBad) → P (Err fault) → IsErrAnd result (λ e. e ≡ fault) → P result

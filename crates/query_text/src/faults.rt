@@ -26,6 +26,7 @@ impl From<Starved> for QueryBad {
 
     ghost from_gives = { λ _ e. e ≡ bad.Starved };
 
+    /// Out of memory.
     fn from(_: Starved) -> QueryBad {
         QueryBad::Starved
     }
@@ -37,6 +38,7 @@ impl From<(usize, Why)> for QueryBad {
 
     ghost from_gives = { λ fault e. e ≡ bad.At fault.0 fault.1 };
 
+    /// A fault with its index.
     fn from(fault: (usize, Why)) -> QueryBad {
         let (index, why) = fault;
         QueryBad::At { index, why }

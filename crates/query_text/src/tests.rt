@@ -16,6 +16,7 @@ impl<'a> Pieces<'a> for Listed<'a> {
 
     ghost left = { λ listed. map (λ piece. piece.now) (drop listed.at listed.options.now) };
 
+    /// The next option of the slice.
     fn next(&mut self) -> Option<&'a [u8]> {
         if self.at >= self.options.len() {
             return None;
@@ -458,6 +459,7 @@ lookup|;count=;page=1|0 Number
 lookup|;page=1;>|1 Utf8
 lookup|;page=1;=x|1 Name";
 
+/// What options are read as, by its word in a case.
 fn reading_of(word: &str) -> Option<Reading> {
     match word {
         "register" => Some(Reading::Register),
@@ -468,6 +470,7 @@ fn reading_of(word: &str) -> Option<Reading> {
     }
 }
 
+/// The reason that a word of a case names.
 fn why_of(word: &str) -> Option<Why> {
     match word {
         "NoEp" => Some(Why::NoEp),
@@ -498,6 +501,7 @@ fn wanted(text: &str) -> Option<Option<(usize, Why)>> {
     Some(Some((index, why)))
 }
 
+/// The octets that a text of a case writes.
 fn octets_of(alloc: Global, text: &str) -> Result<Vec<u8>, Starved> {
     let mut octets = Vec::new(alloc);
     for octet in text.as_bytes() {
@@ -510,6 +514,7 @@ fn octets_of(alloc: Global, text: &str) -> Result<Vec<u8>, Starved> {
     Ok(octets)
 }
 
+/// The options of a case, which semicolons part.
 fn options_of(alloc: Global, octets: &[u8]) -> Result<Vec<&[u8]>, Starved> {
     let mut options = Vec::new(alloc);
     for option in octets.split(|octet| *octet == b';').skip(1) {
@@ -518,6 +523,7 @@ fn options_of(alloc: Global, octets: &[u8]) -> Result<Vec<&[u8]>, Starved> {
     Ok(options)
 }
 
+/// Each case has its first fault.
 #[test]
 fn faults(rt: HostRuntime) -> Result<(), Fail> {
     let alloc = rt.alloc();
@@ -541,6 +547,7 @@ fn faults(rt: HostRuntime) -> Result<(), Fail> {
     Ok(())
 }
 
+/// What is read of options without a fault.
 #[test]
 fn values(rt: HostRuntime) -> Result<(), Fail> {
     let alloc = rt.alloc();

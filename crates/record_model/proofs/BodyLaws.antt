@@ -117,6 +117,7 @@ unfolding body_fault is_refused_as_links linked_references submitted_links
 body_fault-links body = read_links (document body) body
 
 -- and one of the limits exactly where it is refused as `limited`
+-- An end theorem: nothing here cites it.
 pub body_fault-limited : (body : List ℕ) → is_of_limits (body_fault body) ≡ is_refused_as_limited body
 unfolding body_fault is_refused_as_limited linked_references submitted_links
 body_fault-limited body = read_limits (document body) body

@@ -201,7 +201,7 @@ empty_host : is_host_and_port [] ≡ true
 unfolding before from_first
 empty_host = refl
 
-no_at_in_host : (text : List ℕ) → is_host_and_port text ≡ true → has_octet at_sign text ≡ false
+pub no_at_in_host : (text : List ℕ) → is_host_and_port text ≡ true → has_octet at_sign text ≡ false
 no_at_in_host text h = no_mark_in_host at_sign (record { name = refl; literal = refl; digit = refl; hexdigit = refl; percent = refl; colon_octet = refl; left = refl; right = refl }) text h
 
 no_at_in_userinfo : (text : List ℕ) → is_text_of is_userinfo_character text ≡ true → has_octet at_sign text ≡ false

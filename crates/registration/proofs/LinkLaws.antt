@@ -2,7 +2,7 @@
 use Rattle.std.proofs.Common.{◌≡◌, ℕ, ◌+◌, Bool, true, false, not, ◌||◌, List, [], ◌∷◌, length, map, Option, Some, None, option_map, Result, Ok, Err, refl, sym, subst, ap, ◌∙◌, arith, length-append}
 use Rattle.std.specs.Result.{IsErrAnd}
 use Rattle.record_model.specs.Bodies.{is_reference, is_uri}
-use Rattle.record_model.specs.BodyFaults.{placed_behind, anchor_place, link_references}
+use Rattle.record_model.specs.BodyFaults.{shifted, anchor_offset, link_references}
 use Rattle.link_model.specs.Characters.{greater_than_sign}
 use Rattle.link_model.specs.Documents.{Link, parameters_text}
 use Rattle.link_model.specs.Quoting.{anchor, attributes, pair_of, submitted_link}
@@ -10,18 +10,18 @@ use Rattle.record_model.specs.Records.{based, item_of}
 use Rattle.reference_model.specs.References.{IsReference, where_present}
 use Rattle.ref_resolve.specs.declared.splitting.Parts.{Parts}
 use Rattle.ref_resolve.specs.Seen.{components_of}
-use Rattle.registration.specs.Gathering.{placed_anchor, anchor_from, IsGathered}
-use Rattle.registration.specs.Reading.{AnchorReads, LinkReads, IsRead, first_bad, limited_by}
-use Rattle.registration.specs.Referring.{IsReferred}
+use Rattle.registration.specs.LinkParameters.{anchor_at_offset, anchor_from, IsGathered}
+use Rattle.registration.specs.Links.{AnchorReads, LinkReads, IsRead, first_bad, is_limited_as_referred}
+use Rattle.registration.specs.References.{IsReferred}
 use Rattle.registration.specs.declared.drafts.DraftFault.{DraftFault}
 use Rattle.registration.specs.declared.drafts.DraftFault.TheVariants as fault
-use Rattle.registration.specs.declared.gathering.Anchor.{Anchor}
-use Rattle.registration.specs.declared.gathering.Gathered.{Gathered}
-use Rattle.registration.specs.declared.reading.Read.{Read}
-use Rattle.registration.specs.declared.referring.Referred.{Referred}
-use Rattle.registration.proofs.FaultLaws.{bad_placed}
-use Rattle.registration.proofs.ReferLaws.{same_item}
-use Rattle.registration.proofs.GatherLaws.{placed_twice, anchor_said, all_anchor, all_raw, all_pairs, all_end}
+use Rattle.registration.specs.declared.link_parameters.Anchor.{Anchor}
+use Rattle.registration.specs.declared.link_parameters.Gathered.{Gathered}
+use Rattle.registration.specs.declared.links.Read.{Read}
+use Rattle.registration.specs.declared.references.Referred.{Referred}
+use Rattle.registration.proofs.FaultLaws.{bad_shifted}
+use Rattle.registration.proofs.ReferenceLaws.{same_item}
+use Rattle.registration.proofs.LinkParameterLaws.{shifted_twice, anchor_said, all_anchor, all_raw, all_pairs, all_end}
 use Rattle.rd_base.proofs.lemmas.Options.{map_none}
 
 -- a fault that is handed on
@@ -39,16 +39,16 @@ module _ (base : Parts) (start : ℕ) (l : Link) where
   target_bad e = rw e refl
 
   module _ (g : Gathered) (known : IsGathered (start + length l.target + 2) l.parameters [] g) (good : is_reference l.target ≡ true) where
-    -- behind a good target the first bad reference is the anchor, if it is one
-    anchor_alone : option_map (λ at. start + at) (first_bad (link_references l)) ≡ first_bad (placed_anchor g.anchor)
+    -- after a good target the first bad reference is the anchor, if it is one
+    anchor_alone : option_map (λ at. start + at) (first_bad (link_references l)) ≡ first_bad (anchor_at_offset g.anchor)
     anchor_alone =
-        let anchors = placed_behind (length l.target + 2) (anchor_place l.parameters) in
+        let anchors = shifted (length l.target + 2) (anchor_offset l.parameters) in
         let behind : first_bad (link_references l) ≡ first_bad anchors = rw good refl in
-        let place : start + (length l.target + 2) ≡ start + length l.target + 2 = omega arith in
-        ap (option_map (λ at. start + at)) behind ∙ sym (bad_placed start anchors) ∙ ap first_bad (placed_twice start (length l.target + 2) (anchor_place l.parameters))
-        ∙ ap (λ n. first_bad (placed_behind n (anchor_place l.parameters))) place ∙ ap first_bad (sym known.anchor) ∙ ap first_bad (ended g.anchor)
+        let offset : start + (length l.target + 2) ≡ start + length l.target + 2 = omega arith in
+        ap (option_map (λ at. start + at)) behind ∙ sym (bad_shifted start anchors) ∙ ap first_bad (shifted_twice start (length l.target + 2) (anchor_offset l.parameters))
+        ∙ ap (λ n. first_bad (shifted n (anchor_offset l.parameters))) offset ∙ ap first_bad (sym known.anchor) ∙ ap first_bad (ended g.anchor)
       where
-        ended : (o : Option Anchor) → anchor_from o g.end [] ≡ placed_anchor o
+        ended : (o : Option Anchor) → anchor_from o g.end [] ≡ anchor_at_offset o
         ended None = refl
         ended (Some a) = refl
 
@@ -56,13 +56,13 @@ module _ (base : Parts) (start : ℕ) (l : Link) where
     pub anchor_refused : (e : DraftFault) → AnchorReads base g.anchor (Err e) → LinkReads base start l (Err e)
     anchor_refused e h = by_anchor g.anchor anchor_alone e h
       where
-        by_anchor : (o : Option Anchor) → option_map (λ at. start + at) (first_bad (link_references l)) ≡ first_bad (placed_anchor o) → (e : DraftFault) → AnchorReads base o (Err e) → LinkReads base start l (Err e)
-        by_anchor None alone (fault.Links place) h = absurd h
-        by_anchor None alone (fault.Reference place) h = absurd h
+        by_anchor : (o : Option Anchor) → option_map (λ at. start + at) (first_bad (link_references l)) ≡ first_bad (anchor_at_offset o) → (e : DraftFault) → AnchorReads base o (Err e) → LinkReads base start l (Err e)
+        by_anchor None alone (fault.Links offset) h = absurd h
+        by_anchor None alone (fault.Reference offset) h = absurd h
         by_anchor None alone (fault.Limited link) h = absurd h
         by_anchor None alone fault.Starved h = tt
-        by_anchor (Some a) alone (fault.Links place) h = absurd h
-        by_anchor (Some a) alone (fault.Reference place) h = alone ∙ (rw h.1 (ap (λ (n : ℕ). Some n) (sym h.0)))
+        by_anchor (Some a) alone (fault.Links offset) h = absurd h
+        by_anchor (Some a) alone (fault.Reference offset) h = alone ∙ (rw h.1 (ap (λ (n : ℕ). Some n) (sym h.0)))
         by_anchor (Some a) alone (fault.Limited link) h = absurd h
         by_anchor (Some a) alone fault.Starved h = tt
 
@@ -71,7 +71,7 @@ module _ (base : Parts) (start : ℕ) (l : Link) where
     texts r = option_map (λ s. s.text) r
 
     -- where it is taken, the link has no bad reference
-    good_where : (o : Option Anchor) (r : Option Referred) → AnchorReads base o (Ok r) → first_bad (placed_anchor o) ≡ None
+    good_where : (o : Option Anchor) (r : Option Referred) → AnchorReads base o (Ok r) → first_bad (anchor_at_offset o) ≡ None
     good_where None None h = refl
     good_where None (Some s) h = absurd h
     good_where (Some a) None h = absurd h
@@ -89,7 +89,7 @@ module _ (base : Parts) (start : ℕ) (l : Link) where
     based_where (Some a) None h spelled s = absurd h
     based_where (Some a) (Some q) h spelled s = ap (λ (t : List ℕ). Some t) (h.text spelled s)
 
-    limited_where : (o : Option Anchor) (r : Option Referred) (t : Bool) → AnchorReads base o (Ok r) → is_uri l.target ≡ t → limited_by t r ≡ (is_uri l.target || where_present (λ a. not (is_uri a)) (anchor_said o))
+    limited_where : (o : Option Anchor) (r : Option Referred) (t : Bool) → AnchorReads base o (Ok r) → is_uri l.target ≡ t → is_limited_as_referred t r ≡ (is_uri l.target || where_present (λ a. not (is_uri a)) (anchor_said o))
     limited_where None None t h e = sym (or_true (is_uri l.target))
     limited_where None (Some q) t h e = absurd h
     limited_where (Some a) None t h e = absurd h
@@ -98,7 +98,7 @@ module _ (base : Parts) (start : ℕ) (l : Link) where
     -- a link whose target and anchor are taken
     pub link_read : (t : Referred) (r : Option Referred) (read : Read) → IsReferred base l.target t → AnchorReads base g.anchor (Ok r)
         → read.item.target_ref ≡ l.target → read.item.anchor_ref ≡ anchor_said g.anchor → read.item.target ≡ t.text → read.item.anchor ≡ texts r → read.item.raw ≡ g.raw → read.item.pairs ≡ g.pairs.items
-        → read.is_limited ≡ limited_by t.has_scheme r → read.end ≡ g.end → IsRead base start l read
+        → read.is_limited ≡ is_limited_as_referred t.has_scheme r → read.end ≡ g.end → IsRead base start l read
     unfolding submitted_link item_of
     link_read t r read target h target_ref anchor_ref target_text anchor_text raw pairs limited end =
         let said : anchor_said g.anchor ≡ anchor l = all_anchor (start + length l.target + 2) l.parameters g known in

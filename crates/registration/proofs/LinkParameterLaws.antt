@@ -1,33 +1,24 @@
 -- What one parameter adds to what is gathered, and what all of them say.
 use Rattle.std.proofs.Common.{◌≡◌, ℕ, ◌+◌, ◌<◌, ◌^◌, Bool, true, false, List, [], ◌∷◌, ◌++◌, length, map, find, Option, Some, None, option_map, refl, sym, ap, ◌∙◌, append_assoc, append-nil, arith, length-append}
 use Rattle.rd_base.specs.declared.attributes.Pair.{Pair}
-use Rattle.record_model.specs.BodyFaults.{Placed, placed_behind, quote_length, anchor_place}
+use Rattle.record_model.specs.BodyFaults.{TextAtOffset, shifted, quote_length, anchor_offset}
 use Rattle.link_model.specs.Documents.{Parameter, parameter_text, parameters_text}
 use Rattle.link_model.specs.Quoting.{value_of, is_anchor, pair_of}
-use Rattle.registration.specs.Gathering.{without_anchors, anchor_from, IsGathered}
-use Rattle.registration.specs.declared.gathering.Anchor.{Anchor}
-use Rattle.registration.specs.declared.gathering.Gathered.{Gathered}
+use Rattle.registration.specs.LinkParameters.{without_anchors, anchor_from, IsGathered}
+use Rattle.registration.specs.declared.link_parameters.Anchor.{Anchor}
+use Rattle.registration.specs.declared.link_parameters.Gathered.{Gathered}
 
--- places move twice
-pub placed_twice : (n m : ℕ) (rs : List Placed) → placed_behind n (placed_behind m rs) ≡ placed_behind (n + m) rs
-placed_twice n m [] = refl
-placed_twice n m (r ∷ rs) =
+-- offsets are shifted twice
+pub shifted_twice : (n m : ℕ) (rs : List TextAtOffset) → shifted n (shifted m rs) ≡ shifted (n + m) rs
+shifted_twice n m [] = refl
+shifted_twice n m (r ∷ rs) =
     let at : n + (m + r.0) ≡ n + m + r.0 = omega arith in
-    rw (at, placed_twice n m rs) refl
+    rw (at, shifted_twice n m rs) refl
 
 -- the end moves over a parameter
 end_moves : (start old new : ℕ) (all rest : List Parameter) (p : Parameter) → new ≡ old + length (parameter_text p) → old + length (parameters_text (p ∷ rest)) ≡ start + length (parameters_text all)
     → new + length (parameters_text rest) ≡ start + length (parameters_text all)
 end_moves start old new all rest p moved known = let joined = length-append (parameter_text p) (parameters_text rest) in omega (arith, moved, known, joined)
-
--- before the first parameter
-pub nothing_yet : (start : ℕ) (all : List Parameter) (g : Gathered) → g.anchor ≡ None → g.raw ≡ [] → g.pairs.items ≡ [] → g.end ≡ start → IsGathered start all all g
-nothing_yet start all g anchor raw pairs end = record {
-  anchor = ap (λ a. anchor_from a g.end all) anchor ∙ ap (λ n. placed_behind n (anchor_place all)) end;
-  raw = ap (λ (t : List ℕ). t ++ parameters_text (without_anchors all)) raw;
-  pairs = ap (λ (ps : List Pair). ps ++ map pair_of (without_anchors all)) pairs;
-  end = ap (λ n. n + length (parameters_text all)) end;
-}
 
 module _ (start : ℕ) (all rest : List Parameter) (p : Parameter) (old new : Gathered) (moved : new.end ≡ old.end + length (parameter_text p)) (known : IsGathered start all (p ∷ rest) old) where
   end_known : new.end + length (parameters_text rest) ≡ start + length (parameters_text all)
@@ -37,9 +28,9 @@ module _ (start : ℕ) (all rest : List Parameter) (p : Parameter) (old new : Ga
   pub takes_attribute : is_anchor p ≡ false → new.anchor ≡ old.anchor → new.raw ≡ old.raw ++ parameter_text p → new.pairs.items ≡ old.pairs.items ++ pair_of p ∷ [] → IsGathered start all rest new
   takes_attribute attribute anchor raw pairs =
       let kept : without_anchors (p ∷ rest) ≡ p ∷ without_anchors rest = rw attribute refl in
-      let place : anchor_place (p ∷ rest) ≡ placed_behind (length (parameter_text p)) (anchor_place rest) = rw attribute refl in
+      let offset : anchor_offset (p ∷ rest) ≡ shifted (length (parameter_text p)) (anchor_offset rest) = rw attribute refl in
       record {
-        anchor = ap (λ a. anchor_from a new.end rest) anchor ∙ still old.anchor place ∙ known.anchor;
+        anchor = ap (λ a. anchor_from a new.end rest) anchor ∙ still old.anchor offset ∙ known.anchor;
         raw = ap (λ (t : List ℕ). t ++ parameters_text (without_anchors rest)) raw ∙ append_assoc old.raw (parameter_text p) (parameters_text (without_anchors rest))
             ∙ ap (λ ps. old.raw ++ parameters_text ps) (sym kept) ∙ known.raw;
         pairs = ap (λ (ps : List Pair). ps ++ map pair_of (without_anchors rest)) pairs ∙ append_assoc old.pairs.items (pair_of p ∷ []) (map pair_of (without_anchors rest))
@@ -47,9 +38,9 @@ module _ (start : ℕ) (all rest : List Parameter) (p : Parameter) (old new : Ga
         end = end_known;
       }
     where
-      still : (a : Option Anchor) → anchor_place (p ∷ rest) ≡ placed_behind (length (parameter_text p)) (anchor_place rest) → anchor_from a new.end rest ≡ anchor_from a old.end (p ∷ rest)
-      still (Some a) place = refl
-      still None place = sym (ap (placed_behind old.end) place ∙ placed_twice old.end (length (parameter_text p)) (anchor_place rest) ∙ ap (λ n. placed_behind n (anchor_place rest)) (sym moved))
+      still : (a : Option Anchor) → anchor_offset (p ∷ rest) ≡ shifted (length (parameter_text p)) (anchor_offset rest) → anchor_from a new.end rest ≡ anchor_from a old.end (p ∷ rest)
+      still (Some a) offset = refl
+      still None offset = sym (ap (shifted old.end) offset ∙ shifted_twice old.end (length (parameter_text p)) (anchor_offset rest) ∙ ap (λ n. shifted n (anchor_offset rest)) (sym moved))
 
   -- an anchor does not
   module _ (named : is_anchor p ≡ true) (raw : new.raw ≡ old.raw) (pairs : new.pairs.items ≡ old.pairs.items) where
@@ -62,19 +53,19 @@ module _ (start : ℕ) (all rest : List Parameter) (p : Parameter) (old new : Ga
     pairs_known : new.pairs.items ++ map pair_of (without_anchors rest) ≡ map pair_of (without_anchors all)
     pairs_known = ap (λ (ps : List Pair). ps ++ map pair_of (without_anchors rest)) pairs ∙ ap (λ ps. old.pairs.items ++ map pair_of ps) (sym dropped) ∙ known.pairs
 
-    -- the first one is kept, with its place
-    pub takes_anchor : (a : Anchor) → old.anchor ≡ None → new.anchor ≡ Some a → a.place ≡ old.end + length p.name + 2 + quote_length p.value → a.text ≡ value_of p → IsGathered start all rest new
-    takes_anchor a none some place text =
-        let first : anchor_place (p ∷ rest) ≡ (length p.name + 2 + quote_length p.value, value_of p) ∷ [] = rw named refl in
-        let there : a.place ≡ old.end + (length p.name + 2 + quote_length p.value) = omega (arith, place) in
+    -- the first one is kept, with its offset
+    pub takes_anchor : (a : Anchor) → old.anchor ≡ None → new.anchor ≡ Some a → a.offset ≡ old.end + length p.name + 2 + quote_length p.value → a.text ≡ value_of p → IsGathered start all rest new
+    takes_anchor a none some offset text =
+        let first : anchor_offset (p ∷ rest) ≡ (length p.name + 2 + quote_length p.value, value_of p) ∷ [] = rw named refl in
+        let there : a.offset ≡ old.end + (length p.name + 2 + quote_length p.value) = omega (arith, offset) in
         record {
-          anchor = ap (λ b. anchor_from b new.end rest) some ∙ same a.place _ a.text _ there text ∙ sym (ap (λ b. anchor_from b old.end (p ∷ rest)) none ∙ ap (placed_behind old.end) first) ∙ known.anchor;
+          anchor = ap (λ b. anchor_from b new.end rest) some ∙ same a.offset _ a.text _ there text ∙ sym (ap (λ b. anchor_from b old.end (p ∷ rest)) none ∙ ap (shifted old.end) first) ∙ known.anchor;
           raw = raw_known;
           pairs = pairs_known;
           end = end_known;
         }
       where
-        one : ℕ → List ℕ → List Placed
+        one : ℕ → List ℕ → List TextAtOffset
         one n t = (n, t) ∷ []
 
         same : (n m : ℕ) (t u : List ℕ) → n ≡ m → t ≡ u → one n t ≡ one m u
@@ -95,11 +86,11 @@ module _ (start : ℕ) (all rest : List Parameter) (p : Parameter) (old new : Ga
 abbrev pub anchor_said : Option Anchor → Option (List ℕ)
 anchor_said anchor = option_map (λ a. a.text) anchor
 
--- the texts of placed texts
-abbrev said : List Placed → List (List ℕ)
+-- the texts of texts at offsets
+abbrev said : List TextAtOffset → List (List ℕ)
 said rs = map (λ r. r.1) rs
 
-said_placed : (n : ℕ) (rs : List Placed) → said (placed_behind n rs) ≡ said rs
+said_placed : (n : ℕ) (rs : List TextAtOffset) → said (shifted n rs) ≡ said rs
 said_placed n [] = refl
 said_placed n (r ∷ rs) = ap (λ (ts : List (List ℕ)). r.1 ∷ ts) (said_placed n rs)
 
@@ -114,14 +105,14 @@ listed_same None (Some t) h = cc
 listed_same (Some t) None h = cc
 listed_same (Some t) (Some u) h = cc
 
--- the anchor that has a place is the first parameter of the name
-said_anchor : (ps : List Parameter) → said (anchor_place ps) ≡ listed (option_map value_of (find is_anchor ps))
+-- the anchor that has a offset is the first parameter of the name
+said_anchor : (ps : List Parameter) → said (anchor_offset ps) ≡ listed (option_map value_of (find is_anchor ps))
 said_anchor [] = refl
 said_anchor (p ∷ ps) = by_name (is_anchor p) refl (said_anchor ps)
   where
-    by_name : (b : Bool) → is_anchor p ≡ b → said (anchor_place ps) ≡ listed (option_map value_of (find is_anchor ps)) → said (anchor_place (p ∷ ps)) ≡ listed (option_map value_of (find is_anchor (p ∷ ps)))
+    by_name : (b : Bool) → is_anchor p ≡ b → said (anchor_offset ps) ≡ listed (option_map value_of (find is_anchor ps)) → said (anchor_offset (p ∷ ps)) ≡ listed (option_map value_of (find is_anchor (p ∷ ps)))
     by_name true e more = rw e refl
-    by_name false e more = rw e (said_placed (length (parameter_text p)) (anchor_place ps) ∙ more)
+    by_name false e more = rw e (said_placed (length (parameter_text p)) (anchor_offset ps) ∙ more)
 
 said_placed_anchor : (o : Option Anchor) (n : ℕ) → said (anchor_from o n []) ≡ listed (anchor_said o)
 said_placed_anchor None n = refl
@@ -129,7 +120,7 @@ said_placed_anchor (Some a) n = refl
 
 module _ (start : ℕ) (all : List Parameter) (g : Gathered) (known : IsGathered start all [] g) where
   pub all_anchor : anchor_said g.anchor ≡ option_map value_of (find is_anchor all)
-  all_anchor = listed_same _ _ (sym (said_placed_anchor g.anchor g.end) ∙ ap said known.anchor ∙ said_placed start (anchor_place all) ∙ said_anchor all)
+  all_anchor = listed_same _ _ (sym (said_placed_anchor g.anchor g.end) ∙ ap said known.anchor ∙ said_placed start (anchor_offset all) ∙ said_anchor all)
 
   pub all_raw : g.raw ≡ parameters_text (without_anchors all)
   all_raw = sym (append-nil g.raw) ∙ known.raw

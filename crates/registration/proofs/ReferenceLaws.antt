@@ -10,7 +10,7 @@ use Rattle.record_model.specs.Records.{based, rebased}
 use Rattle.ref_resolve.specs.declared.splitting.Parts.{Parts}
 use Rattle.ref_resolve.specs.Seen.{components_of}
 use Rattle.registration.specs.Drafts.{IsBasis, has_references}
-use Rattle.registration.specs.Rebasing.{IsBased, AreBased, IsRebased}
+use Rattle.registration.specs.OtherBases.{IsBased, AreBased, IsRebased}
 use Rattle.registration.proofs.PeerBases.{is_base-base_of}
 use Rattle.reference_model.proofs.ReferenceLaws.{reference_found}
 use Rattle.reference_model.proofs.ReferenceReading.{reference_only}

@@ -1,11 +1,11 @@
-// What the parameters of a link say: its anchor, and its attributes (RFC 6690 sections 2 and 3).
+//! What the parameters of a link say: its anchor, and its attributes (RFC 6690 sections 2 and 3).
 ghost use Rattle.std.specs.Prelude.{◌≡◌, ◌<◌, ◌+◌, ◌^◌, ◌∷◌, ℕ, List, [], length, option_map, IfOk, OnOk};
 ghost use Rattle.record_model.specs.BodyFaults as faults;
 ghost use Rattle.link_model.specs.Documents.{Parameter, parameter_text, parameters_text};
 ghost use Rattle.link_model.specs.Quoting as quoting;
 ghost use Rattle.link_format.specs.Left.{parameters_in};
 ghost use Rattle.link_format.specs.Views.{parameter_seen};
-ghost use Rattle.registration.specs.Gathering.{IsGathered};
+ghost use Rattle.registration.specs.LinkParameters.{IsGathered};
 
 use link_format::{LinkRef, Param, params, value_of};
 use rd_base::{Pair, Starved, Text};
@@ -14,8 +14,8 @@ use std::alloc::Global;
 /// An anchor as it was submitted.
 #[derive(Debug, Drop)]
 pub struct Anchor {
-    /// Where its text begins in the body, behind its quote where it has one, in octets.
-    pub place: usize,
+    /// Where its text begins in the body, after its quote where it has one, in octets.
+    pub offset: usize,
     /// Its text, without quotes and escapes.
     pub text: Text,
 }
@@ -102,9 +102,9 @@ impl Gathered {
         if self.anchor.is_some() {
             return Ok(());
         }
-        let place = start + param.name.len() + 2 + quote_length(param.value);
+        let offset = start + param.name.len() + 2 + quote_length(param.value);
         let text = value_of(alloc, param)?;
-        self.anchor = Some(Anchor { place, text });
+        self.anchor = Some(Anchor { offset, text });
         Ok(())
     }
 }

@@ -1,12 +1,12 @@
-// Links of a document, one after the other, against the base of a registration.
+//! Links of a document, one after another, against the base of a registration.
 ghost use Rattle.std.specs.Prelude.{◌≡◌, ◌<◌, ◌+◌, ◌≤◌, ◌^◌, length, option_map};
 ghost use Rattle.link_model.specs.Documents.{link_text};
 ghost use Rattle.link_format.specs.Views.{link_seen};
-ghost use Rattle.registration.specs.Reading.{AnchorReads, LinkReads, Reads, limited_by, noted, room_of};
+ghost use Rattle.registration.specs.Links.{AnchorReads, LinkReads, Reads, is_limited_as_referred, noted, room_of};
 
 use crate::drafts::DraftFault;
-use crate::gathering::{Anchor, Gathered, gather};
-use crate::referring::{Referred, refer};
+use crate::link_parameters::{Anchor, Gathered, gather};
+use crate::references::{Referred, refer};
 use link_format::{LinkRef, Links};
 use rd_base::{Item, Items, Pairs, Starved, Text};
 use ref_resolve::Parts;
@@ -35,14 +35,14 @@ fn refer_anchor(
         return Ok(None);
     };
     match refer(alloc, base, anchor.text.as_str())? {
-        None => Err(DraftFault::Reference(anchor.place)),
+        None => Err(DraftFault::Reference(anchor.offset)),
         Some(referred) => Ok(Some(referred)),
     }
 }
 
 /// Whether a link is in the Limited Link Format: a target without a scheme has no anchor with one (RFC 9176 appendix C).
 fn is_limited(target: &Referred, anchor: &Option<Referred>) -> bool
-    ensures { result ≡ limited_by target.now.has_scheme anchor.now }
+    ensures { result ≡ is_limited_as_referred target.now.has_scheme anchor.now }
 {
     match anchor {
         None => true,
@@ -102,7 +102,7 @@ fn read_link(
     })
 }
 
-/// The place of the first link that is not limited, where one link more is read.
+/// The index of the first link that is not limited, where one link more is read.
 fn noted(unlimited: Option<usize>, is_limited: bool, index: usize) -> Option<usize>
     ensures { result ≡ noted index is_limited unlimited }
 {

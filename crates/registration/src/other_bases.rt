@@ -1,13 +1,13 @@
-// Links against another base (RFC 9176 section 5.3.1).
+//! Links against another base (RFC 9176 section 5.3.1).
 ghost use Rattle.std.specs.Prelude.{◌≡◌, true, map, IfOk};
 ghost use Rattle.std.specs.List.{list_all};
 ghost use Rattle.record_model.specs.Bodies.{is_reference};
 ghost use Rattle.reference_model.specs.References.{where_present};
 ghost use Rattle.record_model.specs.Records as records;
 ghost use Rattle.registration.specs.Drafts.{IsBasis, has_references};
-ghost use Rattle.registration.specs.Rebasing.{AreBased, IsBased, IsRebased};
+ghost use Rattle.registration.specs.OtherBases.{AreBased, IsBased, IsRebased};
 
-use crate::referring::refer;
+use crate::references::refer;
 use rd_base::{Item, Items, Pair, Pairs, Starved, Text};
 use ref_resolve::{Parts, parts};
 use std::alloc::Global;
@@ -47,7 +47,7 @@ fn refer_again(alloc: Global, base: &Parts<'_>, text: &Text) -> Result<Text, Sta
 }
 
 /// A reference against a base, where there is one.
-fn refer_given(
+fn refer_where_present(
     alloc: Global,
     base: &Parts<'_>,
     text: &Option<Text>,
@@ -67,7 +67,7 @@ fn rebased_item(alloc: Global, base: &Parts<'_>, item: &Item) -> Result<Item, St
     ensures { IfOk result (λ new. IsRebased base.now item.now new) }
 {
     let target = refer_again(alloc, base, &item.target_ref)?;
-    let anchor = refer_given(alloc, base, &item.anchor_ref)?;
+    let anchor = refer_where_present(alloc, base, &item.anchor_ref)?;
     let target_ref = Text::copy_of(alloc, item.target_ref.as_str())?;
     let anchor_ref = copy_of(alloc, &item.anchor_ref)?;
     let raw = Text::copy_of(alloc, item.raw.as_str())?;
@@ -84,7 +84,7 @@ fn rebased_item(alloc: Global, base: &Parts<'_>, item: &Item) -> Result<Item, St
 
 /// The links against another base: each target and anchor as it was submitted, resolved anew where it has no scheme. The
 /// links are such as [`build`](crate::build) gives, and the base is one that may be given, or that of a peer. An error is
-/// want of memory.
+/// running out of memory.
 pub fn rebased(alloc: Global, items: &Items, base: &Text) -> Result<Items, Starved>
     requires references { list_all has_references items.now ≡ true }
     requires base { IsBasis base.now }

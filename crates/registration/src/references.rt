@@ -1,6 +1,6 @@
-// A reference of a link against the base of its registration (RFC 3986 section 5.2).
+//! A reference of a link against the base of its registration (RFC 3986 section 5.2).
 ghost use Rattle.std.specs.Prelude.{◌≡◌};
-ghost use Rattle.registration.specs.Referring.{Refers};
+ghost use Rattle.registration.specs.References.{Refers};
 
 use rd_base::{Starved, Text};
 use ref_resolve::{Parts, is_uri, parts, resolve};

@@ -1,11 +1,11 @@
-// What a draft weighs: the octets of the lines that it gives, each with one more for a comma.
+//! What a draft weighs: the octets of the lines that it gives, each with one more for a comma.
 ghost use Rattle.std.specs.Prelude.{◌≡◌, ◌+◌, ◌<◌, length, flat_map, sum_by, decimal};
 ghost use Rattle.rd_base.specs.declared.moments.Moment.{Moment};
 ghost use Rattle.record_model.specs.ListingLines as listing_model;
 ghost use Rattle.record_model.specs.Matching as matching;
 ghost use Rattle.link_model.specs.Quoting.{escaped_character, quoted};
 ghost use Rattle.registration.specs.Drafts.{recorded};
-ghost use Rattle.registration.specs.Weighing.{capped};
+ghost use Rattle.registration.specs.Weights.{capped};
 
 use crate::drafts::Draft;
 use itoa::write_digits;
@@ -43,7 +43,7 @@ fn add_quoted(weight: u64, text: &str) -> u64
     sum
 }
 
-/// With a name of so many octets and a value in quotes: a semicolon stands before the name and an equals sign behind it.
+/// With a name of so many octets and a value in quotes: a semicolon stands before the name and an equals sign after it.
 fn add_attribute(weight: u64, name: &str, value: &str) -> u64
     ensures { result ≡ capped (weight + length (listing_model.quoted_attribute (record { name = name.now; value = value.now }))) }
 {

@@ -10,7 +10,7 @@ use Rattle.history_model.specs.Listing.{tag}
 use Rattle.history_model.specs.Refusals.{change_refusal}
 use Rattle.history_model.specs.Legal.{IsLegal}
 use Rattle.history_model.proofs.LegalLaws.{IsLegalFrom-nil, IsLegalFrom_push}
-use Rattle.history_model.proofs.OnLiterals.{history_on_literals}
+use Rattle.history_model.proofs.HistoryLiterals.{history_on_literals}
 use Rattle.history_model.proofs.Samples.{device, moved, registers, updates, removes, for_ten_minutes, two_links, registers_two, resources, by_lux, lux, live_numbers}
 
 -- a device registers: it is live under the first number, and weighs so much

@@ -9,7 +9,7 @@ use Rattle.history_model.specs.declared.entries.Entry.{Entry}
 use Rattle.history_model.specs.declared.refusals.Refusal.TheVariants as refusal
 use Rattle.history_model.specs.Replay.{State}
 use Rattle.history_model.specs.Refusals.{refusal_in, change_refusal}
-use Rattle.history_model.proofs.OnLiterals.{history_on_literals}
+use Rattle.history_model.proofs.HistoryLiterals.{history_on_literals}
 use Rattle.history_model.proofs.Samples.{device, registers, removes, registers_two}
 
 -- two entries below the limit one registration is accepted

@@ -4,7 +4,7 @@ use Rattle.std.specs.List.{concat}
 use Rattle.history_model.specs.declared.entries.Entry.{Entry}
 use Rattle.history_model.specs.declared.refusals.Refusal.TheVariants as refusal
 use Rattle.history_model.specs.Refusals.{change_refusal}
-use Rattle.history_model.proofs.OnLiterals.{history_on_literals}
+use Rattle.history_model.proofs.HistoryLiterals.{history_on_literals}
 use Rattle.history_model.proofs.Samples.{device, registers}
 
 -- a thousand links to a base of 200 octets

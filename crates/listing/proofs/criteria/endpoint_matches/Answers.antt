@@ -1,7 +1,7 @@
 use Rattle.std.proofs.Common.{◌≡◌, ◌∙◌, sym, true, refl, ap}
 use Rattle.record_model.specs.Matching.{matches_pairs}
 use Rattle.listing.proofs.EndpointLaws.{endpoint_by_parts}
-use Rattle.listing.proofs.matching.endpoint_matches.Goals as goal
+use Rattle.listing.proofs.criteria.endpoint_matches.Goals as goal
 
 pub returns-then-matches_own : goal.returns-then-matches_own
 returns-then-matches_own c =

@@ -1,6 +1,6 @@
 use Rattle.std.proofs.Common.{◌*◌, ◌^◌, ◌<◌, arith}
 use Rattle.std.proofs.lemmas.Nat.{mul-lt}
-use Rattle.listing.proofs.own.page_start.Goals as goal
+use Rattle.listing.proofs.own_links.page_start.Goals as goal
 
 pub overflow_mul-result : goal.overflow_mul-result
 overflow_mul-result c =

@@ -1,9 +1,9 @@
 use Rattle.std.proofs.Common.{◌≡◌, ◌∙◌, ◌+◌, ◌-◌, sym, true, arith}
 use Rattle.std.specs.Option.{option_copied}
 use Rattle.std.proofs.lemmas.List.{nil_from_length}
-use Rattle.listing.specs.Listed.{listed_of}
+use Rattle.listing.specs.ListedLinks.{listed_of}
 use Rattle.listing.proofs.StepLaws.{counts_link, front_stays, none_left, none_more, where_ok, writes_link}
-use Rattle.listing.proofs.showing.append_links.Goals as goal
+use Rattle.listing.proofs.parts.append_links.Goals as goal
 
 pub returns-then-to_write-eq0-clause-text : goal.returns-then-to_write-eq0-clause-text
 returns-then-to_write-eq0-clause-text c = none_more _ _ c.items.to_skip c.items.to_write _ c.if-to_write-eq0.true c.items.invariant.text

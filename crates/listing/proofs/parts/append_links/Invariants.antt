@@ -1,8 +1,8 @@
 use Rattle.std.proofs.Common.{◌≡◌, ◌≤◌, ◌++◌, ◌+◌, ◌-◌, ℕ, List, length, min}
 use Rattle.std.specs.Option.{option_copied}
-use Rattle.listing.specs.Appending.{appended, shown_lines}
-use Rattle.listing.specs.Listed.{listed_lines}
-use Rattle.listing.proofs.showing.append_links.Given as goal
+use Rattle.listing.specs.AppendedLines.{appended, shown_lines}
+use Rattle.listing.specs.ListedLinks.{listed_lines}
+use Rattle.listing.proofs.parts.append_links.Given as goal
 
 abbrev pub invariant-items : goal.invariant-items
 invariant-items l = record {

@@ -1,6 +1,6 @@
 use Rattle.std.proofs.Common.{◌∙◌, sym, arith}
 use Rattle.listing.proofs.StepLaws.{endpoint_cut, endpoint_none, endpoint_skipped, endpoint_written}
-use Rattle.listing.proofs.showing.append_listed_endpoint.Goals as goal
+use Rattle.listing.proofs.parts.append_listed_endpoint.Goals as goal
 
 pub returns-then-not-endpoint_listed-clause-text :
     goal.returns-then-not-endpoint_listed-clause-text

@@ -1,6 +1,6 @@
 use Rattle.std.proofs.Common.{◌≡◌, ◌≤◌, Some, length}
-use Rattle.listing.specs.Listed.{listed_lines}
-use Rattle.listing.proofs.comparing.first_listed.Given as goal
+use Rattle.listing.specs.ListedLinks.{listed_lines}
+use Rattle.listing.proofs.same_parts.first_listed.Given as goal
 
 abbrev pub invariant-items : goal.invariant-items
 invariant-items l = record {

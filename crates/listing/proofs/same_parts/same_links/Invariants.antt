@@ -1,7 +1,7 @@
 use Rattle.std.proofs.Common.{◌≡◌, Some, length}
-use Rattle.listing.specs.Comparing.{same_lines}
-use Rattle.listing.specs.Listed.{listed_lines}
-use Rattle.listing.proofs.comparing.same_links.Given as goal
+use Rattle.listing.specs.SameParts.{same_lines}
+use Rattle.listing.specs.ListedLinks.{listed_lines}
+use Rattle.listing.proofs.same_parts.same_links.Given as goal
 
 abbrev pub invariant-items : goal.invariant-items
 invariant-items l =

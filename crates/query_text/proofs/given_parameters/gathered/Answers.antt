@@ -2,8 +2,8 @@
 use Rattle.std.proofs.Common.{sym, ap, ◌∙◌}
 use Rattle.query_text.specs.GivenParameters.{values_in}
 use Rattle.query_text.specs.Walks.{walk_past}
-use Rattle.query_text.proofs.Steps.{passed}
-use Rattle.query_text.proofs.Meeting.{of_parameters}
+use Rattle.query_text.proofs.WalkLaws.{passed}
+use Rattle.query_text.proofs.RuleLaws.{of_parameters}
 use Rattle.query_text.proofs.ParametersKept.{gathered_more, gathered_all}
 use Rattle.query_text.proofs.Results.{gathered_refused}
 use Rattle.query_text.proofs.given_parameters.gathered.Goals as goal

@@ -2,7 +2,7 @@
 use Rattle.std.proofs.Common.{sym, ap, ◌∙◌}
 use Rattle.query_text.specs.AskedOptions.{wanted_in}
 use Rattle.query_text.specs.Walks.{walk_past}
-use Rattle.query_text.proofs.Steps.{passed}
+use Rattle.query_text.proofs.WalkLaws.{passed}
 use Rattle.query_text.proofs.OptionsKept.{asked_more, asked_all}
 use Rattle.query_text.proofs.LookupResults.{of_lookup, asked_refused}
 use Rattle.query_text.proofs.lookups.all_asked.Goals as goal

@@ -1,6 +1,6 @@
 -- By whether the octets are text.
 use Rattle.std.proofs.Common.{Some, None, sym, ◌∙◌}
-use Rattle.query_text.proofs.Judged.{bad_text, good_text}
+use Rattle.query_text.proofs.OctetFaults.{bad_text, good_text}
 use Rattle.query_text.proofs.rules.judged.Goals as goal
 
 pub returns-in_default-clause-fault : goal.returns-in_default-clause-fault

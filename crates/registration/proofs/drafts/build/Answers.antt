@@ -1,6 +1,6 @@
 use Rattle.record_model.specs.Bodies.{linked_references}
 use Rattle.registration.proofs.LinksLaws.{drafts, records}
-use Rattle.registration.proofs.building.build.Goals as goal
+use Rattle.registration.proofs.drafts.build.Goals as goal
 
 pub returns-clause-draft : goal.returns-clause-draft
 returns-clause-draft c =

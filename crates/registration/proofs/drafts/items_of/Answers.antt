@@ -1,8 +1,8 @@
 use Rattle.std.proofs.Common.{ℕ, Some, sym, ap, ◌∙◌, arith}
 use Rattle.record_model.specs.BodyFaults.{no_document}
-use Rattle.registration.proofs.ReferLaws.{base_reads}
+use Rattle.registration.proofs.ReferenceLaws.{base_reads}
 use Rattle.registration.proofs.LinksLaws.{document_room, fault_of_no_document, body_reads}
-use Rattle.registration.proofs.building.items_of.Goals as goal
+use Rattle.registration.proofs.drafts.items_of.Goals as goal
 
 pub unreachable-requires : goal.unreachable-requires
 unreachable-requires c = base_reads c.args.base.now c.requires (λ k h. c.in_default.ensures.only k h)

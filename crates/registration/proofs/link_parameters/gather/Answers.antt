@@ -2,9 +2,9 @@ use Rattle.std.proofs.Common.{List, subst}
 use Rattle.link_model.specs.Documents.{Parameter}
 use Rattle.link_format.specs.Left.{parameters_in}
 use Rattle.link_format.specs.Views.{parameter_seen}
-use Rattle.registration.specs.Gathering.{IsGathered}
-use Rattle.registration.proofs.GatherLaws.{fits_here}
-use Rattle.registration.proofs.gathering.gather.Goals as goal
+use Rattle.registration.specs.LinkParameters.{IsGathered}
+use Rattle.registration.proofs.LinkParameterLaws.{fits_here}
+use Rattle.registration.proofs.link_parameters.gather.Goals as goal
 
 pub keep-requires : goal.keep-requires
 keep-requires c = fits_here c.args.start c.parameters.gathered.end (parameters_in c.args.link.now.params.now) c.parameters.left c.next.new.self (parameter_seen c.in-Some.param) c.in-Some.ensures.steps c.parameters.invariant.end c.requires

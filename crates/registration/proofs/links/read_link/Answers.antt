@@ -1,8 +1,8 @@
 use Rattle.std.proofs.Common.{refl}
 use Rattle.link_format.specs.Views.{link_seen}
-use Rattle.registration.specs.Reading.{LinkReads}
-use Rattle.registration.proofs.ReadLaws.{err_at, anchor_refused, link_read}
-use Rattle.registration.proofs.reading.read_link.Goals as goal
+use Rattle.registration.specs.Links.{LinkReads}
+use Rattle.registration.proofs.LinkLaws.{err_at, anchor_refused, link_read}
+use Rattle.registration.proofs.links.read_link.Goals as goal
 
 pub returns-in_err-anchor : goal.returns-in_err-anchor
 returns-in_err-anchor c =

@@ -7,11 +7,11 @@ use Rattle.link_model.specs.Quoting.{submitted_link}
 use Rattle.record_model.specs.Records.{items_of, item_of}
 use Rattle.link_format.specs.Views.{link_seen}
 use Rattle.registration.specs.Drafts.{has_references}
-use Rattle.registration.specs.Reading.{Reads, fault_from}
+use Rattle.registration.specs.Links.{Reads, fault_from}
 use Rattle.registration.proofs.FaultLaws.{fault_later}
-use Rattle.registration.proofs.ReadLaws.{err_at}
+use Rattle.registration.proofs.LinkLaws.{err_at}
 use Rattle.registration.proofs.LinksLaws.{links_refused, one_more, all_more, room_behind, fault_at_end}
-use Rattle.registration.proofs.reading.read_links.Goals as goal
+use Rattle.registration.proofs.links.read_links.Goals as goal
 
 pub returns-in_err-read : goal.returns-in_err-read
 returns-in_err-read c =

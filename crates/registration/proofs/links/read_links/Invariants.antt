@@ -5,8 +5,8 @@ use Rattle.record_model.specs.Records.{items_of}
 use Rattle.reference_model.specs.References.{IsReference}
 use Rattle.ref_resolve.specs.Seen.{components_of}
 use Rattle.registration.specs.Drafts.{has_references}
-use Rattle.registration.specs.Reading.{fault_from, room_of}
-use Rattle.registration.proofs.reading.read_links.Given as goal
+use Rattle.registration.specs.Links.{fault_from, room_of}
+use Rattle.registration.proofs.links.read_links.Given as goal
 
 abbrev pub invariant-links : goal.invariant-links
 invariant-links l = record {

@@ -4,7 +4,7 @@ use Rattle.record_model.specs.Records.{rebased}
 use Rattle.reference_model.specs.References.{IsReference}
 use Rattle.ref_resolve.specs.Seen.{components_of}
 use Rattle.registration.specs.Drafts.{has_references}
-use Rattle.registration.proofs.rebasing.rebased.Given as goal
+use Rattle.registration.proofs.other_bases.rebased.Given as goal
 
 abbrev pub invariant-items : goal.invariant-items
 invariant-items l = record {

@@ -1,6 +1,6 @@
 use Rattle.std.proofs.Common.{◌∙◌}
-use Rattle.registration.proofs.ReferLaws.{is_rebased}
-use Rattle.registration.proofs.rebasing.rebased_item.Goals as goal
+use Rattle.registration.proofs.ReferenceLaws.{is_rebased}
+use Rattle.registration.proofs.other_bases.rebased_item.Goals as goal
 
 pub returns : goal.returns
 returns c =

@@ -1,8 +1,8 @@
 use Rattle.std.proofs.Common.{◌≡◌, true, false, sym, ◌∙◌}
 use Rattle.record_model.specs.Bodies.{is_uri}
 use Rattle.ref_resolve.specs.Seen.{components_of}
-use Rattle.registration.proofs.ReferLaws.{reads, reads_uri, reads_not, stays, is_resolved}
-use Rattle.registration.proofs.referring.refer.Goals as goal
+use Rattle.registration.proofs.ReferenceLaws.{reads, reads_uri, reads_not, stays, is_resolved}
+use Rattle.registration.proofs.references.refer.Goals as goal
 
 pub returns-in_default : goal.returns-in_default
 returns-in_default c = reads_not c.args.text.now (λ k h. c.in_default.ensures.only k h)

@@ -1,6 +1,6 @@
 use Rattle.std.proofs.Common.{arith}
 use Rattle.registration.proofs.WeightLaws.{endpoint_size}
-use Rattle.registration.proofs.weighing.add_endpoint.Goals as goal
+use Rattle.registration.proofs.weights.add_endpoint.Goals as goal
 
 pub returns : goal.returns
 returns c now =

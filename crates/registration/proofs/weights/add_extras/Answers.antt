@@ -2,7 +2,7 @@ use Rattle.std.proofs.Common.{List, length, flat_map, ap, arith}
 use Rattle.std.proofs.lemmas.List.{drop_all}
 use Rattle.rd_base.specs.declared.attributes.Pair.{Pair}
 use Rattle.record_model.specs.ListingLines.{extra_attribute}
-use Rattle.registration.proofs.weighing.add_extras.Goals as goal
+use Rattle.registration.proofs.weights.add_extras.Goals as goal
 
 pub returns : goal.returns
 returns c =

@@ -1,7 +1,7 @@
 use Rattle.std.proofs.Common.{◌≡◌, ◌+◌, ◌<◌, ◌^◌, length, drop, flat_map}
 use Rattle.record_model.specs.ListingLines.{extra_attribute}
-use Rattle.registration.specs.Weighing.{capped}
-use Rattle.registration.proofs.weighing.add_extras.Given as goal
+use Rattle.registration.specs.Weights.{capped}
+use Rattle.registration.proofs.weights.add_extras.Given as goal
 
 abbrev pub invariant-pairs : goal.invariant-pairs
 invariant-pairs l = record {

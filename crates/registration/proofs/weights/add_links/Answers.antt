@@ -2,7 +2,7 @@ use Rattle.std.proofs.Common.{◌+◌, List, length, sum_by, ap, arith}
 use Rattle.std.proofs.lemmas.List.{drop_all}
 use Rattle.rd_base.specs.declared.records.Item.{Item}
 use Rattle.record_model.specs.ListingLines.{link_line}
-use Rattle.registration.proofs.weighing.add_links.Goals as goal
+use Rattle.registration.proofs.weights.add_links.Goals as goal
 
 pub returns : goal.returns
 returns c =

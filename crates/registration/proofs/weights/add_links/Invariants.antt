@@ -1,7 +1,7 @@
 use Rattle.std.proofs.Common.{◌≡◌, ◌+◌, ◌<◌, ◌^◌, length, drop, sum_by}
 use Rattle.record_model.specs.ListingLines.{link_line}
-use Rattle.registration.specs.Weighing.{capped}
-use Rattle.registration.proofs.weighing.add_links.Given as goal
+use Rattle.registration.specs.Weights.{capped}
+use Rattle.registration.proofs.weights.add_links.Given as goal
 
 abbrev pub invariant-items : goal.invariant-items
 invariant-items l = record {

@@ -2,7 +2,7 @@ use Rattle.std.proofs.Common.{◌≡◌, List, ℕ, length, flat_map, ap, arith}
 use Rattle.std.proofs.lemmas.List.{drop_all}
 use Rattle.link_model.specs.Quoting.{escaped_character}
 use Rattle.registration.proofs.WeightLaws.{quoted_size}
-use Rattle.registration.proofs.weighing.add_quoted.Goals as goal
+use Rattle.registration.proofs.weights.add_quoted.Goals as goal
 
 pub returns : goal.returns
 returns c =

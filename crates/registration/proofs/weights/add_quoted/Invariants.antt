@@ -1,7 +1,7 @@
 use Rattle.std.proofs.Common.{◌≡◌, ◌+◌, ◌<◌, ◌^◌, length, drop, flat_map}
 use Rattle.link_model.specs.Quoting.{escaped_character}
-use Rattle.registration.specs.Weighing.{capped}
-use Rattle.registration.proofs.weighing.add_quoted.Given as goal
+use Rattle.registration.specs.Weights.{capped}
+use Rattle.registration.proofs.weights.add_quoted.Given as goal
 
 abbrev pub invariant-octets : goal.invariant-octets
 invariant-octets l = record {

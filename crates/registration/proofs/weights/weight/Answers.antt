@@ -1,6 +1,6 @@
 use Rattle.std.proofs.Common.{arith}
 use Rattle.registration.proofs.WeightLaws.{weight_parts}
-use Rattle.registration.proofs.weighing.weight.Goals as goal
+use Rattle.registration.proofs.weights.weight.Goals as goal
 
 pub returns : goal.returns
 returns c now =

@@ -1,6 +1,6 @@
 -- The option that was read, and what it is refused for.
 use Rattle.std.proofs.Common.{Some, None, sym, ◌∙◌}
-use Rattle.query_text.proofs.Steps.{ended, refused}
+use Rattle.query_text.proofs.WalkLaws.{ended, refused}
 use Rattle.query_text.proofs.walks.Walk.step.Goals as goal
 
 pub returns-in-Some-missing-clause-step : goal.returns-in-Some-missing-clause-step

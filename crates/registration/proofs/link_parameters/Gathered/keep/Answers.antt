@@ -1,8 +1,8 @@
 use Rattle.std.proofs.Common.{◌+◌, ◌++◌, ◌∷◌, [], ℕ, List, length, refl, sym, ap, ◌∙◌}
 use Rattle.rd_base.specs.declared.attributes.Pair.{Pair}
 use Rattle.link_format.specs.Views.{parameter_seen}
-use Rattle.registration.proofs.GatherLaws.{takes_attribute}
-use Rattle.registration.proofs.gathering.Gathered.keep.Goals as goal
+use Rattle.registration.proofs.LinkParameterLaws.{takes_attribute}
+use Rattle.registration.proofs.link_parameters.Gathered.keep.Goals as goal
 
 pub returns-then-not-is_anchor : goal.returns-then-not-is_anchor
 returns-then-not-is_anchor c start all rest known =

@@ -79,25 +79,25 @@ same_page : (others : List (List ℕ)) → missing_after reading.Lookup (occurre
 unfolding missing_after
 same_page others = refl
 
-behind : (kind : Reading) (judge : List (List ℕ) → List ℕ → Option Why) (at_end : List (List ℕ) → Option Why)
+same_faults_after : (kind : Reading) (judge : List (List ℕ) → List ℕ → Option Why) (at_end : List (List ℕ) → Option Why)
     → ((others : List (List ℕ)) (query : List ℕ) → fault_after kind (occurred_of others) query ≡ judge others query)
     → ((others : List (List ℕ)) → missing_after kind (occurred_of others) ≡ at_end others)
     → (others queries : List (List ℕ)) → faults_from (walk_of kind others) queries ≡ first_fault_after judge at_end others queries
 unfolding faults_from
-behind kind judge at_end h k others [] = ap (at_index (length others)) (k others)
-behind kind judge at_end h k others (query ∷ queries) =
+same_faults_after kind judge at_end h k others [] = ap (at_index (length others)) (k others)
+same_faults_after kind judge at_end h k others (query ∷ queries) =
     ap (λ (o : Option Why). or_else (at_index (length others) o) (faults_from (walk_past (walk_of kind others) query) queries)) (h others query)
     ∙ ap (λ (o : Option Fault). or_else (at_index (length others) (judge others query)) o)
-    (ap (λ w. faults_from w queries) (one_more kind others query) ∙ behind kind judge at_end h k (query ∷ others) queries)
+    (ap (λ w. faults_from w queries) (one_more kind others query) ∙ same_faults_after kind judge at_end h k (query ∷ others) queries)
 
 pub of_parameters : (kind : Reading) → is_lookup kind ≡ false → (queries : List (List ℕ)) → faults_from (start_of kind) queries ≡ parameters_fault kind queries
 unfolding parameters_fault
-of_parameters kind h queries = behind kind (parameter_fault kind) (missing_fault kind) (λ others query. same_parameter others query kind h) (same_missing kind h) [] queries
+of_parameters kind h queries = same_faults_after kind (parameter_fault kind) (missing_fault kind) (λ others query. same_parameter others query kind h) (same_missing kind h) [] queries
 
 -- the first fault of all options
 pub same_fault : (kind : Reading) (queries : List (List ℕ)) → faults_from (start_of kind) queries ≡ fault_of kind queries
 unfolding fault_of lookup_fault
-same_fault reading.Lookup queries = behind reading.Lookup option_fault page_fault same_option same_page [] queries
+same_fault reading.Lookup queries = same_faults_after reading.Lookup option_fault page_fault same_option same_page [] queries
 same_fault reading.Register queries = of_parameters reading.Register refl queries
 same_fault reading.Simple queries = of_parameters reading.Simple refl queries
 same_fault reading.Update queries = of_parameters reading.Update refl queries
