@@ -15,7 +15,7 @@ use Rattle.history_model.specs.declared.entries.Entry.{Entry}
 use Rattle.history_model.specs.Leases.{lapse, is_live_at, live_among}
 use Rattle.history_model.specs.Names.{is_same_sector, is_same_name}
 use Rattle.history_model.specs.Replay.{State, is_numbered, is_live_named, number_named, with_changed, registered_under, changed, apply}
-use Rattle.history_model.specs.Refusals.{max_entries, has_number, is_gone, is_full_of_records, is_full_of_text, text_behind, refusal_in}
+use Rattle.history_model.specs.Refusals.{max_entries, has_number, is_gone, is_full_of_records, is_full_of_text, text_after, refusal_in}
 use Rattle.rd_base.proofs.lemmas.Pairs.{PairsByRecursion}
 use Rattle.rd_base.proofs.lemmas.Each.{each_weaker}
 use Rattle.history_model.proofs.NumberLaws.{IsBelow, HasRisingNumbers}
@@ -28,7 +28,7 @@ is_same_sector-Decides None (Some b) = (λ e. absurd (false≢true e), λ e. abs
 is_same_sector-Decides (Some a) None = (λ e. absurd (false≢true e), λ e. absurd cc)
 is_same_sector-Decides (Some a) (Some b) = (λ e. ap (λ s. Some s) ((bytes_eq-Decides a b).0 e), λ e. (bytes_eq-Decides a b).1 (let same : a ≡ b = cc in same))
 
--- the test of names tells whether they are equal
+-- the test of names decides whether they are equal
 pub is_same_name-Decides : (a b : Name) → Decides (is_same_name a b) (a ≡ b)
 is_same_name-Decides a b = (
   λ e. let both = and_parts (bytes_eq a.ep b.ep) (is_same_sector a.sector b.sector) e in
@@ -51,7 +51,7 @@ is_live_before before moment r order live = let above : moment < lapse r = ltb-t
 pub record Accepted (state : State) (entries : ℕ) (entry : Entry) : Type 0 where
   pub there : is_gone (live_among entry.moment.0 state.records) entry.change ≡ false
   pub room : is_full_of_records (live_among entry.moment.0 state.records) entry.change ≡ false
-  pub text : is_full_of_text (text_behind state entry) entry.change ≡ false
+  pub text : is_full_of_text (text_after state entry) entry.change ≡ false
   pub counted : nat_le max_entries entries ≡ false
 
 none_of_four : {A : Type 0} (a b c d : Bool) (w x y z : A) → cond a (Some w) (cond b (Some x) (cond c (Some y) (cond d (Some z) None))) ≡ None → (a ≡ false) × (b ≡ false) × (c ≡ false) × (d ≡ false)
@@ -65,7 +65,7 @@ pub accepted : (state : State) (entries : ℕ) (entry : Entry) → refusal_in st
 unfolding refusal_in
 accepted state entries entry e =
     let all = none_of_four (is_gone (live_among entry.moment.0 state.records) entry.change) (is_full_of_records (live_among entry.moment.0 state.records) entry.change)
-    (is_full_of_text (text_behind state entry) entry.change) (nat_le max_entries entries) _ _ _ _ e in
+    (is_full_of_text (text_after state entry) entry.change) (nat_le max_entries entries) _ _ _ _ e in
     record { there = all.0; room = all.1; text = all.2; counted = all.3 }
 
 -- ---- the record that an entry is about
@@ -166,10 +166,10 @@ unfolding updated
 updated_again number entry given records known = each_weaker _ (λ r. r.number ≡ number → Renews entry.moment.0 (updated entry.moment entry.peer given) r)
     (λ r live same. record { live = live same; number = refl; name = refl; granted = refl }) records known
 
--- what holds behind each kind of accepted change, holds behind an accepted entry
+-- what holds after each kind of accepted change, holds after an accepted entry
 pub by_accepted : (P : State → Type 0) (state : State) (entries : ℕ) (entry : Entry) → HasRisingNumbers state → Accepted state entries entry
     → ((number : ℕ) (new : Record → Record) → RenewsNumbered entry.moment.0 number new state.records → P (record state { records = with_changed number new state.records }))
-    → ((r : Record) → r.number ≡ state.drawn + 1 → r.granted.0 ≡ entry.moment.0 → NoneNamed entry.moment.0 r.name state.records → P (record { records = state.records ++ r ∷ []; drawn = state.drawn + 1 }))
+    → ((r : Record) → r.number ≡ state.last_number + 1 → r.granted.0 ≡ entry.moment.0 → NoneNamed entry.moment.0 r.name state.records → P (record { records = state.records ++ r ∷ []; last_number = state.last_number + 1 }))
     → ((number : ℕ) → P (record state { records = filter (λ r. not (is_numbered number r)) state.records }))
     → P (apply state entry)
 unfolding apply registered
@@ -178,7 +178,7 @@ by_accepted P state entries entry numbered accepts replaces appends removes = of
     of_number : (o : Option ℕ) (params : RegParams) (links : List SubmittedLink) → number_named params.name entry.moment.0 state.records ≡ o → P (registered_under o state entry.moment entry.peer params links)
     of_number (Some number) params links found = replaces number (λ r. registered number entry.moment entry.peer params links)
         (registered_again number entry params links state.records (named_numbered params.name entry.moment.0 number state.records numbered.ascending found))
-    of_number None params links found = appends (registered (state.drawn + 1) entry.moment entry.peer params links) refl refl (not_named params.name entry.moment.0 state.records found)
+    of_number None params links found = appends (registered (state.last_number + 1) entry.moment entry.peer params links) refl refl (not_named params.name entry.moment.0 state.records found)
 
     of_change : (c : Change) → is_gone (live_among entry.moment.0 state.records) c ≡ false → P (changed state entry.moment entry.peer c)
     of_change (change.Register params links) there = of_number (number_named params.name entry.moment.0 state.records) params links refl

@@ -41,13 +41,14 @@ by_legal_pushes first P none push = by_pushes (λ h. IsLegalFrom first h → P h
     (λ h e holds legal. let before : IsLegalFrom first h = IsLegalFrom-append first h (e ∷ []) legal in push h e before (IsLegalFrom_last first h e legal) (holds before))
 
 -- a front of a legal history ends no later
+-- An end theorem: nothing here cites it.
 pub last_moment-IsFront : (first : ℕ) (front history : List Entry) → IsFront front history → IsLegalFrom first history → last_moment front ≤ last_moment history
-last_moment-IsFront first front history begins legal = subst (λ h. last_moment front ≤ last_moment h) (begins.1) (behind begins.0 (subst (IsLegalFrom first) (sym (begins.1)) legal))
+last_moment-IsFront first front history begins legal = subst (λ h. last_moment front ≤ last_moment h) (begins.1) (extends begins.0 (subst (IsLegalFrom first) (sym (begins.1)) legal))
   where
-    Behind : List Entry → Type 0
-    Behind more = IsLegalFrom first (front ++ more) → last_moment front ≤ last_moment (front ++ more)
+    Extends : List Entry → Type 0
+    Extends more = IsLegalFrom first (front ++ more) → last_moment front ≤ last_moment (front ++ more)
 
-    push : (more : List Entry) (e : Entry) → Behind more → Behind (more ++ e ∷ [])
+    push : (more : List Entry) (e : Entry) → Extends more → Extends (more ++ e ∷ [])
     push more e before legal =
         let split : front ++ (more ++ e ∷ []) ≡ (front ++ more) ++ e ∷ [] = sym (append_assoc front more (e ∷ [])) in
         let whole : IsLegalFrom first ((front ++ more) ++ e ∷ []) = subst (IsLegalFrom first) split legal in
@@ -55,5 +56,5 @@ last_moment-IsFront first front history begins legal = subst (λ h. last_moment 
         let earlier = before (IsLegalFrom-append first (front ++ more) (e ∷ []) whole) in
         rw (split, last_moment_push (front ++ more) e) (omega (arith, order, earlier))
 
-    behind : (more : List Entry) → Behind more
-    behind more = by_pushes Behind (λ _. rw (append-nil front) (omega arith)) push more
+    extends : (more : List Entry) → Extends more
+    extends more = by_pushes Extends (λ _. rw (append-nil front) (omega arith)) push more

@@ -20,9 +20,9 @@ use Rattle.rd_base.proofs.lemmas.Each.{each_passes}
 use Rattle.rd_base.proofs.lemmas.Filters.{length-filter-le, sum_by-filter-le}
 use Rattle.history_model.proofs.ReplayLaws.{replay-nil, replay_push, last_moment_push}
 use Rattle.history_model.proofs.LegalLaws.{by_legal_pushes}
-use Rattle.history_model.proofs.NumberLaws.{HasRisingNumbers, replay-HasRisingNumbers, drawn-le-length}
+use Rattle.history_model.proofs.NumberLaws.{HasRisingNumbers, replay-HasRisingNumbers, last_number-le-length}
 use Rattle.history_model.proofs.Acceptance.{is_same_name-Decides, not_named, Accepted}
-use Rattle.history_model.proofs.NameLaws.{behind_change, next-Accepted}
+use Rattle.history_model.proofs.NameLaws.{after_change, next-Accepted}
 use Rattle.history_model.proofs.SweepLaws.{live_among_live, only_live-apply}
 
 -- so many records, of so much text, may be live
@@ -61,16 +61,16 @@ changed-IsBounded entry state live bounded (change.Register params links) room t
     of_number : (o : Option ℕ) → number_named params.name entry.moment.0 state.records ≡ o → nat_lt max_text (text_of (registered_under o state entry.moment entry.peer params links).records) ≡ false
         → IsBounded (registered_under o state entry.moment entry.peer params links).records
     of_number (Some number) found fits =
-        let same : length (map (behind_change number (λ r. registered number entry.moment entry.peer params links)) state.records) ≡ length state.records = length-map _ _ in
+        let same : length (map (after_change number (λ r. registered number entry.moment entry.peer params links)) state.records) ≡ length state.records = length-map _ _ in
         let count = bounded.count in
         record { count = omega (arith, same); text = ltb-false _ _ fits }
     of_number None found fits =
         let unnamed = no_name params.name entry.moment.0 state.records live (not_named params.name entry.moment.0 state.records found) in
         let below : length state.records < max_registrations = leb-false _ _ (has_room (nat_le max_registrations (length state.records)) (has_name params.name state.records) room unnamed) in
-        let more = length-append state.records (registered (state.drawn + 1) entry.moment entry.peer params links ∷ []) in
+        let more = length-append state.records (registered (state.last_number + 1) entry.moment entry.peer params links ∷ []) in
         record { count = omega (arith, more); text = ltb-false _ _ fits }
 changed-IsBounded entry state live bounded (change.Update number given) room text =
-    let same : length (map (behind_change number (updated entry.moment entry.peer given)) state.records) ≡ length state.records = length-map _ _ in
+    let same : length (map (after_change number (updated entry.moment entry.peer given)) state.records) ≡ length state.records = length-map _ _ in
     let count = bounded.count in
     record { count = omega (arith, same); text = ltb-false _ _ text }
 changed-IsBounded entry state live bounded (change.Remove number) room text = IsBounded-filter (λ r. not (is_numbered number r)) state.records bounded
@@ -104,5 +104,6 @@ length-le-max_entries first history low = by_legal_pushes first (λ h. first + l
     omega (arith, more)) history
 
 -- so no number is higher
-pub drawn-le-max_entries : (first : ℕ) (history : List Entry) → first ≤ max_entries → IsLegalFrom first history → (replay history).drawn ≤ max_entries
-drawn-le-max_entries first history low legal = let drawn = drawn-le-length history in let few = length-le-max_entries first history low legal in omega (arith, drawn, few)
+-- An end theorem: nothing here cites it.
+pub last_number-le-max_entries : (first : ℕ) (history : List Entry) → first ≤ max_entries → IsLegalFrom first history → (replay history).last_number ≤ max_entries
+last_number-le-max_entries first history low legal = let last = last_number-le-length history in let few = length-le-max_entries first history low legal in omega (arith, last, few)

@@ -5,7 +5,7 @@ use Rattle.std.proofs.lemmas.List.Sums.{sum_by-cons, sum_by-append}
 use Rattle.rd_base.specs.declared.queries.Query.{Query}
 use Rattle.rd_base.specs.declared.records.Record.{Record}
 use Rattle.record_model.specs.ListingLines.{part, weight}
-use Rattle.record_model.proofs.Weights.{room_of, length-shown, room_of-part}
+use Rattle.record_model.proofs.WeightLaws.{room_of, length-shown, room_of-part}
 use Rattle.history_model.specs.declared.entries.Entry.{Entry}
 use Rattle.history_model.specs.Live.{live, last_moment}
 use Rattle.history_model.specs.Listing.{numbered_part, lines_of, all_lines, listing}
@@ -42,6 +42,7 @@ length-listing query history moment =
     omega (arith, cut, all)
 
 -- so the listing of a legal history is bounded
+-- An end theorem: nothing here cites it.
 pub length-listing-le : (first : ℕ) (query : Query) (history : List Entry) (moment : ℕ) → IsLegalFrom first history → last_moment history ≤ moment → length (listing query history moment) ≤ max_text
 length-listing-le first query history moment legal order =
     let short = length-listing query history moment in

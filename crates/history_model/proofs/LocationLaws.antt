@@ -1,4 +1,4 @@
--- The number in the location of a registration: behind it, the live record of its name has that number.
+-- The number in the location of a registration: after it, the live record of its name has that number.
 use Rattle.std.proofs.Common.{◌≡◌, ℕ, ◌+◌, ◌<◌, Bool, true, false, cond, List, [], ◌∷◌, find, Option, Some, None, option_map, unwrap_or, refl, sym, ap, subst, ◌∙◌, arith, eq-eqb}
 use Rattle.std.proofs.lemmas.Bool.{true≢false, and_from}
 use Rattle.std.proofs.lemmas.List.Folds.{find-append}
@@ -34,7 +34,8 @@ changed_named name moment number new named (r ∷ rs) pairs e = by (is_live_name
     by true false eb en h more = let same : r.number ≡ number = cc in absurd (true≢false (sym (eq-eqb r.number number same) ∙ en))
     by false false eb en h more = rw eb (more h)
 
--- behind a registration the live record of its name has the number that it was to have
+-- after a registration the live record of its name has the number that it was to have
+-- An end theorem: nothing here cites it.
 pub number_named-apply : (state : State) (entry : Entry) (params : RegParams) (links : List SubmittedLink) → HasRisingNumbers state → entry.change ≡ change.Register params links → 0 < params.lt
     → number_named params.name entry.moment.0 (apply state entry).records ≡ Some (number_for params.name entry.moment.0 state)
 unfolding apply registered
@@ -43,10 +44,10 @@ number_named-apply state entry params links numbered same lasts =
     (of_number (number_named params.name entry.moment.0 state.records) refl)
   where
     of_number : (o : Option ℕ) → number_named params.name entry.moment.0 state.records ≡ o
-        → number_named params.name entry.moment.0 (registered_under o state entry.moment entry.peer params links).records ≡ Some (unwrap_or o (state.drawn + 1))
+        → number_named params.name entry.moment.0 (registered_under o state entry.moment entry.peer params links).records ≡ Some (unwrap_or o (state.last_number + 1))
     of_number (Some number) found = changed_named params.name entry.moment.0 number (λ r. registered number entry.moment entry.peer params links) (λ r. (registered_named number entry params links lasts, refl)) state.records numbered.ascending found
     of_number None found =
-        let new = registered (state.drawn + 1) entry.moment entry.peer params links in
+        let new = registered (state.last_number + 1) entry.moment entry.peer params links in
         let none = map_none _ (find (is_live_named params.name entry.moment.0) state.records) found in
-        let there = registered_named (state.drawn + 1) entry params links lasts in
+        let there = registered_named (state.last_number + 1) entry params links lasts in
         rw (find-append (is_live_named params.name entry.moment.0) state.records (new ∷ []), none, there) refl

@@ -27,14 +27,14 @@ next-Accepted first history entry next = accepted (replay history) (first + leng
 abbrev pub AreApart : ℕ → Record → Record → Type 0
 AreApart moment r other = r.name ≡ other.name → is_live_at moment r ≡ true → is_live_at moment other ≡ true → ⊥
 
--- a record behind a change of the one of a number
-abbrev pub behind_change : ℕ → (Record → Record) → Record → Record
-behind_change number new r = cond (is_numbered number r) (new r) r
+-- a record after a change of the one of a number
+abbrev pub after_change : ℕ → (Record → Record) → Record → Record
+after_change number new r = cond (is_numbered number r) (new r) r
 
 -- it has the name that it had, and is live only where it was
-pub behind_change_known : (moment number : ℕ) (new : Record → Record) (r : Record) → (r.number ≡ number → Renews moment new r)
-    → ((behind_change number new r).name ≡ r.name) × (is_live_at moment (behind_change number new r) ≡ true → is_live_at moment r ≡ true)
-behind_change_known moment number new r renews = by (is_numbered number r) refl
+pub after_change_known : (moment number : ℕ) (new : Record → Record) (r : Record) → (r.number ≡ number → Renews moment new r)
+    → ((after_change number new r).name ≡ r.name) × (is_live_at moment (after_change number new r) ≡ true → is_live_at moment r ≡ true)
+after_change_known moment number new r renews = by (is_numbered number r) refl
   where
     by : (b : Bool) → is_numbered number r ≡ b → ((cond b (new r) r).name ≡ r.name) × (is_live_at moment (cond b (new r) r) ≡ true → is_live_at moment r ≡ true)
     by true e = let known = renews (eqb-true r.number number e) in (known.name, λ _. known.live)
@@ -46,10 +46,10 @@ pub apply-AreApart : (state : State) (entries : ℕ) (entry : Entry) → HasRisi
 apply-AreApart state entries entry numbered accepts before =
     let moment = entry.moment.0 in
     by_accepted (λ after. PairsByRecursion (AreApart moment) after.records) state entries entry numbered accepts
-    (λ number new renews. pairs_map (λ r. r.number ≡ number → Renews moment new r) (AreApart moment) (AreApart moment) (behind_change number new)
+    (λ number new renews. pairs_map (λ r. r.number ≡ number → Renews moment new r) (AreApart moment) (AreApart moment) (after_change number new)
     (λ r other renews_r renews_other apart same live_r live_other.
-    let one = behind_change_known moment number new r renews_r in
-    let two = behind_change_known moment number new other renews_other in
+    let one = after_change_known moment number new r renews_r in
+    let two = after_change_known moment number new other renews_other in
     apart (sym (one.0) ∙ same ∙ two.0) (one.1 live_r) (two.1 live_other))
     state.records renews before)
     (λ r next granted none. pairs_push (AreApart moment) state.records r before
@@ -67,6 +67,7 @@ replay-AreApart first = by_legal_pushes first (λ h. PairsByRecursion (AreApart 
     (apply-AreApart (replay h) (first + length h) e (replay-HasRisingNumbers h) (next-Accepted first h e next) (apart_later (last_moment h) e.moment.0 (replay h).records next.in_time before)))
 
 -- the records that are live at a moment not below the last have distinct names
+-- An end theorem: nothing here cites it.
 pub live-HaveDistinctNames : (first : ℕ) (history : List Entry) (moment : ℕ) → IsLegalFrom first history → last_moment history ≤ moment → HaveDistinctNames (live history moment)
 unfolding live
 live-HaveDistinctNames first history moment legal order =
@@ -87,12 +88,12 @@ pub apply-IsGrantedBy : (state : State) (entry : Entry) → AllByRecursion (IsGr
 apply-IsGrantedBy state entry before =
     let moment = entry.moment.0 in
     by_change (λ after. AllByRecursion (IsGrantedBy moment) after.records) state entry
-    (λ number new keeps. each_map (IsGrantedBy moment) (behind_change number new) state.records
-    (each_weaker (IsGrantedBy moment) (λ r. IsGrantedBy moment (behind_change number new r)) (λ r by_then. granted_by moment number new keeps r by_then) state.records before))
+    (λ number new keeps. each_map (IsGrantedBy moment) (after_change number new) state.records
+    (each_weaker (IsGrantedBy moment) (λ r. IsGrantedBy moment (after_change number new r)) (λ r by_then. granted_by moment number new keeps r by_then) state.records before))
     (λ r next granted. each_push (IsGrantedBy moment) state.records r before (omega arith))
     (λ number. each_filter (IsGrantedBy moment) (λ r. not (is_numbered number r)) state.records before)
   where
-    granted_by : (moment number : ℕ) (new : Record → Record) → KeepsNumber moment number new → (r : Record) → IsGrantedBy moment r → IsGrantedBy moment (behind_change number new r)
+    granted_by : (moment number : ℕ) (new : Record → Record) → KeepsNumber moment number new → (r : Record) → IsGrantedBy moment r → IsGrantedBy moment (after_change number new r)
     granted_by moment number new keeps r by_then = by (is_numbered number r)
       where
         by : (b : Bool) → (cond b (new r) r).granted.0 ≤ moment

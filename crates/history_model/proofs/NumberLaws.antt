@@ -21,14 +21,14 @@ use Rattle.history_model.proofs.ReplayLaws.{KeepsNumber, replay-nil, replay_push
 abbrev pub IsBelow : Record → Record → Type 0
 IsBelow r other = r.number < other.number
 
--- the number was drawn
-abbrev pub IsDrawn : ℕ → Record → Type 0
-IsDrawn drawn r = (0 < r.number) × (r.number ≤ drawn)
+-- the number is above 0 and not above the last number
+abbrev pub IsNumberedUpTo : ℕ → Record → Type 0
+IsNumberedUpTo last_number r = (0 < r.number) × (r.number ≤ last_number)
 
--- the records stand in ascending number, and each number was drawn
+-- the records stand in ascending number, and none is above the last number
 pub record HasRisingNumbers (state : State) : Type 0 where
   pub ascending : PairsByRecursion IsBelow state.records
-  pub each_drawn : AllByRecursion (IsDrawn state.drawn) state.records
+  pub each_numbered : AllByRecursion (IsNumberedUpTo state.last_number) state.records
 
 replaced-HasRisingNumbers : (state : State) (moment number : ℕ) (new : Record → Record) → KeepsNumber moment number new → HasRisingNumbers state → HasRisingNumbers (record state { records = with_changed number new state.records })
 replaced-HasRisingNumbers state moment number new keeps before =
@@ -36,14 +36,14 @@ replaced-HasRisingNumbers state moment number new keeps before =
     let same : (r : Record) → (f r).number ≡ r.number = changed_number moment number new keeps in
     record {
       ascending = pairs_map (λ r. Unit {0}) IsBelow IsBelow f (λ r other _ _ below. let a = same r in let b = same other in omega arith) state.records (each_one (λ r. Unit {0}) (λ r. tt) state.records) before.ascending;
-      each_drawn = each_map (IsDrawn state.drawn) f state.records (each_weaker (IsDrawn state.drawn) (λ r. IsDrawn state.drawn (f r)) (λ r drawn. let a = same r in let low = drawn.0 in let high = drawn.1 in (omega arith, omega arith)) state.records before.each_drawn);
+      each_numbered = each_map (IsNumberedUpTo state.last_number) f state.records (each_weaker (IsNumberedUpTo state.last_number) (λ r. IsNumberedUpTo state.last_number (f r)) (λ r within. let a = same r in let low = within.0 in let high = within.1 in (omega arith, omega arith)) state.records before.each_numbered);
     }
 
-appended-HasRisingNumbers : (state : State) (r : Record) → r.number ≡ state.drawn + 1 → HasRisingNumbers state → HasRisingNumbers (record { records = state.records ++ r ∷ []; drawn = state.drawn + 1 })
+appended-HasRisingNumbers : (state : State) (r : Record) → r.number ≡ state.last_number + 1 → HasRisingNumbers state → HasRisingNumbers (record { records = state.records ++ r ∷ []; last_number = state.last_number + 1 })
 appended-HasRisingNumbers state r next before = record {
-  ascending = pairs_push IsBelow state.records r before.ascending (each_weaker (IsDrawn state.drawn) (λ other. IsBelow other r) (λ other drawn. let high = drawn.1 in omega arith) state.records before.each_drawn);
-  each_drawn = each_push (IsDrawn (state.drawn + 1)) state.records r
-      (each_weaker (IsDrawn state.drawn) (IsDrawn (state.drawn + 1)) (λ other drawn. let low = drawn.0 in let high = drawn.1 in (omega arith, omega arith)) state.records before.each_drawn)
+  ascending = pairs_push IsBelow state.records r before.ascending (each_weaker (IsNumberedUpTo state.last_number) (λ other. IsBelow other r) (λ other within. let high = within.1 in omega arith) state.records before.each_numbered);
+  each_numbered = each_push (IsNumberedUpTo (state.last_number + 1)) state.records r
+      (each_weaker (IsNumberedUpTo state.last_number) (IsNumberedUpTo (state.last_number + 1)) (λ other within. let low = within.0 in let high = within.1 in (omega arith, omega arith)) state.records before.each_numbered)
       (omega arith, omega arith);
 }
 
@@ -53,33 +53,35 @@ apply-HasRisingNumbers state entry before = by_change HasRisingNumbers state ent
     (λ r next _. appended-HasRisingNumbers state r next before)
     (λ number. record {
       ascending = pairs_filter IsBelow (λ r. not (is_numbered number r)) state.records before.ascending;
-      each_drawn = each_filter (IsDrawn state.drawn) (λ r. not (is_numbered number r)) state.records before.each_drawn;
+      each_numbered = each_filter (IsNumberedUpTo state.last_number) (λ r. not (is_numbered number r)) state.records before.each_numbered;
     })
 
--- the records of a history stand in ascending number, each number is above 0, and none is above the last that was drawn
+-- the records of a history stand in ascending number, each number is above 0, and none is above the last number
 pub replay-HasRisingNumbers : (history : List Entry) → HasRisingNumbers (replay history)
-replay-HasRisingNumbers history = by_pushes (λ h. HasRisingNumbers (replay h)) (rw replay-nil (record { ascending = tt; each_drawn = tt })) (λ h e before. subst HasRisingNumbers (sym (replay_push h e)) (apply-HasRisingNumbers (replay h) e before)) history
+replay-HasRisingNumbers history = by_pushes (λ h. HasRisingNumbers (replay h)) (rw replay-nil (record { ascending = tt; each_numbered = tt })) (λ h e before. subst HasRisingNumbers (sym (replay_push h e)) (apply-HasRisingNumbers (replay h) e before)) history
 
+-- An end theorem: nothing here cites it.
 pub replay-AreAscending : (history : List Entry) → AreAscending (replay history).records
 replay-AreAscending history = AllPairs-from_recursion IsBelow (replay history).records (replay-HasRisingNumbers history).ascending
 
+-- An end theorem: nothing here cites it.
 pub live-AreAscending : (history : List Entry) (moment : ℕ) → AreAscending (live history moment)
 unfolding live
 live-AreAscending history moment = AllPairs-from_recursion IsBelow (live_among moment (replay history).records) (pairs_filter IsBelow (is_live_at moment) (replay history).records (replay-HasRisingNumbers history).ascending)
 
--- ---- how many are drawn
+-- ---- how many there are
 
--- an entry draws one number at most
-pub apply-drawn : (state : State) (entry : Entry) → (state.drawn ≤ (apply state entry).drawn) × ((apply state entry).drawn ≤ state.drawn + 1)
-apply-drawn state entry = by_change (λ after. (state.drawn ≤ after.drawn) × (after.drawn ≤ state.drawn + 1)) state entry
+-- an entry raises the last number by one at most
+pub apply-last_number : (state : State) (entry : Entry) → (state.last_number ≤ (apply state entry).last_number) × ((apply state entry).last_number ≤ state.last_number + 1)
+apply-last_number state entry = by_change (λ after. (state.last_number ≤ after.last_number) × (after.last_number ≤ state.last_number + 1)) state entry
     (λ number new keeps. (omega arith, omega arith)) (λ r next _. (omega arith, omega arith)) (λ number. (omega arith, omega arith))
 
--- no more numbers are drawn than there are entries
-pub drawn-le-length : (history : List Entry) → (replay history).drawn ≤ length history
-drawn-le-length history = by_pushes (λ h. (replay h).drawn ≤ length h) (rw replay-nil (omega arith)) push history
+-- the last number is not above the number of entries
+pub last_number-le-length : (history : List Entry) → (replay history).last_number ≤ length history
+last_number-le-length history = by_pushes (λ h. (replay h).last_number ≤ length h) (rw replay-nil (omega arith)) push history
   where
-    push : (h : List Entry) (e : Entry) → (replay h).drawn ≤ length h → (replay (h ++ e ∷ [])).drawn ≤ length (h ++ e ∷ [])
-    push h e before = let one = (apply-drawn (replay h) e).1 in let more = length-append h (e ∷ []) in rw (replay_push h e) (omega (arith, one, more, before))
+    push : (h : List Entry) (e : Entry) → (replay h).last_number ≤ length h → (replay (h ++ e ∷ [])).last_number ≤ length (h ++ e ∷ [])
+    push h e before = let one = (apply-last_number (replay h) e).1 in let more = length-append h (e ∷ []) in rw (replay_push h e) (omega (arith, one, more, before))
 
 -- ---- none is used again
 
@@ -96,14 +98,14 @@ any_kept test other (r ∷ rs) e = by (other r) (test r) refl e (any_kept test o
     by true false t h more = more (let kept = rw t at h in kept)
     by false false t h more = more h
 
--- a number that was drawn before and is there after an entry was there before it
-pub has_number_before : (state : State) (entry : Entry) (n : ℕ) → n ≤ state.drawn → has_number n (apply state entry).records ≡ true → has_number n state.records ≡ true
-has_number_before state entry n drawn = by_change (λ after. has_number n after.records ≡ true → has_number n state.records ≡ true) state entry replaces appends removes
+-- a number not above the last one before that is there after an entry was there before it
+pub has_number_before : (state : State) (entry : Entry) (n : ℕ) → n ≤ state.last_number → has_number n (apply state entry).records ≡ true → has_number n state.records ≡ true
+has_number_before state entry n used = by_change (λ after. has_number n after.records ≡ true → has_number n state.records ≡ true) state entry replaces appends removes
   where
     replaces : (number : ℕ) (new : Record → Record) → KeepsNumber entry.moment.0 number new → has_number n (with_changed number new state.records) ≡ true → has_number n state.records ≡ true
     replaces number new keeps there = sym (any_changed (is_numbered n) (λ r. cond (is_numbered number r) (new r) r) (λ r. ap (λ k. k == n) (changed_number entry.moment.0 number new keeps r)) state.records) ∙ there
 
-    appends : (r : Record) → r.number ≡ state.drawn + 1 → r.granted.0 ≡ entry.moment.0 → has_number n (state.records ++ r ∷ []) ≡ true → has_number n state.records ≡ true
+    appends : (r : Record) → r.number ≡ state.last_number + 1 → r.granted.0 ≡ entry.moment.0 → has_number n (state.records ++ r ∷ []) ≡ true → has_number n state.records ≡ true
     appends r next _ there = by (or_cases (has_number n state.records) (has_number n (r ∷ [])) (sym (list_any-append (is_numbered n) state.records (r ∷ [])) ∙ there))
       where
         other : is_numbered n r ≡ false
@@ -116,27 +118,28 @@ has_number_before state entry n drawn = by_change (λ after. has_number n after.
     removes : (number : ℕ) → has_number n (filter (λ r. not (is_numbered number r)) state.records) ≡ true → has_number n state.records ≡ true
     removes number there = any_kept (is_numbered n) (λ r. not (is_numbered number r)) state.records there
 
--- a number that a history had drawn and that is there later was there before: no record gets it anew
-pub number_not_again : (front history : List Entry) → IsFront front history → (n : ℕ) → n ≤ (replay front).drawn → has_number n (replay history).records ≡ true → has_number n (replay front).records ≡ true
-number_not_again front history begins n drawn there = (behind begins.0).1 (subst (λ h. has_number n (replay h).records ≡ true) (sym (begins.1)) there)
+-- a number not above the last one of a front that is there later was there before: no record gets it anew
+pub number_not_again : (front history : List Entry) → IsFront front history → (n : ℕ) → n ≤ (replay front).last_number → has_number n (replay history).records ≡ true → has_number n (replay front).records ≡ true
+number_not_again front history begins n used there = (extends begins.0).1 (subst (λ h. has_number n (replay h).records ≡ true) (sym (begins.1)) there)
   where
-    Behind : List Entry → Type 0
-    Behind more = (n ≤ (replay (front ++ more)).drawn) × (has_number n (replay (front ++ more)).records ≡ true → has_number n (replay front).records ≡ true)
+    Extends : List Entry → Type 0
+    Extends more = (n ≤ (replay (front ++ more)).last_number) × (has_number n (replay (front ++ more)).records ≡ true → has_number n (replay front).records ≡ true)
 
-    push : (more : List Entry) (e : Entry) → Behind more → Behind (more ++ e ∷ [])
+    push : (more : List Entry) (e : Entry) → Extends more → Extends (more ++ e ∷ [])
     push more e before =
         let split : replay (front ++ (more ++ e ∷ [])) ≡ apply (replay (front ++ more)) e = ap replay (sym (append_assoc front more (e ∷ []))) ∙ replay_push (front ++ more) e in
         let low = before.0 in
-        let high = (apply-drawn (replay (front ++ more)) e).0 in
+        let high = (apply-last_number (replay (front ++ more)) e).0 in
         rw split (omega arith, λ later. before.1 (has_number_before (replay (front ++ more)) e n before.0 later))
 
-    behind : (more : List Entry) → Behind more
-    behind more = by_pushes Behind (rw (append-nil front) (drawn, λ same. same)) push more
+    extends : (more : List Entry) → Extends more
+    extends more = by_pushes Extends (rw (append-nil front) (used, λ same. same)) push more
 
--- a number that was not there before is above all that were drawn
-pub number_is_new : (front history : List Entry) → IsFront front history → (n : ℕ) → has_number n (replay front).records ≡ false → has_number n (replay history).records ≡ true → (replay front).drawn < n
-number_is_new front history begins n without there = by (cases_lt (replay front).drawn n)
+-- a number that was not there before is above the last number before
+-- An end theorem: nothing here cites it.
+pub number_is_new : (front history : List Entry) → IsFront front history → (n : ℕ) → has_number n (replay front).records ≡ false → has_number n (replay history).records ≡ true → (replay front).last_number < n
+number_is_new front history begins n without there = by (cases_lt (replay front).last_number n)
   where
-    by : ((replay front).drawn < n) ⊎ (n ≤ (replay front).drawn) → (replay front).drawn < n
+    by : ((replay front).last_number < n) ⊎ (n ≤ (replay front).last_number) → (replay front).last_number < n
     by (inl above) = above
-    by (inr drawn) = absurd (true≢false (sym (number_not_again front history begins n drawn there) ∙ without))
+    by (inr used) = absurd (true≢false (sym (number_not_again front history begins n used there) ∙ without))

@@ -1,4 +1,4 @@
--- The entries of a history, one after the other, and what one of them makes of a state.
+-- The entries of a history, one after another, and what one of them makes of a state.
 use Rattle.std.proofs.Common.{◌≡◌, ℕ, ◌+◌, Bool, true, false, not, cond, List, [], ◌∷◌, ◌++◌, filter, Option, Some, None, refl, sym, eqb-true}
 use Rattle.std.proofs.lemmas.List.Sums.{fold_push}
 use Rattle.rd_base.specs.declared.moments.Moment.{Moment}
@@ -37,18 +37,21 @@ last_moment_push history entry = fold_push (λ (before : ℕ) (e : Entry). e.mom
 -- ---- what an entry makes
 
 -- by the kind of the change
+-- An end theorem: nothing here cites it.
 pub apply-Register : (state : State) (now : Moment) (worker : ℕ) (peer : Peer) (params : RegParams) (links : List SubmittedLink)
     → apply state (record { moment = now; worker = worker; peer = peer; change = change.Register params links }) ≡ registered_under (number_named params.name now.0 state.records) state now peer params links
 unfolding apply
 apply-Register state now worker peer params links = refl
 
+-- An end theorem: nothing here cites it.
 pub apply-Update : (state : State) (now : Moment) (worker : ℕ) (peer : Peer) (number : ℕ) (given : UpdateParams)
-    → apply state (record { moment = now; worker = worker; peer = peer; change = change.Update number given }) ≡ record { records = with_changed number (updated now peer given) state.records; drawn = state.drawn }
+    → apply state (record { moment = now; worker = worker; peer = peer; change = change.Update number given }) ≡ record { records = with_changed number (updated now peer given) state.records; last_number = state.last_number }
 unfolding apply
 apply-Update state now worker peer number given = refl
 
+-- An end theorem: nothing here cites it.
 pub apply-Remove : (state : State) (now : Moment) (worker : ℕ) (peer : Peer) (number : ℕ)
-    → apply state (record { moment = now; worker = worker; peer = peer; change = change.Remove number }) ≡ record { records = filter (λ r. not (is_numbered number r)) state.records; drawn = state.drawn }
+    → apply state (record { moment = now; worker = worker; peer = peer; change = change.Remove number }) ≡ record { records = filter (λ r. not (is_numbered number r)) state.records; last_number = state.last_number }
 unfolding apply
 apply-Remove state now worker peer number = refl
 
@@ -65,10 +68,10 @@ pub updated-KeepsNumber : (number : ℕ) (now : Moment) (peer : Peer) (given : U
 unfolding updated
 updated-KeepsNumber number now peer given = record { keeps = λ r e. refl; granted = λ r. refl }
 
--- what holds behind each kind of change, holds behind an entry
+-- what holds after each kind of change, holds after an entry
 pub by_change : (P : State → Type 0) (state : State) (entry : Entry)
     → ((number : ℕ) (new : Record → Record) → KeepsNumber entry.moment.0 number new → P (record state { records = with_changed number new state.records }))
-    → ((r : Record) → r.number ≡ state.drawn + 1 → r.granted.0 ≡ entry.moment.0 → P (record { records = state.records ++ r ∷ []; drawn = state.drawn + 1 }))
+    → ((r : Record) → r.number ≡ state.last_number + 1 → r.granted.0 ≡ entry.moment.0 → P (record { records = state.records ++ r ∷ []; last_number = state.last_number + 1 }))
     → ((number : ℕ) → P (record state { records = filter (λ r. not (is_numbered number r)) state.records }))
     → P (apply state entry)
 unfolding apply registered
@@ -76,7 +79,7 @@ by_change P state entry replaces appends removes = of_change entry.change
   where
     of_number : (o : Option ℕ) (params : RegParams) (links : List SubmittedLink) → P (registered_under o state entry.moment entry.peer params links)
     of_number (Some number) params links = replaces number (λ r. registered number entry.moment entry.peer params links) (registered-KeepsNumber number entry.moment entry.peer params links)
-    of_number None params links = appends (registered (state.drawn + 1) entry.moment entry.peer params links) refl refl
+    of_number None params links = appends (registered (state.last_number + 1) entry.moment entry.peer params links) refl refl
 
     of_change : (c : Change) → P (changed state entry.moment entry.peer c)
     of_change (change.Register params links) = of_number (number_named params.name entry.moment.0 state.records) params links

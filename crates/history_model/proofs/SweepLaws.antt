@@ -1,4 +1,4 @@
--- What has lapsed may be dropped before an entry: what is live behind it is the same.
+-- What has lapsed may be dropped before an entry: what is live after it is the same.
 use Rattle.std.proofs.Common.{◌≡◌, ℕ, ◌+◌, ◌≤◌, Bool, true, false, not, cond, List, [], ◌∷◌, ◌++◌, filter, Option, Some, None, option_map, refl, sym, ap, ◌∙◌, eqb-true}
 use Rattle.std.specs.List.{AllByRecursion}
 use Rattle.std.proofs.lemmas.Bool.{true≢false, and_parts, not-false}
@@ -19,7 +19,7 @@ use Rattle.rd_base.proofs.lemmas.Each.{each_weaker, each_passes}
 use Rattle.rd_base.proofs.lemmas.Filters.{filter_all, filter_stronger, filter_changed, filter_swapped, find-filter}
 use Rattle.history_model.proofs.NumberLaws.{HasRisingNumbers}
 use Rattle.history_model.proofs.Acceptance.{is_live_before, Accepted, live_numbered, named_numbered}
-use Rattle.history_model.proofs.NameLaws.{behind_change}
+use Rattle.history_model.proofs.NameLaws.{after_change}
 
 -- what is live at a moment, of what was live before
 pub live_among_live : (before moment : ℕ) (records : List Record) → before ≤ moment → live_among moment (live_among before records) ≡ live_among moment records
@@ -33,10 +33,10 @@ number_named-live before moment name records order = ap (option_map (λ (r : Rec
 -- a change of a live record
 changed_live : (swept moment number : ℕ) (new : Record → Record) (records : List Record) → swept ≤ moment → AllByRecursion (λ r. r.number ≡ number → is_live_at moment r ≡ true) records
     → live_among swept (with_changed number new records) ≡ live_among swept (with_changed number new (live_among swept records))
-changed_live swept moment number new records order known = filter_changed (is_live_at swept) (behind_change number new) records
-    (each_weaker (λ r. r.number ≡ number → is_live_at moment r ≡ true) (λ r. is_live_at swept r ≡ false → behind_change number new r ≡ r) (λ r live lapsed. other r live lapsed) records known)
+changed_live swept moment number new records order known = filter_changed (is_live_at swept) (after_change number new) records
+    (each_weaker (λ r. r.number ≡ number → is_live_at moment r ≡ true) (λ r. is_live_at swept r ≡ false → after_change number new r ≡ r) (λ r live lapsed. other r live lapsed) records known)
   where
-    other : (r : Record) → (r.number ≡ number → is_live_at moment r ≡ true) → is_live_at swept r ≡ false → behind_change number new r ≡ r
+    other : (r : Record) → (r.number ≡ number → is_live_at moment r ≡ true) → is_live_at swept r ≡ false → after_change number new r ≡ r
     other r live lapsed = by (is_numbered number r) refl
       where
         by : (b : Bool) → is_numbered number r ≡ b → cond b (new r) r ≡ r
@@ -66,19 +66,19 @@ unfolding apply
 only_live-apply swept state entries entry numbered accepts order = of_change entry.change accepts.there
   where
     with_records : ℕ → List Record → State
-    with_records drawn records = record { records = records; drawn = drawn }
+    with_records last_number records = record { records = records; last_number = last_number }
 
     of_number : (o : Option ℕ) (params : RegParams) (links : List SubmittedLink) → number_named params.name entry.moment.0 state.records ≡ o
         → only_live swept (registered_under o state entry.moment entry.peer params links) ≡ only_live swept (registered_under o (only_live swept state) entry.moment entry.peer params links)
-    of_number (Some number) params links found = ap (with_records state.drawn)
+    of_number (Some number) params links found = ap (with_records state.last_number)
         (changed_live swept entry.moment.0 number (λ r. registered number entry.moment entry.peer params links) state.records order
         (each_weaker (λ r. r.number ≡ number → (is_live_at entry.moment.0 r ≡ true) × (r.name ≡ params.name)) (λ r. r.number ≡ number → is_live_at entry.moment.0 r ≡ true) (λ r fits same. (fits same).0) state.records
         (named_numbered params.name entry.moment.0 number state.records numbered.ascending found)))
-    of_number None params links found = ap (with_records (state.drawn + 1)) (appended_live swept state.records (registered (state.drawn + 1) entry.moment entry.peer params links))
+    of_number None params links found = ap (with_records (state.last_number + 1)) (appended_live swept state.records (registered (state.last_number + 1) entry.moment entry.peer params links))
 
     of_change : (c : Change) → is_gone (live_among entry.moment.0 state.records) c ≡ false → only_live swept (changed state entry.moment entry.peer c) ≡ only_live swept (changed (only_live swept state) entry.moment entry.peer c)
     of_change (change.Register params links) there = of_number (number_named params.name entry.moment.0 state.records) params links refl
         ∙ ap (λ o. only_live swept (registered_under o (only_live swept state) entry.moment entry.peer params links)) (sym (number_named-live swept entry.moment.0 params.name state.records order))
-    of_change (change.Update number given) there = ap (with_records state.drawn)
+    of_change (change.Update number given) there = ap (with_records state.last_number)
         (changed_live swept entry.moment.0 number (updated entry.moment entry.peer given) state.records order (live_numbered entry.moment.0 number state.records numbered.ascending (not-false _ there)))
-    of_change (change.Remove number) there = ap (with_records state.drawn) (removed_live swept number state.records)
+    of_change (change.Remove number) there = ap (with_records state.last_number) (removed_live swept number state.records)

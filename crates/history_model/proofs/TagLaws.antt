@@ -1,4 +1,4 @@
--- A tag tells the front and the live records of one history: so equal tags mean equal listings.
+-- A tag determines the front and the live records of one history: so equal tags mean equal listings.
 use Rattle.std.proofs.Common.{◌≡◌, ℕ, ◌+◌, ◌^◌, ◌<◌, ◌≤◌, not, List, map, filter, length, take, nat_lt, nat_le, refl, sym, ap, subst, ◌∙◌, ◌⊎◌, inl, inr, arith, take_at}
 use Rattle.std.proofs.lemmas.Bool.{cases_lt}
 use Rattle.std.proofs.lemmas.Bool.Decides.{nat_tests}
@@ -41,7 +41,7 @@ later_live history moment later order e =
     let same = live_among_live moment later (replay history).records order in
     sym same ∙ filter_full (is_live_at later) (live_among moment (replay history).records) (ap length same ∙ e)
 
--- of one history, the number of those that have lapsed tells which are live
+-- of one history, the number of those that have lapsed determines which are live
 pub lapsed_since_tells : (history : List Entry) (moment later : ℕ) → last_moment history ≤ moment → last_moment history ≤ later → lapsed_since history moment ≡ lapsed_since history later → live history moment ≡ live history later
 lapsed_since_tells history moment later low high e = by (cases_lt moment later)
   where
@@ -50,7 +50,7 @@ lapsed_since_tells history moment later low high e = by (cases_lt moment later)
 
     by : (moment < later) ⊎ (later ≤ moment) → live history moment ≡ live history later
     by (inl before) = sym (later_live history moment later (omega arith) count)
-    by (inr behind) = later_live history later moment behind (sym count)
+    by (inr order) = later_live history later moment order (sym count)
 
 -- ---- fronts
 
@@ -81,10 +81,10 @@ tag_from_tells first history front other moment later counted legal begins also 
     (lapsed_below first front moment legal_front low) (lapsed_below first other later legal_other high) e in
     let as_long : length front ≡ length other = let count = numbers.0 in omega (arith, count) in
     let same = same_front history front other begins also as_long in
-    (same, behind front other same low high numbers.1)
+    (same, of_equal_fronts front other same low high numbers.1)
   where
-    behind : (front other : List Entry) → front ≡ other → last_moment front ≤ moment → last_moment other ≤ later → lapsed_since front moment ≡ lapsed_since other later → live front moment ≡ live other later
-    behind front other same low high lapsed =
+    of_equal_fronts : (front other : List Entry) → front ≡ other → last_moment front ≤ moment → last_moment other ≤ later → lapsed_since front moment ≡ lapsed_since other later → live front moment ≡ live other later
+    of_equal_fronts front other same low high lapsed =
         let low_other : last_moment other ≤ moment = subst (λ h. last_moment h ≤ moment) same low in
         ap (λ h. live h moment) same ∙ lapsed_since_tells other moment later low_other high (ap (λ h. lapsed_since h moment) (sym same) ∙ lapsed)
 
@@ -101,6 +101,7 @@ listing-live query front other moment later same = ap (λ lines. shown query (ma
     map_lines lines = map (λ numbered. numbered.1) lines
 
 -- equal tags of fronts of one legal history mean equal listings for an equal query
+-- An end theorem: nothing here cites it.
 pub listing-tag_from : (first : ℕ) (history front other : List Entry) (moment later : ℕ) (query : Query) → first ≤ max_entries → IsLegalFrom first history → IsFront front history → IsFront other history
     → last_moment front ≤ moment → last_moment other ≤ later → tag_from first front moment ≡ tag_from first other later → listing query front moment ≡ listing query other later
 listing-tag_from first history front other moment later query counted legal begins also low high e =

@@ -1,4 +1,4 @@
--- The octets of a tag tell its two numbers.
+-- The octets of a tag determine its two numbers.
 use Rattle.std.proofs.Common.{◌≡◌, ℕ, ◌/◌, ◌%◌, ◌^◌, ◌<◌, List, ◌∷◌, take, drop, refl, sym, ap, ◌∙◌, arith, w16, w64}
 use Rattle.std.specs.Int.{bytes_high_first, to_be_bytes, from_be_bytes}
 use Rattle.std.proofs.lemmas.Nat.{div_below, from_be_bytes-to_be_bytes_2, from_be_bytes-to_be_bytes_8}

@@ -1,4 +1,4 @@
--- Versions: what one stands for, behind an entry and behind a sweep, and what it answers.
+-- Versions: what one stands for, after an entry and after a sweep, and what it answers.
 use Rattle.std.proofs.Common.{◌≡◌, ℕ, ◌+◌, ◌*◌, ◌<◌, ◌≤◌, Bool, true, false, not, ◌&&◌, cond, List, [], ◌∷◌, ◌++◌, filter, length, length-append, Option, Some, None, IfSome, unwrap_or, nat_lt, nat_le, refl, sym, ap, ap₂, ◌∙◌, arith, eqb-true, ltb-true, lt-ltb}
 use Rattle.std.specs.List.{AllByRecursion}
 use Rattle.std.proofs.lemmas.Bool.{and_parts, not-false, ltb-false, leb-true, leb-false, lt-leb}
@@ -23,9 +23,9 @@ use Rattle.rd_base.proofs.lemmas.Each.{each_weaker, each_both, each_map, each_fi
 use Rattle.rd_base.proofs.lemmas.Pairs.{pairs_filter}
 use Rattle.rd_base.proofs.lemmas.Filters.{filter_all, filter_stronger}
 use Rattle.history_model.proofs.ReplayLaws.{replay_push, last_moment_push}
-use Rattle.history_model.proofs.NumberLaws.{IsBelow, IsDrawn, HasRisingNumbers, replay-HasRisingNumbers}
+use Rattle.history_model.proofs.NumberLaws.{IsBelow, IsNumberedUpTo, HasRisingNumbers, replay-HasRisingNumbers}
 use Rattle.history_model.proofs.Acceptance.{is_live_before, Accepted, accepted, live_numbered}
-use Rattle.history_model.proofs.NameLaws.{behind_change, IsGrantedBy, replay-IsGrantedBy}
+use Rattle.history_model.proofs.NameLaws.{after_change, IsGrantedBy, replay-IsGrantedBy}
 use Rattle.history_model.proofs.SweepLaws.{live_among_live, number_named-live, only_live-apply}
 
 -- ---- refusals
@@ -58,7 +58,7 @@ apply-live : (swept : ℕ) (state : State) (entries : ℕ) (entry : Entry) → H
 unfolding apply
 apply-live swept state entries entry numbered accepts lasts order granted live = of_change entry.change accepts.there lasts
   where
-    kept : (number : ℕ) (new : Record → Record) (r : Record) → (r.number ≡ number → is_live_at swept (new r) ≡ true) → is_live_at swept r ≡ true → is_live_at swept (behind_change number new r) ≡ true
+    kept : (number : ℕ) (new : Record → Record) (r : Record) → (r.number ≡ number → is_live_at swept (new r) ≡ true) → is_live_at swept r ≡ true → is_live_at swept (after_change number new r) ≡ true
     kept number new r new_live old_live = by (is_numbered number r) refl
       where
         by : (b : Bool) → is_numbered number r ≡ b → is_live_at swept (cond b (new r) r) ≡ true
@@ -68,9 +68,9 @@ apply-live swept state entries entry numbered accepts lasts order granted live =
     of_number : (o : Option ℕ) (params : RegParams) (links : List SubmittedLink) → 0 < params.lt → AllByRecursion (λ (r : Record). is_live_at swept r ≡ true) (registered_under o state entry.moment entry.peer params links).records
     of_number (Some number) params links lasts =
         let new = λ (r : Record). registered number entry.moment entry.peer params links in
-        each_map (λ r. is_live_at swept r ≡ true) (behind_change number new) state.records
-        (each_weaker (λ r. is_live_at swept r ≡ true) (λ r. is_live_at swept (behind_change number new r) ≡ true) (λ r old. kept number new r (λ _. registered_live swept number entry params links order lasts) old) state.records live)
-    of_number None params links lasts = each_push (λ r. is_live_at swept r ≡ true) state.records (registered (state.drawn + 1) entry.moment entry.peer params links) live (registered_live swept (state.drawn + 1) entry params links order lasts)
+        each_map (λ r. is_live_at swept r ≡ true) (after_change number new) state.records
+        (each_weaker (λ r. is_live_at swept r ≡ true) (λ r. is_live_at swept (after_change number new r) ≡ true) (λ r old. kept number new r (λ _. registered_live swept number entry params links order lasts) old) state.records live)
+    of_number None params links lasts = each_push (λ r. is_live_at swept r ≡ true) state.records (registered (state.last_number + 1) entry.moment entry.peer params links) live (registered_live swept (state.last_number + 1) entry params links order lasts)
 
     of_change : (c : Change) → is_gone (live_among entry.moment.0 state.records) c ≡ false → IsLasting c → AllByRecursion (λ (r : Record). is_live_at swept r ≡ true) (changed state entry.moment entry.peer c).records
     of_change (change.Register params links) there lasts = of_number (number_named params.name entry.moment.0 state.records) params links lasts
@@ -79,8 +79,8 @@ apply-live swept state entries entry numbered accepts lasts order granted live =
         let there_live = live_numbered entry.moment.0 number state.records numbered.ascending (not-false _ there) in
         let known = each_both (λ r. r.number ≡ number → is_live_at entry.moment.0 r ≡ true) (IsGrantedBy entry.moment.0) (λ r. r.number ≡ number → is_live_at swept (new r) ≡ true)
         (λ r now by_then same. updated_live swept entry given r order lasts by_then (now same)) state.records there_live granted in
-        each_map (λ r. is_live_at swept r ≡ true) (behind_change number new) state.records
-        (each_both (λ r. r.number ≡ number → is_live_at swept (new r) ≡ true) (λ r. is_live_at swept r ≡ true) (λ r. is_live_at swept (behind_change number new r) ≡ true) (kept number new) state.records known live)
+        each_map (λ r. is_live_at swept r ≡ true) (after_change number new) state.records
+        (each_both (λ r. r.number ≡ number → is_live_at swept (new r) ≡ true) (λ r. is_live_at swept r ≡ true) (λ r. is_live_at swept (after_change number new r) ≡ true) (kept number new) state.records known live)
     of_change (change.Remove number) there lasts = each_filter (λ r. is_live_at swept r ≡ true) (λ r. not (is_numbered number r)) state.records live
 
 -- an accepted entry, of the records that are left
@@ -91,40 +91,42 @@ Accepted-only_live swept state entries entry order e = accepted (only_live swept
 only_live-HasRisingNumbers : (swept : ℕ) (state : State) → HasRisingNumbers state → HasRisingNumbers (only_live swept state)
 only_live-HasRisingNumbers swept state numbered = record {
   ascending = pairs_filter IsBelow (is_live_at swept) state.records numbered.ascending;
-  each_drawn = each_filter (IsDrawn state.drawn) (is_live_at swept) state.records numbered.each_drawn;
+  each_numbered = each_filter (IsNumberedUpTo state.last_number) (is_live_at swept) state.records numbered.each_numbered;
 }
 
--- what has lapsed may be dropped before an accepted entry or behind it
+-- what has lapsed may be dropped before an accepted entry or after it
 pub apply-only_live : (swept : ℕ) (state : State) (entries : ℕ) (entry : Entry) → HasRisingNumbers state → refusal_in state entries entry ≡ None → IsLasting entry.change → swept ≤ entry.moment.0
     → AllByRecursion (IsGrantedBy entry.moment.0) state.records → apply (only_live swept state) entry ≡ only_live swept (apply state entry)
 apply-only_live swept state entries entry numbered e lasts order granted =
     let left = only_live swept state in
     let all_live = apply-live swept left entries entry (only_live-HasRisingNumbers swept state numbered) (Accepted-only_live swept state entries entry order e) lasts order
     (each_filter (IsGrantedBy entry.moment.0) (is_live_at swept) state.records granted) (each_passes (is_live_at swept) state.records) in
-    let kept : only_live swept (apply left entry) ≡ apply left entry = ap (λ (records : List Record). with_records (apply left entry).drawn records) (filter_all (is_live_at swept) (apply left entry).records all_live) in
+    let kept : only_live swept (apply left entry) ≡ apply left entry = ap (λ (records : List Record). with_records (apply left entry).last_number records) (filter_all (is_live_at swept) (apply left entry).records all_live) in
     sym kept ∙ sym (only_live-apply swept state entries entry numbered (accepted state entries entry e) order)
   where
     with_records : ℕ → List Record → State
-    with_records drawn records = record { records = records; drawn = drawn }
+    with_records last_number records = record { records = records; last_number = last_number }
 
 -- ---- what a version stands for
 
 -- a version without an entry
 abbrev pub empty_version : ℕ → Version
-empty_version first = record { records = []; entries = first; at = 0; drawn = 0; swept_live = 0; swept = 0 }
+empty_version first = record { records = []; entries = first; at = 0; last_number = 0; swept_live = 0; swept = 0 }
 
+-- An end theorem: nothing here cites it.
 pub empty-VersionStandsFor : (first : ℕ) → VersionStandsFor first [] (empty_version first)
 unfolding replay last_moment lapsed_since live
-empty-VersionStandsFor first = record { records = refl; entries = omega arith; at = refl; drawn = refl; swept_live = refl }
+empty-VersionStandsFor first = record { records = refl; entries = omega arith; at = refl; last_number = refl; swept_live = refl }
 
 -- what a version has made is what its history made, without what had lapsed
 pub state_of-VersionStandsFor : (first : ℕ) (history : List Entry) (version : Version) → VersionStandsFor first history version → state_of version ≡ only_live version.swept (replay history)
-state_of-VersionStandsFor first history version stands = ap₂ made stands.drawn stands.records
+state_of-VersionStandsFor first history version stands = ap₂ made stands.last_number stands.records
   where
     made : ℕ → List Record → State
-    made drawn records = record { records = records; drawn = drawn }
+    made last_number records = record { records = records; last_number = last_number }
 
 -- it refuses what its history refuses, at moments not below its sweep
+-- An end theorem: nothing here cites it.
 pub change_refusal-VersionStandsFor : (first : ℕ) (history : List Entry) (version : Version) (entry : Entry) → VersionStandsFor first history version → version.swept ≤ entry.moment.0
     → refusal_in (state_of version) version.entries entry ≡ change_refusal first history entry
 unfolding change_refusal
@@ -132,14 +134,16 @@ change_refusal-VersionStandsFor first history version entry stands order =
     ap₂ (λ state entries. refusal_in state entries entry) (state_of-VersionStandsFor first history version stands) stands.entries ∙ refusal_in-only_live version.swept (replay history) (first + length history) entry order
 
 -- the same number of a name
+-- An end theorem: nothing here cites it.
 pub number_named-VersionStandsFor : (first : ℕ) (history : List Entry) (version : Version) (name : Name) (moment : ℕ) → VersionStandsFor first history version → version.swept ≤ moment
     → number_named name moment version.records ≡ number_named name moment (replay history).records
 number_named-VersionStandsFor first history version name moment stands order = ap (number_named name moment) stands.records ∙ number_named-live version.swept moment name (replay history).records order
 
+-- An end theorem: nothing here cites it.
 pub number_for-VersionStandsFor : (first : ℕ) (history : List Entry) (version : Version) (name : Name) (moment : ℕ) → VersionStandsFor first history version → version.swept ≤ moment
     → number_for name moment (state_of version) ≡ number_for name moment (replay history)
 number_for-VersionStandsFor first history version name moment stands order = ap (number_for name moment) (state_of-VersionStandsFor first history version stands)
-    ∙ ap (λ (o : Option ℕ). unwrap_or o ((replay history).drawn + 1)) (number_named-live version.swept moment name (replay history).records order)
+    ∙ ap (λ (o : Option ℕ). unwrap_or o ((replay history).last_number + 1)) (number_named-live version.swept moment name (replay history).records order)
 
 -- the same live records
 pub live-VersionStandsFor : (first : ℕ) (history : List Entry) (version : Version) (moment : ℕ) → VersionStandsFor first history version → version.swept ≤ moment → live_among moment version.records ≡ live history moment
@@ -147,12 +151,14 @@ unfolding live
 live-VersionStandsFor first history version moment stands order = ap (live_among moment) stands.records ∙ live_among_live version.swept moment (replay history).records order
 
 -- the same records lapse after a moment that is not below its sweep, and up to a later one
+-- An end theorem: nothing here cites it.
 pub lapsing-VersionStandsFor : (first : ℕ) (history : List Entry) (version : Version) (from to : ℕ) → VersionStandsFor first history version → version.swept ≤ from
     → lapsing_among from to version.records ≡ lapsing_among from to (replay history).records
 lapsing-VersionStandsFor first history version from to stands order = ap (lapsing_among from to) stands.records
     ∙ filter_stronger (λ r. nat_lt from (lapse r) && nat_le (lapse r) to) (is_live_at version.swept) (λ r both. is_live_before version.swept from r order (and_parts (nat_lt from (lapse r)) (nat_le (lapse r) to) both).0) (replay history).records
 
 -- the same lines
+-- An end theorem: nothing here cites it.
 pub all_lines-VersionStandsFor : (first : ℕ) (history : List Entry) (version : Version) (query : Query) (moment : ℕ) → VersionStandsFor first history version → version.swept ≤ moment
     → lines_of query (live_among moment version.records) ≡ all_lines query history moment
 unfolding all_lines
@@ -160,13 +166,13 @@ all_lines-VersionStandsFor first history version query moment stands order = ap 
 
 -- ---- an entry more
 
--- a version behind an entry
+-- a version after an entry
 abbrev pub with_entry : Version → Entry → Version
 with_entry version entry = record {
   records = (apply (state_of version) entry).records;
   entries = version.entries + 1;
   at = entry.moment.0;
-  drawn = (apply (state_of version) entry).drawn;
+  last_number = (apply (state_of version) entry).last_number;
   swept_live = 0;
   swept = version.swept;
 }
@@ -179,7 +185,8 @@ none_lapsed swept moment records order = none (live_among moment records) (each_
     none [] live = refl
     none (r ∷ rs) live = let above : moment < lapse r = ltb-true _ _ (live.0) in let later : nat_le (lapse r) swept ≡ false = lt-leb _ _ (omega arith) in rw later (none rs live.1)
 
--- behind an entry that is not refused a version stands for the history with that entry
+-- after an entry that is not refused a version stands for the history with that entry
+-- An end theorem: nothing here cites it.
 pub with_entry-VersionStandsFor : (first : ℕ) (history : List Entry) (version : Version) (entry : Entry) → IsLegalFrom first history → last_moment history ≤ entry.moment.0 → change_refusal first history entry ≡ None → IsLasting entry.change
     → VersionStandsFor first history version → version.swept ≤ entry.moment.0 → VersionStandsFor first (history ++ entry ∷ []) (with_entry version entry)
 unfolding change_refusal lapsed_since live
@@ -195,7 +202,7 @@ with_entry-VersionStandsFor first history version entry legal in_time accepted l
       records = ap (λ (s : State). s.records) (made ∙ whole);
       entries = omega (arith, more, count);
       at = sym (last_moment_push history entry);
-      drawn = ap (λ (s : State). s.drawn) (made ∙ whole);
+      last_number = ap (λ (s : State). s.last_number) (made ∙ whole);
       swept_live = sym (rw (last_moment_push history entry) (none_lapsed version.swept entry.moment.0 (replay (history ++ entry ∷ [])).records order));
     }
 
@@ -230,12 +237,13 @@ lapsed_since-VersionStandsFor first history version moment stands order =
     ∙ lapsed_split (last_moment history) version.swept moment order (replay history).records
 
 -- its tag
+-- An end theorem: nothing here cites it.
 pub tag_from-VersionStandsFor : (first : ℕ) (history : List Entry) (version : Version) (moment : ℕ) → VersionStandsFor first history version → version.swept ≤ moment
     → tag_octets version.entries (version.swept_live + lapsed_between version.at moment version.records) ≡ tag_from first history moment
 unfolding tag_from
 tag_from-VersionStandsFor first history version moment stands order = ap₂ tag_octets stands.entries (lapsed_since-VersionStandsFor first history version moment stands order)
 
--- a version behind a sweep
+-- a version after a sweep
 abbrev pub swept_to : ℕ → Version → Version
 swept_to moment version = record version {
   records = live_among moment version.records;
@@ -243,12 +251,13 @@ swept_to moment version = record version {
   swept = moment;
 }
 
--- behind a sweep a version stands for the same history
+-- after a sweep a version stands for the same history
+-- An end theorem: nothing here cites it.
 pub swept_to-VersionStandsFor : (first : ℕ) (history : List Entry) (version : Version) (moment : ℕ) → VersionStandsFor first history version → version.swept ≤ moment → VersionStandsFor first history (swept_to moment version)
 swept_to-VersionStandsFor first history version moment stands order = record {
   records = ap (live_among moment) stands.records ∙ live_among_live version.swept moment (replay history).records order;
   entries = stands.entries;
   at = stands.at;
-  drawn = stands.drawn;
+  last_number = stands.last_number;
   swept_live = lapsed_since-VersionStandsFor first history version moment stands order;
 }

@@ -53,9 +53,9 @@ is_full_of_records live (change.Remove number) = false
 abbrev pub only_live : ℕ → State → State
 only_live moment state = record state { records = live_among moment state.records }
 
--- what the live records would weigh behind an entry: those that are live at its moment, with the one that it is about in its new form
-abbrev pub text_behind : State → Entry → ℕ
-text_behind state entry = text_of (apply (only_live entry.moment.0 state) entry).records
+-- what the live records would weigh after an entry: those that are live at its moment, with the one that it is about in its new form
+abbrev pub text_after : State → Entry → ℕ
+text_after state entry = text_of (apply (only_live entry.moment.0 state) entry).records
 
 -- a registration or an update would have the live records weigh more than they may
 abbrev pub is_full_of_text : ℕ → Change → Bool
@@ -69,10 +69,10 @@ refusal_in state entries entry =
     let live = live_among entry.moment.0 state.records in
     if is_gone live entry.change then Some refusal.Registration
     else if is_full_of_records live entry.change then Some refusal.Registrations
-    else if is_full_of_text (text_behind state entry) entry.change then Some refusal.Text
+    else if is_full_of_text (text_after state entry) entry.change then Some refusal.Text
     else if nat_le max_entries entries then Some refusal.Entries
     else None
 
--- the first refusal of an entry behind a history, where so many entries were counted before the first of the history
+-- the first refusal of an entry after a history, where so many entries were counted before the first of the history
 unfoldable pub change_refusal : ℕ → List Entry → Entry → Option Refusal
 change_refusal first history entry = refusal_in (replay history) (first + length history) entry

@@ -13,14 +13,14 @@ use Rattle.history_model.specs.declared.entries.Entry.{Entry}
 use Rattle.history_model.specs.Leases.{is_live_at}
 use Rattle.history_model.specs.Names.{is_same_name}
 
--- what entries make: the records in ascending number, lapsed ones too, and the last number drawn
+-- what entries make: the records in ascending number, lapsed ones too, and the last number that a registration got
 pub record State : Type 0 where
   pub records : List Record
-  pub drawn : ℕ
+  pub last_number : ℕ
 
 -- what there is before the first entry
 abbrev pub empty : State
-empty = record { records = []; drawn = 0 }
+empty = record { records = []; last_number = 0 }
 
 -- the record has this number
 abbrev pub is_numbered : ℕ → Record → Bool
@@ -36,22 +36,22 @@ number_named name moment records = option_map (λ r. r.number) (find (is_live_na
 
 -- the number that a registration of this name has at a moment: that of the live record of the name, and else the next one (RFC 9176 section 5)
 abbrev pub number_for : Name → ℕ → State → ℕ
-number_for name moment state = unwrap_or (number_named name moment state.records) (state.drawn + 1)
+number_for name moment state = unwrap_or (number_named name moment state.records) (state.last_number + 1)
 
--- the records, with something else in place of that of this number
+-- the records, with something else for that of this number
 abbrev pub with_changed : ℕ → (Record → Record) → List Record → List Record
 with_changed number new records = map (λ r. if is_numbered number r then new r else r) records
 
--- behind a registration: where its name has a number, the record keeps the number and all else is replaced, and else a record of the next number is appended
+-- after a registration: where its name has a number, the record keeps the number and all else is replaced, and else a record of the next number is appended
 abbrev pub registered_under : Option ℕ → State → Moment → Peer → RegParams → List SubmittedLink → State
 registered_under (Some number) state now peer params links =
     record state { records = with_changed number (λ r. registered number now peer params links) state.records }
 registered_under None state now peer params links = record {
-  records = state.records ++ registered (state.drawn + 1) now peer params links ∷ [];
-  drawn = state.drawn + 1;
+  records = state.records ++ registered (state.last_number + 1) now peer params links ∷ [];
+  last_number = state.last_number + 1;
 }
 
--- behind a change at a moment, from a peer
+-- after a change at a moment, from a peer
 abbrev pub changed : State → Moment → Peer → Change → State
 changed state now peer (change.Register params links) = registered_under (number_named params.name now.0 state.records) state now peer params links
 changed state now peer (change.Update number given) = record state { records = with_changed number (updated now peer given) state.records }

@@ -1,4 +1,4 @@
-// The entries of a history. No value of these types is made.
+//! The entries of a history. No value of these types is made.
 use rd_base::{Moment, Peer, RegParams, SubmittedLink, UpdateParams};
 use std::collections::LinkedList;
 

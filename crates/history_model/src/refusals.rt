@@ -1,4 +1,4 @@
-// Why a change is refused.
+//! Why a change is refused.
 
 /// Why a change is refused, in the order in which it is looked for.
 #[derive(Clone, Copy, Debug, PartialEq, Eq)]

@@ -1,3 +1,2 @@
 pub mod OrderLaws
-pub mod FilterLaws
 pub mod QueueLaws

@@ -25,8 +25,8 @@ neither_numbers a m b n p q = grind (arith, nat_tests)
 lapse_numbers : (a m b n now : ℕ) → (nat_lt a b || ((a == b) && nat_lt m n)) ≡ true → nat_le b now ≡ true → nat_le a now ≡ true
 lapse_numbers a m b n now p q = grind (arith, nat_tests)
 
-behind_numbers : (c k a m b n : ℕ) → (nat_lt a b || ((a == b) && nat_lt m n)) ≡ true → not (nat_lt c b || ((c == b) && nat_lt k n)) ≡ true → not (nat_lt c a || ((c == a) && nat_lt k m)) ≡ true
-behind_numbers c k a m b n p q = grind (arith, nat_tests)
+after_numbers : (c k a m b n : ℕ) → (nat_lt a b || ((a == b) && nat_lt m n)) ≡ true → not (nat_lt c b || ((c == b) && nat_lt k n)) ≡ true → not (nat_lt c a || ((c == a) && nat_lt k m)) ≡ true
+after_numbers c k a m b n p q = grind (arith, nat_tests)
 
 -- ---- over leases
 
@@ -42,12 +42,12 @@ not_before_back x y = back_numbers x.lapse.0 x.number y.lapse.0 y.number
 pub before_differs : (x y : Lease) → is_before x y ≡ true → is_same x y ≡ false
 before_differs x y = differ_numbers x.lapse.0 x.number y.lapse.0 y.number
 
-pub before_or_behind : (x y : Lease) → is_before x y ≡ false → is_same x y ≡ false → is_before y x ≡ true
-before_or_behind x y = neither_numbers x.lapse.0 x.number y.lapse.0 y.number
+pub before_or_after : (x y : Lease) → is_before x y ≡ false → is_same x y ≡ false → is_before y x ≡ true
+before_or_after x y = neither_numbers x.lapse.0 x.number y.lapse.0 y.number
 
--- what stands before a lease that is not behind z is not behind z
-pub not_behind_before : (z x y : Lease) → is_before x y ≡ true → not (is_before z y) ≡ true → not (is_before z x) ≡ true
-not_behind_before z x y = behind_numbers z.lapse.0 z.number x.lapse.0 x.number y.lapse.0 y.number
+-- what stands before a lease that is not after z is not after z
+pub not_after_before : (z x y : Lease) → is_before x y ≡ true → not (is_before z y) ≡ true → not (is_before z x) ≡ true
+not_after_before z x y = after_numbers z.lapse.0 z.number x.lapse.0 x.number y.lapse.0 y.number
 
 -- what stands before a lease that has lapsed has lapsed
 pub lapsed_before : (now : ℕ) (x y : Lease) → is_before x y ≡ true → has_lapsed now y ≡ true → has_lapsed now x ≡ true

@@ -6,12 +6,12 @@ use Rattle.std.proofs.lemmas.Bool.{false≢true}
 use Rattle.std.proofs.lemmas.List.Elements.{All-contains, All-from_recursion, Contains-append_left, Contains-append_right, Contains-append_cases}
 use Rattle.lease_queue.specs.declared.leases.Lease.{Lease}
 use Rattle.lease_queue.specs.Leases.{is_before, is_same, IsAscending, earlier, later, with_lease, without_lease}
-use Rattle.lease_queue.proofs.OrderLaws.{before_trans, not_before_itself, not_before_back, before_differs, before_or_behind, same_is, same_itself}
-use Rattle.lease_queue.proofs.FilterLaws.{contains_none, contains_first, contains_behind, contains_cases, contains_filter, filter_contains}
+use Rattle.lease_queue.proofs.OrderLaws.{before_trans, not_before_itself, not_before_back, before_differs, before_or_after, same_is, same_itself}
+use Rattle.rd_base.proofs.lemmas.Contains.{contains_none, contains_first, contains_later, contains_cases, contains_filter, filter_contains}
 use Rattle.rd_base.proofs.lemmas.Each.{each_weaker, each_filter, each_append, each_passes}
 use Rattle.rd_base.proofs.lemmas.Filters.{filter_all, filter_none}
 
--- a test that what stands before passes too passes in front
+-- a test that is passed by what stands before whatever passes it parts a queue
 pub partitioned : (test : Lease → Bool) → ((x y : Lease) → is_before x y ≡ true → test y ≡ true → test x ≡ true) → (xs : List Lease) → IsAscending xs → IsPartitionedBy test xs
 unfolding IsAscending
 partitioned test down [] up i j d along within p = absurd (omega arith)
@@ -74,12 +74,12 @@ without_is (x ∷ xs) lease up = by (is_before x lease) (is_same x lease) refl r
     by : (b s : Bool) → is_before x lease ≡ b → is_same x lease ≡ s → without_lease xs lease ≡ earlier xs lease ++ later xs lease → without_lease (x ∷ xs) lease ≡ earlier (x ∷ xs) lease ++ later (x ∷ xs) lease
     by true s b e more = rw (before_differs x lease b, b, not_before_back x lease b) (ap (λ rest. x ∷ rest) more)
     by false true b e more =
-        let not_behind : is_before lease x ≡ false = subst (λ z. is_before lease z ≡ false) (sym (same_is x lease e)) (not_before_itself lease) in
-        rw (e, b, not_behind) more
+        let not_after : is_before lease x ≡ false = subst (λ z. is_before lease z ≡ false) (sym (same_is x lease e)) (not_before_itself lease) in
+        rw (e, b, not_after) more
     by false false b e more =
-        let behind = before_or_behind x lease b e in
-        let none = none_earlier behind in
-        rw (e, b, behind, none) (ap (λ rest. x ∷ rest) (rw none at more))
+        let after = before_or_after x lease b e in
+        let none = none_earlier after in
+        rw (e, b, after, none) (ap (λ rest. x ∷ rest) (rw none at more))
 
 -- ---- nothing changes where it is there already, or is not there
 
@@ -102,7 +102,7 @@ with_same (x ∷ xs) lease up h = by (contains_cases x xs lease h) (λ there. wi
 
 differs_from_all : (xs : List Lease) (lease : Lease) → (Contains xs lease → ⊥) → AllByRecursion (λ x. not (is_same x lease) ≡ true) xs
 differs_from_all [] lease absent = tt
-differs_from_all (x ∷ xs) lease absent = (by (is_same x lease) refl, differs_from_all xs lease (λ there. absent (contains_behind x xs lease there)))
+differs_from_all (x ∷ xs) lease absent = (by (is_same x lease) refl, differs_from_all xs lease (λ there. absent (contains_later x xs lease there)))
   where
     by : (s : Bool) → is_same x lease ≡ s → not (is_same x lease) ≡ true
     by true e = absurd (absent (subst (λ z. Contains (x ∷ xs) z) (same_is x lease e) (contains_first x xs)))
@@ -122,13 +122,13 @@ pub with_others : (queue : List Lease) (lease other : Lease) → other ≢ lease
 unfolding with_lease
 with_others queue lease other differs h = by (Contains-append_cases (earlier queue lease) (lease ∷ later queue lease) other h)
   where
-    behind : (lease ≡ other) ⊎ Contains (later queue lease) other → Contains queue other
-    behind (inl is) = absurd (differs (sym is))
-    behind (inr there) = (contains_filter (λ x. is_before lease x) queue other there).0
+    after : (lease ≡ other) ⊎ Contains (later queue lease) other → Contains queue other
+    after (inl is) = absurd (differs (sym is))
+    after (inr there) = (contains_filter (λ x. is_before lease x) queue other there).0
 
     by : Contains (earlier queue lease) other ⊎ Contains (lease ∷ later queue lease) other → Contains queue other
     by (inl there) = (contains_filter (λ x. is_before x lease) queue other there).0
-    by (inr there) = behind (contains_cases lease (later queue lease) other there)
+    by (inr there) = after (contains_cases lease (later queue lease) other there)
 
 pub with_kept : (queue : List Lease) (lease other : Lease) → other ≢ lease → Contains queue other → Contains (with_lease queue lease) other
 unfolding with_lease
@@ -139,7 +139,7 @@ with_kept queue lease other differs h = by (is_before other lease) (is_same othe
     by false true b e = absurd (differs (same_is other lease e))
     by false false b e =
         Contains-append_right (earlier queue lease) (lease ∷ later queue lease) other
-        (contains_behind lease (later queue lease) other (filter_contains (λ x. is_before lease x) queue other h (before_or_behind other lease b e)))
+        (contains_later lease (later queue lease) other (filter_contains (λ x. is_before lease x) queue other h (before_or_after other lease b e)))
 
 pub without_gone : (queue : List Lease) (lease : Lease) → Contains (without_lease queue lease) lease → ⊥
 unfolding without_lease

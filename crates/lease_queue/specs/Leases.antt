@@ -16,7 +16,7 @@ unfoldable pub IsAscending : List Lease → Type 0
 IsAscending [] = Unit {0}
 IsAscending (x ∷ xs) = AllByRecursion (λ y. is_before x y ≡ true) xs × IsAscending xs
 
--- the leases before this one, and those behind it
+-- the leases before this one, and those after it
 abbrev pub earlier : List Lease → Lease → List Lease
 earlier queue lease = filter (λ x. is_before x lease) queue
 

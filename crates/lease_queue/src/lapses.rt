@@ -1,4 +1,4 @@
-//! The leases that have lapsed, one after the other.
+//! The leases that have lapsed, one after another.
 ghost use Rattle.std.specs.Prelude.{◌≡◌, ◌+◌, ◌∷◌, [], map, IfSome, IfNone};
 ghost use Rattle.lease_queue.specs.declared.leases.Lease.{Lease};
 
@@ -10,6 +10,7 @@ use std::sync::ledger::Ledger;
 /// A cursor over numbers of leases: contracts see it as the numbers that are left, in order.
 #[derive(Drop)]
 pub struct LapsedIter<'a> {
+    /// The leases that are left.
     left: &'a [Lease],
 }
 

@@ -1,8 +1,8 @@
 //! The leases of the directory in the order in which they lapse, as versions that never change.
 #![tactic(auto)]
 
-mod among;
 mod lapses;
+mod lease_lists;
 mod leases;
 mod queue;
 

@@ -3,7 +3,7 @@ ghost use Rattle.std.specs.Prelude.{◌≡◌, ◌≢◌, ◌↔◌, [], length,
 ghost use Rattle.lease_queue.specs.declared.leases.Lease.{Lease};
 ghost use Rattle.lease_queue.specs.Leases.{IsAscending, with_lease, without_lease, lapsed_at};
 
-use crate::among::{copied, lapsed, with_lease, without_lease};
+use crate::lease_lists::{copied, lapsed, with_lease, without_lease};
 use crate::{LapsedIter, Lease};
 use rd_base::{Moment, Starved};
 use std::alloc::Global;
@@ -13,6 +13,7 @@ use std::marker::Model;
 /// [`LeaseQueue::put`] and [`LeaseQueue::take`] make another one. Contracts see it as the list of its leases.
 #[derive(Debug, Drop)]
 pub struct LeaseQueue {
+    /// The leases in their order.
     leases: Vec<Lease>,
 }
 

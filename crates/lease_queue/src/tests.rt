@@ -31,6 +31,7 @@ take 0 8|60|9 2 3
 take 50 9|60|2 3
 take 18446744073709551615 4|18446744073709551615|2 3 1 0";
 
+/// The queue after a change that is written as a word, a moment and a number.
 fn changed(queue: &LeaseQueue, change: &str) -> Result<LeaseQueue, Fail> {
     let (word, lease) = change.split_once(' ').ok_or("no lease")?;
     let (lapse, number) = lease.split_once(' ').ok_or("no number")?;
@@ -42,6 +43,7 @@ fn changed(queue: &LeaseQueue, change: &str) -> Result<LeaseQueue, Fail> {
     }
 }
 
+/// The numbers that words write.
 fn numbers_of(alloc: Global, text: &str) -> Result<Vec<u64>, Fail> {
     let mut numbers = Vec::new(alloc);
     for word in text.split_whitespace() {
@@ -51,6 +53,7 @@ fn numbers_of(alloc: Global, text: &str) -> Result<Vec<u64>, Fail> {
     Ok(numbers)
 }
 
+/// The numbers of the leases that have lapsed.
 fn lapsed_numbers<L: Ledger>(
     blank: Blank,
     alloc: Global,
@@ -70,6 +73,7 @@ fn lapsed_numbers<L: Ledger>(
     Ok(numbers)
 }
 
+/// Leases lapse in their order.
 #[test]
 fn leases_lapse_in_order(rt: HostRuntime) -> Result<(), Fail> {
     let mut queue = LeaseQueue::empty(rt.alloc())?;
@@ -89,6 +93,7 @@ fn leases_lapse_in_order(rt: HostRuntime) -> Result<(), Fail> {
     Ok(())
 }
 
+/// A queue stays as it is when another one is made of it.
 #[test]
 fn versions_stay(rt: HostRuntime) -> Result<(), Fail> {
     let none = LeaseQueue::empty(rt.alloc())?;

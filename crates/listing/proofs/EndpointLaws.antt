@@ -7,16 +7,16 @@ use Rattle.rd_base.specs.declared.records.Record.{Record}
 use Rattle.record_model.specs.Matching.{is_href, matches_named, matches_pairs, endpoint_pairs, endpoint_matches, sector_pairs}
 use Rattle.record_model.specs.ListingLines.{own_pairs}
 
--- pairs behind the sector's
-behind_sector : (base name kind : Pair) (sector : Option (List ℕ)) (extra : List Pair)
+-- pairs after the sector's
+after_sector : (base name kind : Pair) (sector : Option (List ℕ)) (extra : List Pair)
     → base ∷ name ∷ (sector_pairs sector ++ (kind ∷ extra)) ≡ (base ∷ name ∷ (sector_pairs sector ++ (kind ∷ []))) ++ extra
-behind_sector base name kind None extra = refl
-behind_sector base name kind (Some text) extra = refl
+after_sector base name kind None extra = refl
+after_sector base name kind (Some text) extra = refl
 
 -- an endpoint's attributes are its own ones and its extra ones
 pub endpoint_pairs-parts : (r : Record) → endpoint_pairs r ≡ own_pairs r ++ r.attrs
 unfolding endpoint_pairs
-endpoint_pairs-parts r = behind_sector _ _ _ r.name.sector r.attrs
+endpoint_pairs-parts r = after_sector _ _ _ r.name.sector r.attrs
 
 -- a criterion of another name is met by one of these
 pub endpoint_by_parts : (criterion : Criterion) (r : Record) (own extra : Bool) → is_href criterion ≡ false

@@ -1,8 +1,11 @@
+-- Proofs of the code that lists one registration. PatternLaws, LocationLaws, EndpointLaws: criteria. PieceLaws: lines, piece by
+-- piece. StepLaws, PartLaws, SamePartLaws: the lines of a registration, and when those of two are the same.
+-- OwnLaws: the directory's own links.
 pub mod PatternLaws
 pub mod LocationLaws
 pub mod EndpointLaws
 pub mod PieceLaws
-pub mod ShowingLaws
+pub mod PartLaws
 pub mod StepLaws
 pub mod OwnLaws
-pub mod ComparingLaws
+pub mod SamePartLaws

@@ -9,10 +9,10 @@ use Rattle.link_model.specs.Characters.{comma}
 use Rattle.record_model.specs.Discovery.{own_items, discovery}
 use Rattle.record_model.specs.ListingLines.{link_line, page_of, shown}
 use Rattle.link_model.proofs.OnLiterals.{document_on_literals}
-use Rattle.listing.specs.Appending.{appended, shown_lines}
-use Rattle.listing.specs.Listed.{listed_lines, listed_of}
-use Rattle.listing.specs.Own.{own_item}
-use Rattle.listing.proofs.ShowingLaws.{appended-joined}
+use Rattle.listing.specs.AppendedLines.{appended, shown_lines}
+use Rattle.listing.specs.ListedLinks.{listed_lines, listed_of}
+use Rattle.listing.specs.OwnLinks.{own_item}
+use Rattle.listing.proofs.PartLaws.{appended-joined}
 
 -- its links, as they are made
 pub own_links : own_items ≡ own_item (codes "/rd") (codes ";rt=\"core.rd\";ct=40") (codes "core.rd") false

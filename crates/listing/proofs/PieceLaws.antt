@@ -7,49 +7,49 @@ use Rattle.link_model.specs.Characters.{is_empty}
 use Rattle.link_model.specs.Quoting.{escaped_character, quoted}
 use Rattle.record_model.specs.Matching.{location}
 use Rattle.record_model.specs.ListingLines.{anchor_text, bracketed, endpoint_line, extra_attribute, link_line, own_pairs, quoted_attribute}
-use Rattle.listing.specs.Saying.{own_line}
+use Rattle.listing.specs.Pieces.{own_line}
 
 -- a text with its last octet, before what follows
 seam : (text rest more : List ℕ) (c : ℕ) → rest ≡ more → text ++ c ∷ rest ≡ (text ++ c ∷ []) ++ more
 seam text rest more c same = sym (append_assoc text (c ∷ []) rest) ∙ ap (λ (r : List ℕ). (text ++ c ∷ []) ++ r) same
 
 -- what follows a literal
-behind : (literal : List ℕ) {rest more : List ℕ} → rest ≡ more → literal ++ rest ≡ literal ++ more
-behind literal same = ap (λ (r : List ℕ). literal ++ r) same
+after : (literal : List ℕ) {rest more : List ℕ} → rest ≡ more → literal ++ rest ≡ literal ++ more
+after literal same = ap (λ (r : List ℕ). literal ++ r) same
 
 -- the line of a link with an anchor
-pub link_with_anchor : (item : Item) (target raw anchor given : List ℕ) → target ≡ item.target → raw ≡ item.raw → anchor ≡ given → item.anchor ≡ Some given
+pub link_with_anchor : (item : Item) (target raw anchor spelled : List ℕ) → target ≡ item.target → raw ≡ item.raw → anchor ≡ spelled → item.anchor ≡ Some spelled
     → 60 ∷ (target ++ 62 ∷ (raw ++ (codes ";anchor=\"" ++ (flat_map escaped_character anchor ++ 34 ∷ [])))) ≡ link_line item
 unfolding link_line quoted
-link_with_anchor item target raw anchor given e f g h =
-    rw (e, f, g, h) (behind (60 ∷ []) (seam item.target (item.raw ++ (codes ";anchor=\"" ++ (flat_map escaped_character given ++ 34 ∷ []))) _ 62 refl))
+link_with_anchor item target raw anchor spelled e f g h =
+    rw (e, f, g, h) (after (60 ∷ []) (seam item.target (item.raw ++ (codes ";anchor=\"" ++ (flat_map escaped_character spelled ++ 34 ∷ []))) _ 62 refl))
 
 -- and of one without
 pub link_without_anchor : (item : Item) (target raw : List ℕ) → target ≡ item.target → raw ≡ item.raw → item.anchor ≡ None
     → 60 ∷ (target ++ 62 ∷ (raw ++ [])) ≡ link_line item
 unfolding link_line
-link_without_anchor item target raw e f h = rw (e, f, h) (behind (60 ∷ []) (seam item.target (item.raw ++ []) _ 62 refl))
+link_without_anchor item target raw e f h = rw (e, f, h) (after (60 ∷ []) (seam item.target (item.raw ++ []) _ 62 refl))
 
 -- the line of an endpoint with a sector, before its extra attributes
-pub own_with_sector : (r : Record) (place base name sector given : List ℕ) → base ≡ r.base → name ≡ r.name.ep → sector ≡ given → r.name.sector ≡ Some given → place ≡ location r.number
-    → 60 ∷ (place ++ (codes ">;base=\"" ++ (flat_map escaped_character base ++ (codes "\";ep=\"" ++ (flat_map escaped_character name ++ (codes "\";d=\"" ++ (flat_map escaped_character sector ++ codes "\";rt=\"core.rd-ep\""))))))) ≡ own_line r
+pub own_with_sector : (r : Record) (location_text base name sector spelled : List ℕ) → base ≡ r.base → name ≡ r.name.ep → sector ≡ spelled → r.name.sector ≡ Some spelled → location_text ≡ location r.number
+    → 60 ∷ (location_text ++ (codes ">;base=\"" ++ (flat_map escaped_character base ++ (codes "\";ep=\"" ++ (flat_map escaped_character name ++ (codes "\";d=\"" ++ (flat_map escaped_character sector ++ codes "\";rt=\"core.rd-ep\""))))))) ≡ own_line r
 unfolding own_line quoted
-own_with_sector r place base name sector given e f g h i =
-    let four = seam (flat_map escaped_character given) (codes ";rt=\"core.rd-ep\"") (codes ";rt=\"core.rd-ep\"") 34 refl in
-    let three = seam (flat_map escaped_character r.name.ep) _ _ 34 (behind (codes ";d=\"") four) in
-    let two = seam (flat_map escaped_character r.base) _ _ 34 (behind (codes ";ep=\"") three) in
-    let one = seam (location r.number) _ _ 62 (behind (codes ";base=\"") two) in
-    rw (e, f, g, h, i) (behind (60 ∷ []) one)
+own_with_sector r location_text base name sector spelled e f g h i =
+    let four = seam (flat_map escaped_character spelled) (codes ";rt=\"core.rd-ep\"") (codes ";rt=\"core.rd-ep\"") 34 refl in
+    let three = seam (flat_map escaped_character r.name.ep) _ _ 34 (after (codes ";d=\"") four) in
+    let two = seam (flat_map escaped_character r.base) _ _ 34 (after (codes ";ep=\"") three) in
+    let one = seam (location r.number) _ _ 62 (after (codes ";base=\"") two) in
+    rw (e, f, g, h, i) (after (60 ∷ []) one)
 
 -- and of one without
-pub own_without_sector : (r : Record) (place base name : List ℕ) → base ≡ r.base → name ≡ r.name.ep → r.name.sector ≡ None → place ≡ location r.number
-    → 60 ∷ (place ++ (codes ">;base=\"" ++ (flat_map escaped_character base ++ (codes "\";ep=\"" ++ (flat_map escaped_character name ++ codes "\";rt=\"core.rd-ep\""))))) ≡ own_line r
+pub own_without_sector : (r : Record) (location_text base name : List ℕ) → base ≡ r.base → name ≡ r.name.ep → r.name.sector ≡ None → location_text ≡ location r.number
+    → 60 ∷ (location_text ++ (codes ">;base=\"" ++ (flat_map escaped_character base ++ (codes "\";ep=\"" ++ (flat_map escaped_character name ++ codes "\";rt=\"core.rd-ep\""))))) ≡ own_line r
 unfolding own_line quoted
-own_without_sector r place base name e f h i =
+own_without_sector r location_text base name e f h i =
     let three = seam (flat_map escaped_character r.name.ep) (codes ";rt=\"core.rd-ep\"") (codes ";rt=\"core.rd-ep\"") 34 refl in
-    let two = seam (flat_map escaped_character r.base) _ _ 34 (behind (codes ";ep=\"") three) in
-    let one = seam (location r.number) _ _ 62 (behind (codes ";base=\"") two) in
-    rw (e, f, h, i) (behind (60 ∷ []) one)
+    let two = seam (flat_map escaped_character r.base) _ _ 34 (after (codes ";ep=\"") three) in
+    let one = seam (location r.number) _ _ 62 (after (codes ";base=\"") two) in
+    rw (e, f, h, i) (after (60 ∷ []) one)
 
 -- an extra attribute with a value
 pub extra_with_value : (pair : Pair) (name value : List ℕ) → name ≡ pair.name → value ≡ pair.value → is_empty pair.value ≡ false
@@ -62,10 +62,10 @@ pub is_some_text : (text : List ℕ) → ((text ≡ []) → false ≡ true) → 
 is_some_text [] h = sym (h refl)
 is_some_text (c ∷ cs) h = refl
 
--- the line of an endpoint behind a text
+-- the line of an endpoint after a text
 pub endpoint_whole : (r : Record) (text : List ℕ) → (text ++ own_line r) ++ flat_map extra_attribute r.attrs ≡ text ++ endpoint_line r
 unfolding own_line endpoint_line
-endpoint_whole r text = append_assoc text _ (flat_map extra_attribute r.attrs) ∙ behind text (append_assoc (bracketed (location r.number)) (flat_map quoted_attribute (own_pairs r)) (flat_map extra_attribute r.attrs))
+endpoint_whole r text = append_assoc text _ (flat_map extra_attribute r.attrs) ∙ after text (append_assoc (bracketed (location r.number)) (flat_map quoted_attribute (own_pairs r)) (flat_map extra_attribute r.attrs))
 
 -- a link's line begins with a bracket
 pub link_line_begins : (item : Item) → (rest : List ℕ) × (link_line item ≡ 60 ∷ rest)

@@ -7,17 +7,17 @@ use Rattle.rd_base.specs.declared.records.Item.{Item}
 use Rattle.rd_base.specs.declared.records.Record.{Record}
 use Rattle.link_model.specs.Characters.{comma}
 use Rattle.record_model.specs.ListingLines.{endpoint_line, endpoint_listed, link_line, part}
-use Rattle.listing.specs.Appending.{appended, separated, shown_lines}
-use Rattle.listing.specs.Listed.{listed_endpoint, listed_lines, listed_of}
+use Rattle.listing.specs.AppendedLines.{appended, separated, shown_lines}
+use Rattle.listing.specs.ListedLinks.{listed_endpoint, listed_lines, listed_of}
 use Rattle.listing.proofs.PieceLaws.{endpoint_line_begins, link_line_begins}
-use Rattle.listing.proofs.ShowingLaws.{appended-cons, appended-nil, shown_none, skip_one, write_one}
+use Rattle.listing.proofs.PartLaws.{appended-cons, appended-nil, shown_none, skip_one, write_one}
 
 -- what holds where a call did not fail
 pub where_ok : {T E : Type 0} {P : Type 0} (r : Result T E) → is_err r ≡ false → OnOk r P → P
 where_ok (Ok x) passed holds = holds
 where_ok (Err e) passed holds = absurd (let clash : true ≡ false = passed in cc)
 
--- a link that is listed stands before the lines of those behind it
+-- a link that is listed stands before the lines of those after it
 pub listed_first : (query : Query) (owner : Option Record) (item : Item) (more rest : List Item) → rest ≡ item ∷ more → listed_of query owner item ≡ true
     → listed_lines query owner rest ≡ link_line item ∷ listed_lines query owner more
 listed_first query owner item more rest split listed = rw (split, listed) refl

@@ -1,6 +1,6 @@
-pub mod Appending
-pub mod Saying
-pub mod Listed
-pub mod Own
-pub mod Comparing
+pub mod AppendedLines
+pub mod Pieces
+pub mod ListedLinks
+pub mod OwnLinks
+pub mod SameParts
 pub mod Views

@@ -8,12 +8,12 @@ use Rattle.link_model.specs.Quoting.{escaped_character}
 use Rattle.record_model.specs.ListingLines.{extra_attribute, link_line}
 use Rattle.listing.specs.declared.octets.Octets.{Octets}
 use Rattle.listing.specs.declared.pieces.Piece.{Piece}
-use Rattle.listing.specs.Listed.{listed_lines}
-use Rattle.listing.specs.Saying.{said_in_order}
+use Rattle.listing.specs.ListedLinks.{listed_lines}
+use Rattle.listing.specs.Pieces.{octets_of_pieces}
 
 -- the octets that are left
 abbrev pub left : Octets → List ℕ
-left o = o.run.now ++ (flat_map escaped_character o.escaped.now ++ (said_in_order (drop o.at o.pieces) ++ flat_map extra_attribute o.extra.now))
+left o = o.run.now ++ (flat_map escaped_character o.escaped.now ++ (octets_of_pieces (drop o.at o.pieces) ++ flat_map extra_attribute o.extra.now))
 
 -- one more than the pieces of an attribute
 abbrev pub attribute_weight : ℕ
@@ -28,12 +28,12 @@ abbrev pub Gives : Option ℕ → List ℕ → List ℕ → Type 0
 Gives (Some c) before now = before ≡ c ∷ now
 Gives None before now = before ≡ []
 
--- the piece at a place, or that there is none
+-- the piece at an index, or that there is none
 abbrev pub PieceAt : List Piece → ℕ → Option Piece → Type 0
 PieceAt pieces at (Some piece) = (drop at pieces ≡ piece ∷ drop (at + 1) pieces) × (at < length pieces) × (at + 1 < 2 ^ 64)
 PieceAt pieces at None = length pieces ≤ at
 
--- the first link that is listed, and those behind it
+-- the first link that is listed, and those after it
 abbrev pub FirstListed : Query → Record → List Item → Option (Bor Item × Bor (List Item)) → Type 0
 FirstListed query r items (Some (item, more)) =
     (listed_lines query (Some r) items ≡ link_line item.now ∷ listed_lines query (Some r) more.now) × (length more.now < length items)

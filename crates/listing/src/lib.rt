@@ -1,20 +1,20 @@
 //! Which links and endpoints of one registration a lookup lists, and how their lines are spelled (RFC 9176 section 6).
 #![tactic(auto)]
 
-mod appending;
-mod comparing;
+mod appended_lines;
+mod criteria;
 mod locations;
-mod matching;
 mod octets;
-mod own;
+mod own_links;
+mod parts;
 mod patterns;
 mod pieces;
-mod showing;
+mod same_parts;
 
-pub use comparing::same_part;
-pub use matching::{endpoint_listed, endpoint_matches, link_matches, matches};
-pub use own::discovery;
-pub use showing::lines;
+pub use criteria::{endpoint_listed, endpoint_matches, link_matches, matches};
+pub use own_links::discovery;
+pub use parts::lines;
+pub use same_parts::same_part;
 
 #[cfg(test)]
 mod tests;

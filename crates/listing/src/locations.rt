@@ -1,4 +1,4 @@
-// The location of a registration, as it stands in a link (RFC 9176 section 5).
+//! The location of a registration, as it stands in a link (RFC 9176 section 5).
 ghost use Rattle.std.specs.Prelude.{◌≡◌, ◌≤◌, drop};
 ghost use Rattle.record_model.specs.Matching as model;
 

@@ -1,8 +1,8 @@
-// Lines that are read octet by octet, so that two can be compared without memory.
+//! Lines that are read octet by octet, so that two can be compared without memory.
 ghost use Rattle.std.specs.Prelude.{◌≡◌, ◌<◌, ◌++◌, [], false, flat_map, bytes_eq, IsTrue};
 ghost use Rattle.record_model.specs.ListingLines as listing_model;
 ghost use Rattle.listing.specs.Views.{Gives, PieceAt, left, pieces_left};
-ghost use Rattle.listing.specs.Saying.{said, said_in_order};
+ghost use Rattle.listing.specs.Pieces.{octets_of_piece, octets_of_pieces};
 
 use crate::pieces::{PIECES, Piece, attribute_pieces, is_escaped};
 use rd_base::Pair;
@@ -12,18 +12,18 @@ use rd_base::Pair;
 pub struct Octets<'a> {
     /// Octets that come first.
     run: &'a [u8],
-    /// Octets behind them, each escaped where it has to be.
+    /// Octets after them, each escaped where it has to be.
     escaped: &'a [u8],
-    /// Pieces of which those from `at` on stand behind them.
+    /// Pieces of which those from `at` on stand after them.
     pieces: [Piece<'a>; PIECES],
     at: usize,
-    /// Extra attributes behind the pieces.
+    /// Extra attributes after the pieces.
     extra: &'a [Pair],
 }
 
-/// The octets of pieces and of extra attributes behind them.
+/// The octets of pieces and of extra attributes after them.
 pub fn octets_of<'a>(pieces: [Piece<'a>; PIECES], extra: &'a [Pair]) -> Octets<'a>
-    ensures { left result ≡ said_in_order pieces.entry ++ flat_map listing_model.extra_attribute extra.now }
+    ensures { left result ≡ octets_of_pieces pieces.entry ++ flat_map listing_model.extra_attribute extra.now }
 {
     Octets {
         run: b"",

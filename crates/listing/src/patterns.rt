@@ -1,4 +1,4 @@
-// Patterns against values (RFC 6690 section 4.1).
+//! Patterns against values (RFC 6690 section 4.1).
 ghost use Rattle.std.specs.Prelude.{◌≡◌, ◌&&◌, ◌==◌, not};
 ghost use Rattle.std.specs.Option.{option_copied};
 ghost use Rattle.std.specs.List.{list_any, slice_split};

@@ -1,9 +1,9 @@
-// The pieces of lines: texts that stand in them as they are, and texts that stand in quotes (RFC 6690 section 2).
+//! The pieces of lines: texts that stand in them as they are, and texts that stand in quotes (RFC 6690 section 2).
 ghost use Rattle.std.specs.Prelude.{◌≡◌, ◌==◌, ◌||◌};
 ghost use Rattle.link_model.specs.Characters.{backslash, quote_mark};
 ghost use Rattle.record_model.specs.ListingLines as listing_model;
 ghost use Rattle.record_model.specs.Matching as model;
-ghost use Rattle.listing.specs.Saying.{said_in_order, own_line};
+ghost use Rattle.listing.specs.Pieces.{octets_of_pieces, own_line};
 
 use rd_base::{Item, Pair, Record};
 
@@ -29,13 +29,13 @@ pub fn is_escaped(octet: u8) -> bool
 /// The line of a link.
 #[tactic(auto, using(crate::proofs::PieceLaws::link_with_anchor, crate::proofs::PieceLaws::link_without_anchor))]
 pub fn link_pieces<'a>(item: &'a Item) -> [Piece<'a>; PIECES]
-    ensures { said_in_order result ≡ listing_model.link_line item.now }
+    ensures { octets_of_pieces result ≡ listing_model.link_line item.now }
 {
     let none = Piece::Plain(b"");
     let target = Piece::Plain(item.target.as_bytes());
     let raw = Piece::Plain(item.raw.as_bytes());
-    if let Some(given) = &item.anchor {
-        let anchor = Piece::Escaped(given.as_bytes());
+    if let Some(text) = &item.anchor {
+        let anchor = Piece::Escaped(text.as_bytes());
         return [
             Piece::Plain(b"<"),
             target,
@@ -68,17 +68,16 @@ pub fn link_pieces<'a>(item: &'a Item) -> [Piece<'a>; PIECES]
 /// The line of an endpoint before its extra attributes.
 pub fn endpoint_pieces<'a>(record_of: &'a Record, location: &'a [u8]) -> [Piece<'a>; PIECES]
     requires { location.now ≡ model.location record_of.now.number }
-    ensures { said_in_order result ≡ own_line record_of.now }
+    ensures { octets_of_pieces result ≡ own_line record_of.now }
 {
     let none = Piece::Plain(b"");
-    let place = Piece::Plain(location);
     let base = Piece::Escaped(record_of.base.as_bytes());
     let ep = Piece::Escaped(record_of.name.ep.as_bytes());
-    if let Some(given) = &record_of.name.sector {
-        let sector = Piece::Escaped(given.as_bytes());
+    if let Some(text) = &record_of.name.sector {
+        let sector = Piece::Escaped(text.as_bytes());
         return [
             Piece::Plain(b"<"),
-            place,
+            Piece::Plain(location),
             Piece::Plain(b">;base=\""),
             base,
             Piece::Plain(b"\";ep=\""),
@@ -92,7 +91,7 @@ pub fn endpoint_pieces<'a>(record_of: &'a Record, location: &'a [u8]) -> [Piece<
     }
     [
         Piece::Plain(b"<"),
-        place,
+        Piece::Plain(location),
         Piece::Plain(b">;base=\""),
         base,
         Piece::Plain(b"\";ep=\""),
@@ -108,7 +107,7 @@ pub fn endpoint_pieces<'a>(record_of: &'a Record, location: &'a [u8]) -> [Piece<
 /// An extra attribute of an endpoint: its name alone where its value is empty.
 #[tactic(auto, using(crate::proofs::PieceLaws::extra_with_value, crate::proofs::PieceLaws::is_some_text))]
 pub fn attribute_pieces<'a>(pair: &'a Pair) -> [Piece<'a>; PIECES]
-    ensures { said_in_order result ≡ listing_model.extra_attribute pair.now }
+    ensures { octets_of_pieces result ≡ listing_model.extra_attribute pair.now }
 {
     let none = Piece::Plain(b"");
     let name = Piece::Plain(pair.name.as_bytes());

@@ -10,7 +10,7 @@ use std::test::Fail;
 
 /// The registrations of the table.
 #[derive(Clone, Copy, Debug)]
-enum Given {
+enum Sample {
     /// Two links.
     Sensors,
     /// A link whose resource type has two parts.
@@ -19,9 +19,10 @@ enum Given {
     Quotes,
 }
 
-fn pairs_of(alloc: Global, given: &[(&str, &str)]) -> Result<Pairs, Starved> {
+/// Attributes of these names and values.
+fn pairs_of(alloc: Global, attributes: &[(&str, &str)]) -> Result<Pairs, Starved> {
     let mut pairs = Vec::new(alloc);
-    for (name, value) in given {
+    for (name, value) in attributes {
         let name = Text::copy_of(alloc, name)?;
         let value = Text::copy_of(alloc, value)?;
         pairs.push(Pair { name, value })?;
@@ -29,17 +30,24 @@ fn pairs_of(alloc: Global, given: &[(&str, &str)]) -> Result<Pairs, Starved> {
     Ok(Pairs::of(pairs))
 }
 
-fn link(alloc: Global, target: &str, raw: &str, given: &[(&str, &str)]) -> Result<Item, Starved> {
+/// A link with this target and these attributes.
+fn link(
+    alloc: Global,
+    target: &str,
+    raw: &str,
+    attributes: &[(&str, &str)],
+) -> Result<Item, Starved> {
     Ok(Item {
         target_ref: Text::copy_of(alloc, target)?,
         anchor_ref: None,
         target: Text::copy_of(alloc, target)?,
         anchor: None,
         raw: Text::copy_of(alloc, raw)?,
-        pairs: pairs_of(alloc, given)?,
+        pairs: pairs_of(alloc, attributes)?,
     })
 }
 
+/// A registration with this base and these links.
 fn registration(alloc: Global, base: &str, links: Vec<Item>) -> Result<Record, Starved> {
     Ok(Record {
         number: 1,
@@ -56,10 +64,11 @@ fn registration(alloc: Global, base: &str, links: Vec<Item>) -> Result<Record, S
     })
 }
 
-fn given_registration(alloc: Global, given: Given) -> Result<Record, Starved> {
+/// The registration that a sample stands for.
+fn sample_registration(alloc: Global, sample: Sample) -> Result<Record, Starved> {
     let mut links = Vec::new(alloc);
-    match given {
-        Given::Sensors => {
+    match sample {
+        Sample::Sensors => {
             links.push(link(
                 alloc,
                 "coap://192.0.2.10/temp",
@@ -74,7 +83,7 @@ fn given_registration(alloc: Global, given: Given) -> Result<Record, Starved> {
             )?)?;
             registration(alloc, "coap://192.0.2.10", links)
         }
-        Given::Parts => {
+        Sample::Parts => {
             links.push(link(
                 alloc,
                 "coap://192.0.2.10/s",
@@ -83,7 +92,7 @@ fn given_registration(alloc: Global, given: Given) -> Result<Record, Starved> {
             )?)?;
             registration(alloc, "coap://192.0.2.10", links)
         }
-        Given::Quotes => {
+        Sample::Quotes => {
             let mut item = link(alloc, "coap://h/c/x", ";title=\"\"", &[("title", "")])?;
             item.anchor = Some(Text::copy_of(alloc, "coap://h/c/\"d\"")?);
             links.push(item)?;
@@ -95,9 +104,10 @@ fn given_registration(alloc: Global, given: Given) -> Result<Record, Starved> {
     }
 }
 
-fn query_of(alloc: Global, kind: Kind, given: &str) -> Result<Query, Starved> {
+/// A query of a kind with these options, which ampersands part.
+fn query_of(alloc: Global, kind: Kind, options: &str) -> Result<Query, Starved> {
     let mut criteria = Vec::new(alloc);
-    for option in given.split('&') {
+    for option in options.split('&') {
         if let Some((name, pattern)) = option.split_once('=') {
             let name = Text::copy_of(alloc, name)?;
             let pattern = Text::copy_of(alloc, pattern)?;
@@ -142,39 +152,43 @@ own discovery|rt=core.rd|</rd>;rt="core.rd";ct=40
 own discovery|obs=|</rd-lookup/ep>;rt="core.rd-lookup-ep";ct=40;obs,</rd-lookup/res>;rt="core.rd-lookup-res";ct=40;obs
 own discovery|ep=node1|"#;
 
-fn listed(alloc: Global, place: &str, criteria: &str) -> Result<Bytes, Starved> {
-    match place {
-        "sensors resource" => listed_of(alloc, Given::Sensors, Kind::Resource, criteria),
-        "sensors endpoint" => listed_of(alloc, Given::Sensors, Kind::Endpoint, criteria),
-        "parts resource" => listed_of(alloc, Given::Parts, Kind::Resource, criteria),
-        "quotes resource" => listed_of(alloc, Given::Quotes, Kind::Resource, criteria),
-        "quotes endpoint" => listed_of(alloc, Given::Quotes, Kind::Endpoint, criteria),
+/// What a subject lists of these criteria.
+fn listed(alloc: Global, subject: &str, criteria: &str) -> Result<Bytes, Starved> {
+    match subject {
+        "sensors resource" => listed_of(alloc, Sample::Sensors, Kind::Resource, criteria),
+        "sensors endpoint" => listed_of(alloc, Sample::Sensors, Kind::Endpoint, criteria),
+        "parts resource" => listed_of(alloc, Sample::Parts, Kind::Resource, criteria),
+        "quotes resource" => listed_of(alloc, Sample::Quotes, Kind::Resource, criteria),
+        "quotes endpoint" => listed_of(alloc, Sample::Quotes, Kind::Endpoint, criteria),
         _ => discovery(alloc, &query_of(alloc, Kind::Discovery, criteria)?),
     }
 }
 
-fn listed_of(alloc: Global, given: Given, kind: Kind, criteria: &str) -> Result<Bytes, Starved> {
+/// The lines that a sample gives to a lookup.
+fn listed_of(alloc: Global, sample: Sample, kind: Kind, criteria: &str) -> Result<Bytes, Starved> {
     let query = query_of(alloc, kind, criteria)?;
-    let record_of = given_registration(alloc, given)?;
+    let record_of = sample_registration(alloc, sample)?;
     let mut text = Bytes::new(alloc);
     lines(alloc, &query, &record_of, 0, u64::MAX, &mut text)?;
     Ok(text)
 }
 
+/// Each case lists its lines.
 #[test]
 fn lines_are_listed(rt: HostRuntime) -> Result<(), Fail> {
     let mut count = 0;
     for case in CASES.lines() {
-        let (place, rest) = case.split_once('|').ok_or("no place")?;
+        let (subject, rest) = case.split_once('|').ok_or("no subject")?;
         let (criteria, want) = rest.split_once('|').ok_or("no criteria")?;
-        let text = listed(rt.alloc(), place, criteria)?;
-        assert_eq!(rt; text.as_slice(), want.as_bytes(), "{place} {criteria}");
+        let text = listed(rt.alloc(), subject, criteria)?;
+        assert_eq!(rt; text.as_slice(), want.as_bytes(), "{subject} {criteria}");
         count = u32::saturating_add(count, 1);
     }
     assert_eq!(rt; count, 27);
     Ok(())
 }
 
+/// A page of many links has those that it asks for.
 #[test]
 fn many_links_are_cut(rt: HostRuntime) -> Result<(), Fail> {
     let mut links = Vec::new(rt.alloc());
@@ -203,11 +217,12 @@ fn many_links_are_cut(rt: HostRuntime) -> Result<(), Fail> {
     Ok(())
 }
 
+/// Equal lines are recognized, and lines that differ.
 #[test]
-fn the_same_lines_are_told(rt: HostRuntime) -> Result<(), Fail> {
-    let sensors = given_registration(rt.alloc(), Given::Sensors)?;
-    let again = given_registration(rt.alloc(), Given::Sensors)?;
-    let quotes = given_registration(rt.alloc(), Given::Quotes)?;
+fn the_same_lines_are_recognized(rt: HostRuntime) -> Result<(), Fail> {
+    let sensors = sample_registration(rt.alloc(), Sample::Sensors)?;
+    let again = sample_registration(rt.alloc(), Sample::Sensors)?;
+    let quotes = sample_registration(rt.alloc(), Sample::Quotes)?;
     let lux = query_of(rt.alloc(), Kind::Resource, "rt=light-lux")?;
     let all = query_of(rt.alloc(), Kind::Endpoint, "")?;
     let cases = [

@@ -12,9 +12,9 @@ use Rattle.record_model.specs.Faults.{or_else, first_reason}
 use Rattle.record_model.specs.Options.{option_name, option_value, value_named, is_number, number_of}
 use Rattle.record_model.specs.Parameters.{lifetime, has_control, is_lifetime}
 use Rattle.record_model.specs.Criteria.{page, count}
-use Rattle.query_text.specs.declared.stood.Stood.{Stood}
+use Rattle.query_text.specs.declared.occurrences.Occurred.{Occurred}
 use Rattle.query_text.specs.Numbers.{number_in, lifetime_in}
-use Rattle.query_text.specs.Judging.{is_lookup, parameter_rules, option_rules, named_fault, fault_after}
+use Rattle.query_text.specs.Rules.{is_lookup, parameter_rules, option_rules, named_fault, fault_after}
 
 module _ {A B : Type 0} (f : A → B) (x : A) where
   pub if_map : (b : Bool) (o : Option A) → option_map f (if b then Some x else o) ≡ (if b then Some (f x) else option_map f o)
@@ -59,29 +59,29 @@ good_once true l w h = absurd (none_some (sym h))
 good_once false true w h = refl
 good_once false false w h = absurd (none_some (sym h))
 
-named_good : (kind : Reading) (stood : Stood) (query : List ℕ) → fault_after kind stood query ≡ None → named_fault kind stood (option_name query) (option_value query) ≡ None
+named_good : (kind : Reading) (occurred : Occurred) (query : List ℕ) → fault_after kind occurred query ≡ None → named_fault kind occurred (option_name query) (option_value query) ≡ None
 unfolding fault_after
-named_good kind stood query h = good_text (is_utf8 query) (named_fault kind stood (option_name query) (option_value query)) h
+named_good kind occurred query h = good_text (is_utf8 query) (named_fault kind occurred (option_name query) (option_value query)) h
 
-parameter_good : (kind : Reading) (stood : Stood) (name value : List ℕ) → is_lookup kind ≡ false → named_fault kind stood name value ≡ None → parameter_rules kind stood name value ≡ None
+parameter_good : (kind : Reading) (occurred : Occurred) (name value : List ℕ) → is_lookup kind ≡ false → named_fault kind occurred name value ≡ None → parameter_rules kind occurred name value ≡ None
 unfolding named_fault
-parameter_good kind stood name value l h = good_characters (has_control value) (parameter_rules kind stood name value) (rw l at h)
+parameter_good kind occurred name value l h = good_characters (has_control value) (parameter_rules kind occurred name value) (rw l at h)
 
-option_good : (stood : Stood) (name value : List ℕ) → named_fault reading.Lookup stood name value ≡ None → option_rules stood name value ≡ None
+option_good : (occurred : Occurred) (name value : List ℕ) → named_fault reading.Lookup occurred name value ≡ None → option_rules occurred name value ≡ None
 unfolding named_fault
-option_good stood name value h = h
+option_good occurred name value h = h
 
-at_lifetime : (kind : Reading) (stood : Stood) (value : List ℕ) → parameter_rules kind stood lifetime value ≡ None → is_lifetime value ≡ true
+at_lifetime : (kind : Reading) (occurred : Occurred) (value : List ℕ) → parameter_rules kind occurred lifetime value ≡ None → is_lifetime value ≡ true
 unfolding parameter_rules
-at_lifetime kind stood value h = good_once stood.lifetime (is_lifetime value) why.Lt h
+at_lifetime kind occurred value h = good_once occurred.lifetime (is_lifetime value) why.Lt h
 
-at_page : (stood : Stood) (value : List ℕ) → option_rules stood page value ≡ None → is_number value ≡ true
+at_page : (occurred : Occurred) (value : List ℕ) → option_rules occurred page value ≡ None → is_number value ≡ true
 unfolding option_rules
-at_page stood value h = good_once stood.page (is_number value) why.Number h
+at_page occurred value h = good_once occurred.page (is_number value) why.Number h
 
-at_count : (stood : Stood) (value : List ℕ) → option_rules stood count value ≡ None → is_number value ≡ true
+at_count : (occurred : Occurred) (value : List ℕ) → option_rules occurred count value ≡ None → is_number value ≡ true
 unfolding option_rules
-at_count stood value h = good_once stood.count (is_number value) why.Number h
+at_count occurred value h = good_once occurred.count (is_number value) why.Number h
 
 chosen_some : (b : Bool) (n : ℕ) → b ≡ true → (if b then Some n else None) ≡ Some n
 chosen_some true n h = refl
@@ -90,24 +90,24 @@ chosen_some false n h =
     absurd (none_some clash)
 
 -- a lifetime without a fault writes a number
-pub good_lifetime : (kind : Reading) (stood : Stood) (query : List ℕ) → is_lookup kind ≡ false → fault_after kind stood query ≡ None → bytes_eq (option_name query) lifetime ≡ true
+pub good_lifetime : (kind : Reading) (occurred : Occurred) (query : List ℕ) → is_lookup kind ≡ false → fault_after kind occurred query ≡ None → bytes_eq (option_name query) lifetime ≡ true
     → lifetime_in (option_value query) ≡ Some (number_of (option_value query))
-good_lifetime kind stood query l h e =
-    let rules = parameter_good kind stood (option_name query) (option_value query) l (named_good kind stood query h) in
-    let at = subst (λ (n : List ℕ). parameter_rules kind stood n (option_value query) ≡ None) ((bytes_eq-Decides (option_name query) lifetime).0 e) rules in
-    chosen_some (is_lifetime (option_value query)) (number_of (option_value query)) (at_lifetime kind stood (option_value query) at)
+good_lifetime kind occurred query l h e =
+    let rules = parameter_good kind occurred (option_name query) (option_value query) l (named_good kind occurred query h) in
+    let at = subst (λ (n : List ℕ). parameter_rules kind occurred n (option_value query) ≡ None) ((bytes_eq-Decides (option_name query) lifetime).0 e) rules in
+    chosen_some (is_lifetime (option_value query)) (number_of (option_value query)) (at_lifetime kind occurred (option_value query) at)
 
 -- and so do a page and a count
-pub good_page : (stood : Stood) (query : List ℕ) → fault_after reading.Lookup stood query ≡ None → bytes_eq (option_name query) page ≡ true
+pub good_page : (occurred : Occurred) (query : List ℕ) → fault_after reading.Lookup occurred query ≡ None → bytes_eq (option_name query) page ≡ true
     → number_in (option_value query) ≡ Some (number_of (option_value query))
-good_page stood query h e =
-    let rules = option_good stood (option_name query) (option_value query) (named_good reading.Lookup stood query h) in
-    let at = subst (λ (n : List ℕ). option_rules stood n (option_value query) ≡ None) ((bytes_eq-Decides (option_name query) page).0 e) rules in
-    chosen_some (is_number (option_value query)) (number_of (option_value query)) (at_page stood (option_value query) at)
+good_page occurred query h e =
+    let rules = option_good occurred (option_name query) (option_value query) (named_good reading.Lookup occurred query h) in
+    let at = subst (λ (n : List ℕ). option_rules occurred n (option_value query) ≡ None) ((bytes_eq-Decides (option_name query) page).0 e) rules in
+    chosen_some (is_number (option_value query)) (number_of (option_value query)) (at_page occurred (option_value query) at)
 
-pub good_count : (stood : Stood) (query : List ℕ) → fault_after reading.Lookup stood query ≡ None → bytes_eq (option_name query) count ≡ true
+pub good_count : (occurred : Occurred) (query : List ℕ) → fault_after reading.Lookup occurred query ≡ None → bytes_eq (option_name query) count ≡ true
     → number_in (option_value query) ≡ Some (number_of (option_value query))
-good_count stood query h e =
-    let rules = option_good stood (option_name query) (option_value query) (named_good reading.Lookup stood query h) in
-    let at = subst (λ (n : List ℕ). option_rules stood n (option_value query) ≡ None) ((bytes_eq-Decides (option_name query) count).0 e) rules in
-    chosen_some (is_number (option_value query)) (number_of (option_value query)) (at_count stood (option_value query) at)
+good_count occurred query h e =
+    let rules = option_good occurred (option_name query) (option_value query) (named_good reading.Lookup occurred query h) in
+    let at = subst (λ (n : List ℕ). option_rules occurred n (option_value query) ≡ None) ((bytes_eq-Decides (option_name query) count).0 e) rules in
+    chosen_some (is_number (option_value query)) (number_of (option_value query)) (at_count occurred (option_value query) at)

@@ -7,22 +7,22 @@ use Rattle.record_model.specs.declared.readings.Reading.TheVariants as reading
 use Rattle.record_model.specs.Faults.{Fault}
 use Rattle.record_model.specs.Parameters.{unless_fault}
 use Rattle.record_model.specs.Criteria.{lookup_fault, lookup_values, lookup_query, fault_of}
-use Rattle.query_text.specs.declared.bad.QueryBad.{QueryBad}
-use Rattle.query_text.specs.declared.bad.QueryBad.TheVariants as bad
-use Rattle.query_text.specs.declared.asked.Asked.{Asked}
-use Rattle.query_text.specs.Walking.{start_of, faults_from}
-use Rattle.query_text.specs.Asking.{wanted_in, wanted_of, query_of}
-use Rattle.query_text.specs.Answering.{Answers, Asks}
-use Rattle.query_text.proofs.Meeting.{same_fault}
+use Rattle.query_text.specs.declared.faults.QueryBad.{QueryBad}
+use Rattle.query_text.specs.declared.faults.QueryBad.TheVariants as bad
+use Rattle.query_text.specs.declared.asked_options.Asked.{Asked}
+use Rattle.query_text.specs.Walks.{start_of, faults_from}
+use Rattle.query_text.specs.AskedOptions.{wanted_in, wanted_of, query_of}
+use Rattle.query_text.specs.Outcomes.{Answers, Asks}
+use Rattle.query_text.proofs.RuleLaws.{same_fault}
 use Rattle.query_text.proofs.Results.{error_at}
 
 pub of_lookup : (queries : List (List ℕ)) → faults_from (start_of reading.Lookup) queries ≡ lookup_fault queries
 unfolding fault_of
 of_lookup queries = same_fault reading.Lookup queries
 
-pub asking_refused : (left : List (List ℕ)) (fault : Fault) (result : Result Asked QueryBad) → faults_from (start_of reading.Lookup) left ≡ Some fault
+pub asked_refused : (left : List (List ℕ)) (fault : Fault) (result : Result Asked QueryBad) → faults_from (start_of reading.Lookup) left ≡ Some fault
     → IsErrAnd result (λ e. e ≡ bad.At fault.0 fault.1) → Asks left result
-asking_refused left fault result h e = error_at (bad.At fault.0 fault.1) (Asks left) result (sym (of_lookup left) ∙ h) e
+asked_refused left fault result h e = error_at (bad.At fault.0 fault.1) (Asks left) result (sym (of_lookup left) ∙ h) e
 
 bad_answer : (left : List (List ℕ)) (value : Query) (b : QueryBad) → Asks left (Err b) → Answers {A = Query} (Err b) (unless_fault (lookup_fault left) value)
 bad_answer left value (bad.At index why) h = ap (λ (f : Option Fault). unless_fault f value) h

@@ -1,4 +1,4 @@
--- What the options of a lookup ask for, one after the other.
+-- What the options of a lookup ask for, one after another.
 use Rattle.std.proofs.Common.{◌≡◌, ℕ, Bool, true, false, not, ◌||◌, List, [], ◌∷◌, ◌++◌, bytes_eq, Option, Some, None, refl, sym, ap, subst, ◌∙◌, append_assoc}
 use Rattle.std.proofs.lemmas.List.{append-nil}
 use Rattle.std.specs.Prelude.{if◌then◌else◌, filter}
@@ -8,12 +8,12 @@ use Rattle.record_model.specs.declared.readings.Reading.TheVariants as reading
 use Rattle.record_model.specs.Faults.{or_else}
 use Rattle.record_model.specs.Options.{option_name, option_value, number_of, value_named}
 use Rattle.record_model.specs.Criteria.{page, count, is_cut, criterion_of}
-use Rattle.query_text.specs.declared.judging.Named.{Named}
-use Rattle.query_text.specs.declared.walking.Walk.{Walk}
+use Rattle.query_text.specs.declared.rules.Named.{Named}
+use Rattle.query_text.specs.declared.walks.Walk.{Walk}
 use Rattle.query_text.specs.Numbers.{number_in}
-use Rattle.query_text.specs.Walking.{IsPast}
-use Rattle.query_text.specs.Judging.{fault_after}
-use Rattle.query_text.specs.Asking.{Wanted, wanted_of, wanted_with}
+use Rattle.query_text.specs.Walks.{IsPast}
+use Rattle.query_text.specs.Rules.{fault_after}
+use Rattle.query_text.specs.AskedOptions.{Wanted, wanted_of, wanted_with}
 use Rattle.query_text.proofs.Choices.{if_filter, first_of, or_nothing, number_before, good_page, good_count}
 
 -- what is asked for first and then
@@ -70,9 +70,9 @@ pub asked_more : (walk : Walk) (left : List (List ℕ)) (now : Walk) (rest : Lis
 asked_more walk left now rest named w w' h l is =
     let named_so : wanted_with w named.name.now named.value.now ≡ wanted_with w (option_name h.query) (option_value h.query) =
     ap (λ (n : List ℕ). wanted_with w n named.value.now) h.name ∙ ap (λ (v : List ℕ). wanted_with w (option_name h.query) v) h.value in
-    let good : fault_after reading.Lookup walk.stood h.query ≡ None = subst (λ k. fault_after k walk.stood h.query ≡ None) l h.good in
+    let good : fault_after reading.Lookup walk.occurred h.query ≡ None = subst (λ k. fault_after k walk.occurred h.query ≡ None) l h.good in
     ap (λ (s : Wanted). joined s (wanted_of rest)) (is ∙ named_so)
-    ∙ (kept w (wanted_of rest) (option_name h.query) (option_value h.query) (good_page walk.stood h.query good) (good_count walk.stood h.query good)
+    ∙ (kept w (wanted_of rest) (option_name h.query) (option_value h.query) (good_page walk.occurred h.query good) (good_count walk.occurred h.query good)
     ∙ ap (joined w) (sym (ap wanted_of h.first ∙ one_before h.query rest)))
 
 -- nothing is left

@@ -1,4 +1,4 @@
--- What parameters give, one after the other.
+-- What parameters give, one after another.
 use Rattle.std.proofs.Common.{◌≡◌, ℕ, Bool, true, false, not, List, [], ◌∷◌, ◌++◌, bytes_eq, Option, Some, refl, sym, ap, subst, ◌∙◌, append_assoc}
 use Rattle.std.proofs.lemmas.List.{append-nil}
 use Rattle.std.specs.Prelude.{if◌then◌else◌, filter}
@@ -7,16 +7,16 @@ use Rattle.rd_base.specs.declared.attributes.Pair.{Pair}
 use Rattle.record_model.specs.Faults.{or_else}
 use Rattle.record_model.specs.Options.{option_name, option_value, is_among, number_of, value_named}
 use Rattle.record_model.specs.Parameters.{ep, sector, lifetime, base, own_names, pair_of_option}
-use Rattle.query_text.specs.declared.judging.Named.{Named}
-use Rattle.query_text.specs.declared.walking.Walk.{Walk}
+use Rattle.query_text.specs.declared.rules.Named.{Named}
+use Rattle.query_text.specs.declared.walks.Walk.{Walk}
 use Rattle.query_text.specs.Numbers.{lifetime_in}
-use Rattle.query_text.specs.Judging.{is_lookup}
-use Rattle.query_text.specs.Walking.{IsPast}
-use Rattle.query_text.specs.Giving.{Seen, seen_of, given_with, nothing_given}
+use Rattle.query_text.specs.Rules.{is_lookup}
+use Rattle.query_text.specs.Walks.{IsPast}
+use Rattle.query_text.specs.GivenParameters.{GivenValues, values_of, given_with}
 use Rattle.query_text.proofs.Choices.{if_filter, first_of, or_nothing, value_before, number_before, good_lifetime}
 
 -- what is given first and then
-abbrev pub joined : Seen → Seen → Seen
+abbrev pub joined : GivenValues → GivenValues → GivenValues
 joined g h = record {
   ep = or_else g.ep h.ep;
   sector = or_else g.sector h.sector;
@@ -29,7 +29,7 @@ abbrev pair_of : List ℕ → List ℕ → Pair
 pair_of name value = record { name = name; value = value }
 
 -- a parameter given before others
-abbrev before : List ℕ → List ℕ → Seen → Seen
+abbrev before : List ℕ → List ℕ → GivenValues → GivenValues
 before name value h = record {
   ep = if bytes_eq name ep then Some value else h.ep;
   sector = if bytes_eq name sector then Some value else h.sector;
@@ -39,16 +39,16 @@ before name value h = record {
 }
 
 same_seen : {e e' s s' b b' : Option (List ℕ)} {l l' : Option ℕ} {a a' : List Pair} → e ≡ e' → s ≡ s' → l ≡ l' → b ≡ b' → a ≡ a'
-    → ◌≡◌ {A = Seen} record { ep = e; sector = s; lifetime = l; base = b; attributes = a } record { ep = e'; sector = s'; lifetime = l'; base = b'; attributes = a' }
+    → ◌≡◌ {A = GivenValues} record { ep = e; sector = s; lifetime = l; base = b; attributes = a } record { ep = e'; sector = s'; lifetime = l'; base = b'; attributes = a' }
 same_seen h1 h2 h3 h4 h5 = cc
 
-one_before : (query : List ℕ) (rest : List (List ℕ)) → seen_of (query ∷ rest) ≡ before (option_name query) (option_value query) (seen_of rest)
-unfolding seen_of
+one_before : (query : List ℕ) (rest : List (List ℕ)) → values_of (query ∷ rest) ≡ before (option_name query) (option_value query) (values_of rest)
+unfolding values_of
 one_before query rest =
     same_seen (value_before ep query rest) (value_before sector query rest) (number_before lifetime query rest) (value_before base query rest)
     (if_filter pair_of_option query (is_among own_names (option_name query)) (filter (λ q. not (is_among own_names (option_name q))) rest))
 
-module _ (g h : Seen) where
+module _ (g h : GivenValues) where
   at_ep : (value : List ℕ) → joined (given_with g ep value) h ≡ joined g (before ep value h)
   unfolding given_with
   at_ep value = same_seen (first_of g.ep value h.ep) refl refl refl refl
@@ -91,22 +91,18 @@ module _ (g h : Seen) where
       by_ep false e = by_sector (bytes_eq name sector) refl e
 
 -- a parameter that was read and kept
-pub gathered_more : (walk : Walk) (left : List (List ℕ)) (now : Walk) (rest : List (List ℕ)) (named : Named) (g g' : Seen) → IsPast walk left now rest named → is_lookup walk.kind ≡ false
-    → g' ≡ given_with g named.name.now named.value.now → joined g' (seen_of rest) ≡ joined g (seen_of left)
+pub gathered_more : (walk : Walk) (left : List (List ℕ)) (now : Walk) (rest : List (List ℕ)) (named : Named) (g g' : GivenValues) → IsPast walk left now rest named → is_lookup walk.kind ≡ false
+    → g' ≡ given_with g named.name.now named.value.now → joined g' (values_of rest) ≡ joined g (values_of left)
 gathered_more walk left now rest named g g' h l is =
     let named_so : given_with g named.name.now named.value.now ≡ given_with g (option_name h.query) (option_value h.query) =
     ap (λ (n : List ℕ). given_with g n named.value.now) h.name ∙ ap (λ (v : List ℕ). given_with g (option_name h.query) v) h.value in
-    ap (λ (s : Seen). joined s (seen_of rest)) (is ∙ named_so)
-    ∙ (kept g (seen_of rest) (option_name h.query) (option_value h.query) (good_lifetime walk.kind walk.stood h.query l h.good)
-    ∙ ap (joined g) (sym (ap seen_of h.first ∙ one_before h.query rest)))
+    ap (λ (s : GivenValues). joined s (values_of rest)) (is ∙ named_so)
+    ∙ (kept g (values_of rest) (option_name h.query) (option_value h.query) (good_lifetime walk.kind walk.occurred h.query l h.good)
+    ∙ ap (joined g) (sym (ap values_of h.first ∙ one_before h.query rest)))
 
 -- nothing is left
-pub gathered_all : (g : Seen) (left : List (List ℕ)) → left ≡ [] → joined g (seen_of left) ≡ g
-unfolding seen_of value_named
+pub gathered_all : (g : GivenValues) (left : List (List ℕ)) → left ≡ [] → joined g (values_of left) ≡ g
+unfolding values_of value_named
 gathered_all g left e =
-    ap (λ (l : List (List ℕ)). joined g (seen_of l)) e
+    ap (λ (l : List (List ℕ)). joined g (values_of l)) e
     ∙ same_seen (or_nothing g.ep) (or_nothing g.sector) (or_nothing g.lifetime) (or_nothing g.base) (append-nil g.attributes)
-
--- nothing was given
-pub gathered_none : (left : List (List ℕ)) → joined nothing_given (seen_of left) ≡ seen_of left
-gathered_none left = refl

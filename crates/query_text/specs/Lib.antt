@@ -1,8 +1,8 @@
 pub mod Numbers
 pub mod Bases
-pub mod Standing
-pub mod Judging
-pub mod Walking
-pub mod Answering
-pub mod Giving
-pub mod Asking
+pub mod Occurrences
+pub mod Rules
+pub mod Walks
+pub mod Outcomes
+pub mod GivenParameters
+pub mod AskedOptions

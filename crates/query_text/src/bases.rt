@@ -1,4 +1,4 @@
-// What a base is: a URI with a host, and no link-local one (RFC 9176 section 5, base).
+//! What a base is: a URI with a host, and no link-local one (RFC 9176 section 5, base).
 ghost use Rattle.std.specs.Prelude.{◌≡◌, ◌<◌, ◌∷◌, [], not, true, false, Some, option_map, MatchOption};
 ghost use Rattle.std.specs.List.{list_all};
 ghost use Rattle.std.specs.Char.{is_ascii_hexdigit};
@@ -23,8 +23,8 @@ fn before(text: &str, mark: char) -> &str
     }
 }
 
-/// What stands behind an opening bracket, where the text begins with it.
-fn behind_bracket(text: &str) -> Option<&str>
+/// What stands after an opening bracket, where the text begins with it.
+fn after_bracket(text: &str) -> Option<&str>
     ensures { MatchOption result (references.begins_with left_bracket text.now ≡ false) (λ rest. text.now ≡ left_bracket ∷ rest.now) }
 {
     text.strip_prefix('[')
@@ -68,7 +68,7 @@ fn is_link_local_host(host: Option<&str>) -> bool
 {
     match host {
         None => false,
-        Some(text) => match behind_bracket(text) {
+        Some(text) => match after_bracket(text) {
             None => false,
             Some(inner) => is_link_local_group(before(before(inner, ']'), ':')),
         },

@@ -1,13 +1,53 @@
-// The first fault of query options.
+//! The first fault of query options, and why they give no value.
 ghost use Rattle.std.specs.Prelude.{◌≡◌};
 ghost use Rattle.record_model.specs.Criteria.{fault_of};
 
-use crate::walking::Walk;
+use crate::walks::Walk;
 use crate::{Pieces, Reading, Why};
+use rd_base::Starved;
 
-/// The first fault of query options, with its place from 0, by what they are read as: that of [`reg_params`](crate::reg_params),
-/// [`update_params`](crate::update_params) and [`lookup_query`](crate::lookup_query). What is missing behind the last option
-/// has the number of options as its place (RFC 9176 sections 5, 5.1, 5.3.1 and 6.2). Takes no memory.
+/// Why query options give no value.
+#[derive(Clone, Copy, Debug, PartialEq, Eq)]
+pub enum QueryBad {
+    /// An option is refused, or one is missing after the last.
+    At {
+        /// The index of the option, from 0; of what is missing, the number of options.
+        index: usize,
+        /// Why it is refused.
+        why: Why,
+    },
+    /// Out of memory.
+    Starved,
+}
+
+impl From<Starved> for QueryBad {
+    ghost use Rattle.std.specs.Prelude.{◌≡◌};
+    ghost use Rattle.query_text.specs.declared.faults.QueryBad.TheVariants as bad;
+
+    ghost from_gives = { λ _ e. e ≡ bad.Starved };
+
+    /// Out of memory.
+    fn from(_: Starved) -> QueryBad {
+        QueryBad::Starved
+    }
+}
+
+impl From<(usize, Why)> for QueryBad {
+    ghost use Rattle.std.specs.Prelude.{◌≡◌};
+    ghost use Rattle.query_text.specs.declared.faults.QueryBad.TheVariants as bad;
+
+    ghost from_gives = { λ fault e. e ≡ bad.At fault.0 fault.1 };
+
+    /// A fault with its index.
+    fn from(fault: (usize, Why)) -> QueryBad {
+        let (index, why) = fault;
+        QueryBad::At { index, why }
+    }
+}
+
+/// The first fault of query options, with its index from 0, by what they are read as: that of [`reg_params`](crate::reg_params),
+/// [`update_params`](crate::update_params) and [`lookup_query`](crate::lookup_query). What is missing after the last option
+/// has the number of options as its index (RFC 9176 sections 5, 5.1, 5.3.1 and 6.2). Takes no memory.
 pub fn fault<'a, Q: Pieces<'a> + Drop>(kind: Reading, mut queries: Q) -> Option<(usize, Why)>
     ensures { result ≡ fault_of kind (Q.left queries) }
 {

@@ -1,22 +1,19 @@
 //! Query options: the parameters of registrations and updates and the criteria of lookups, read or refused (RFC 9176).
 #![tactic(auto)]
 
-mod asked;
-mod bad;
+mod asked_options;
 mod bases;
 mod faults;
-mod gathering;
-mod given;
-mod judging;
+mod given_parameters;
 mod lookups;
+mod occurrences;
 mod options;
 mod parameters;
 mod pieces;
-mod stood;
-mod walking;
+mod rules;
+mod walks;
 
-pub use bad::QueryBad;
-pub use faults::fault;
+pub use faults::{QueryBad, fault};
 pub use lookups::lookup_query;
 pub use parameters::{reg_params, update_params};
 pub use pieces::Pieces;

@@ -1,11 +1,11 @@
-// What a lookup asks for (RFC 9176 section 6.2).
+//! What a lookup asks for (RFC 9176 section 6.2).
 ghost use Rattle.std.specs.Prelude.{◌≡◌};
 ghost use Rattle.record_model.specs.Criteria as criteria;
-ghost use Rattle.query_text.specs.Answering.{Answers, Asks};
-ghost use Rattle.query_text.specs.Asking.{wanted_in, query_of};
+ghost use Rattle.query_text.specs.Outcomes.{Answers, Asks};
+ghost use Rattle.query_text.specs.AskedOptions.{wanted_in, query_of};
 
-use crate::asked::Asked;
-use crate::walking::Walk;
+use crate::asked_options::Asked;
+use crate::walks::Walk;
 use crate::{Pieces, QueryBad, Reading};
 use rd_base::{Criteria, Kind, Query};
 use std::alloc::Global;
@@ -40,7 +40,7 @@ fn query_of(kind: Kind, asked: Asked) -> Query
 /// # Errors
 ///
 /// `At` exactly with the first fault, that of [`fault`](crate::fault): `Starved` may come in its place. A page without a
-/// count is found behind the last option.
+/// count is found after the last option.
 pub fn lookup_query<'a, Q: Pieces<'a> + Drop>(
     alloc: Global,
     kind: Kind,

@@ -1,4 +1,4 @@
-// What one query option says by itself: its name and value, and the tests of values.
+//! What one query option says by itself: its name and value, and the tests of values.
 ghost use Rattle.std.specs.Prelude.{◌≡◌, ◌≤◌, ◌&&◌, not, IfSome, unwrap_or, option_map};
 ghost use Rattle.std.specs.List.{list_all};
 ghost use Rattle.std.specs.Char.{is_ascii_digit};
@@ -10,7 +10,7 @@ ghost use Rattle.query_text.specs.Numbers.{number_in};
 
 use ref_resolve::{Parts, host, is_uri, parts};
 
-/// The name of an option and its value: what stands before its first equals sign and behind it.
+/// The name of an option and its value: what stands before its first equals sign and after it.
 pub(crate) fn name_and_value(option: &str) -> (&str, &str)
     ensures name { result.0.now ≡ options.option_name option.now }
     ensures value { result.1.now ≡ options.option_value option.now }
@@ -76,8 +76,8 @@ fn are_attribute_name_characters(text: &str) -> bool
 }
 
 /// Whether a name means something else in a lookup, and no attribute of an endpoint has it.
-fn is_kept_name(name: &str) -> bool
-    ensures { result ≡ options.is_among parameters.kept_names name.now }
+fn is_reserved_name(name: &str) -> bool
+    ensures { result ≡ options.is_among parameters.reserved_names name.now }
 {
     name == "href" || name == "anchor" || name == "rt" || name == "page" || name == "count"
 }
@@ -86,5 +86,5 @@ fn is_kept_name(name: &str) -> bool
 pub(crate) fn is_extra_name(name: &str) -> bool
     ensures { result ≡ parameters.is_extra_name name.now }
 {
-    !name.is_empty() && are_attribute_name_characters(name) && !is_kept_name(name)
+    !name.is_empty() && are_attribute_name_characters(name) && !is_reserved_name(name)
 }

@@ -1,12 +1,11 @@
-// The parameters of registrations and updates (RFC 9176 sections 5, 5.1 and 5.3.1).
+//! The parameters of registrations and updates (RFC 9176 sections 5, 5.1 and 5.3.1).
 ghost use Rattle.std.specs.Prelude.{◌≡◌, false};
 ghost use Rattle.record_model.specs.Parameters.{registration_parameters, update_parameters};
-ghost use Rattle.query_text.specs.Answering.{Answers, registering};
-ghost use Rattle.query_text.specs.Giving.{seen_in, registration_of, update_of};
-ghost use Rattle.query_text.specs.Judging.{is_lookup};
+ghost use Rattle.query_text.specs.Outcomes.{Answers, registering};
+ghost use Rattle.query_text.specs.GivenParameters.{values_in, registration_of, update_of};
+ghost use Rattle.query_text.specs.Rules.{is_lookup};
 
-use crate::gathering::gathered;
-use crate::given::Given;
+use crate::given_parameters::{Given, gathered};
 use crate::{Pieces, QueryBad, Reading};
 use rd_base::{Name, Pairs, RegParams, Text, UpdateParams};
 use std::alloc::Global;
@@ -28,7 +27,7 @@ fn registering(simple: bool) -> Reading
 
 /// The parameters of a registration that give this. Takes no memory where `ep` is given.
 fn registration_of(alloc: Global, given: Given) -> RegParams
-    ensures { result ≡ registration_of (seen_in given) }
+    ensures { result ≡ registration_of (values_in given) }
 {
     let Given {
         ep,
@@ -50,7 +49,7 @@ fn registration_of(alloc: Global, given: Given) -> RegParams
 
 /// The parameters of an update that give this. Takes no memory.
 fn update_of(given: Given) -> UpdateParams
-    ensures { result ≡ update_of (seen_in given) }
+    ensures { result ≡ update_of (values_in given) }
 {
     UpdateParams {
         lt: given.lifetime,
@@ -65,7 +64,7 @@ fn update_of(given: Given) -> UpdateParams
 ///
 /// `At` exactly with the first fault, that of [`fault`](crate::fault): `Starved` may come in its place. Of one parameter
 /// what is no UTF-8 comes first, then a control character in its value, then the rules of its name. An endpoint that is
-/// not named is found behind the last parameter.
+/// not named is found after the last parameter.
 pub fn reg_params<'a, Q: Pieces<'a> + Drop>(
     alloc: Global,
     queries: Q,

@@ -1,7 +1,7 @@
-// Query options handed in one after the other.
+//! Query options handed in one after another.
 ghost use Rattle.std.specs.Prelude.{◌≡◌, ◌<◌, ◌^◌, ℕ, List, [], ◌∷◌, length, IfSome, IfNone};
 
-/// Pieces of octets, one after the other. The crate that reads options of messages gives query options so.
+/// Pieces of octets, one after another. The crate that reads options of messages gives query options so.
 pub trait Pieces<'a> {
     ghost left: { Self → List (List ℕ) };
 

@@ -1,10 +1,10 @@
-// Query options: read, or refused with the first fault and its place.
+//! Query options: read, or refused with the first fault and its index.
 use crate::{Pieces, QueryBad, Reading, Why, fault, lookup_query, reg_params, update_params};
 use rd_base::{Kind, Starved};
 use std::alloc::Global;
 use std::test::Fail;
 
-/// Options that stand in a slice, from a place on.
+/// Options that stand in a slice, from an index on.
 #[derive(Clone, Copy)]
 struct Listed<'a> {
     options: &'a [&'a [u8]],
@@ -16,6 +16,7 @@ impl<'a> Pieces<'a> for Listed<'a> {
 
     ghost left = { λ listed. map (λ piece. piece.now) (drop listed.at listed.options.now) };
 
+    /// The next option of the slice.
     fn next(&mut self) -> Option<&'a [u8]> {
         if self.at >= self.options.len() {
             return None;
@@ -45,7 +46,7 @@ fn fault_of_value(
     }
 }
 
-/// What is read, its options, each behind a semicolon, and the place and the reason of the first fault, or a hyphen where there is none.
+/// What is read, its options, each after a semicolon, and the index and the reason of the first fault, or a hyphen where there is none.
 /// In the options `<` stands for the octet 0xC3, with which a longer character begins, and `>` for 0xFF, which no UTF-8 text has.
 const CASES: &str = "register||0 NoEp
 simple||0 NoEp
@@ -458,6 +459,7 @@ lookup|;count=;page=1|0 Number
 lookup|;page=1;>|1 Utf8
 lookup|;page=1;=x|1 Name";
 
+/// What options are read as, by its word in a case.
 fn reading_of(word: &str) -> Option<Reading> {
     match word {
         "register" => Some(Reading::Register),
@@ -468,6 +470,7 @@ fn reading_of(word: &str) -> Option<Reading> {
     }
 }
 
+/// The reason that a word of a case names.
 fn why_of(word: &str) -> Option<Why> {
     match word {
         "NoEp" => Some(Why::NoEp),
@@ -498,6 +501,7 @@ fn wanted(text: &str) -> Option<Option<(usize, Why)>> {
     Some(Some((index, why)))
 }
 
+/// The octets that a text of a case writes.
 fn octets_of(alloc: Global, text: &str) -> Result<Vec<u8>, Starved> {
     let mut octets = Vec::new(alloc);
     for octet in text.as_bytes() {
@@ -510,6 +514,7 @@ fn octets_of(alloc: Global, text: &str) -> Result<Vec<u8>, Starved> {
     Ok(octets)
 }
 
+/// The options of a case, which semicolons part.
 fn options_of(alloc: Global, octets: &[u8]) -> Result<Vec<&[u8]>, Starved> {
     let mut options = Vec::new(alloc);
     for option in octets.split(|octet| *octet == b';').skip(1) {
@@ -518,6 +523,7 @@ fn options_of(alloc: Global, octets: &[u8]) -> Result<Vec<&[u8]>, Starved> {
     Ok(options)
 }
 
+/// Each case has its first fault.
 #[test]
 fn faults(rt: HostRuntime) -> Result<(), Fail> {
     let alloc = rt.alloc();
@@ -541,6 +547,7 @@ fn faults(rt: HostRuntime) -> Result<(), Fail> {
     Ok(())
 }
 
+/// What is read of options without a fault.
 #[test]
 fn values(rt: HostRuntime) -> Result<(), Fail> {
     let alloc = rt.alloc();

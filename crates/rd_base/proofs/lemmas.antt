@@ -7,3 +7,5 @@ pub mod Pairs
 pub mod Among
 pub mod Filters
 pub mod Lists
+pub mod Contains
+pub mod Partitions

@@ -1,5 +1,7 @@
+-- The laws of records. BodyLaws: faults of bodies. MatchingLaws: patterns. WeightLaws: what records weigh. RecordLiterals and
+-- examples/: definitions computed on octets that are written out.
 pub mod BodyLaws
 pub mod MatchingLaws
 pub mod RecordLiterals
-pub mod Weights
+pub mod WeightLaws
 mod examples

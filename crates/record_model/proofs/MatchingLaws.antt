@@ -16,6 +16,7 @@ unfolding matches_value
 matches_value-append front value = ap (λ o. is_value_of o (front ++ asterisk ∷ []) value) (before_wildcard-append front)
 
 -- a pattern that ends with an asterisk matches the values that begin with what stands before it, and no others
+-- An end theorem: nothing here cites it.
 pub matches_value-wildcard : (front value : List ℕ) → (matches_value (front ++ asterisk ∷ []) value ≡ true) ↔ ((rest : List ℕ) × (value ≡ front ++ rest))
 matches_value-wildcard front value = (
   λ e.
@@ -27,6 +28,7 @@ matches_value-wildcard front value = (
 )
 
 -- any other pattern matches the equal value alone
+-- An end theorem: nothing here cites it.
 pub matches_value-plain : (pattern value : List ℕ) → before_wildcard pattern ≡ None → (matches_value pattern value ≡ true) ↔ (value ≡ pattern)
 unfolding matches_value
 matches_value-plain pattern value without =

@@ -7,12 +7,12 @@ use Rattle.rd_base.specs.Bases.{base_of}
 abbrev pub registered_base : Option (List ℕ) → Peer → List ℕ
 registered_base given peer = unwrap_or given (base_of peer)
 
--- the base behind an update: one that the update gives; else one that was given stays, and another becomes that of the peer
+-- the base after an update: one that the update gives; else one that was given stays, and another becomes that of the peer
 abbrev pub updated_base : Option (List ℕ) → Bool → List ℕ → Peer → List ℕ
 updated_base (Some text) was_given old peer = text
 updated_base None true old peer = old
 updated_base None false old peer = base_of peer
 
 -- the base is then one that was given
-abbrev pub updated_given : Option (List ℕ) → Bool → Bool
-updated_given given was_given = is_some given || was_given
+abbrev pub updated_base_given : Option (List ℕ) → Bool → Bool
+updated_base_given given was_given = is_some given || was_given

@@ -1,4 +1,4 @@
--- The first fault of a registration's body, with its place (RFC 6690 section 2, RFC 3986 section 4.1, RFC 9176 appendix C).
+-- The first fault of a registration's body, with its offset or the index of its link (RFC 6690 section 2, RFC 3986 section 4.1, RFC 9176 appendix C).
 use Rattle.std.specs.Prelude.{ℕ, ◌+◌, Bool, true, false, not, List, [], ◌∷◌, ◌++◌, length, map, find, Option, Some, None, option_map, if◌then◌else◌}
 use Rattle.link_model.specs.Characters.{quote_mark}
 use Rattle.reference_model.specs.References.{begins_with}
@@ -15,34 +15,34 @@ pub data BodyFault : Type 0 where
   no_reference : ℕ → BodyFault
   not_limited : ℕ → BodyFault
 
--- a text with its place
-abbrev pub Placed : Type 0
-Placed = ℕ × List ℕ
+-- a text with its offset in the document, in octets
+abbrev pub TextAtOffset : Type 0
+TextAtOffset = ℕ × List ℕ
 
--- the places behind so many octets more
-abbrev pub placed_behind : ℕ → List Placed → List Placed
-placed_behind n references = map (λ r. (n + r.0, r.1)) references
+-- the texts, so many octets further on
+abbrev pub shifted : ℕ → List TextAtOffset → List TextAtOffset
+shifted n references = map (λ r. (n + r.0, r.1)) references
 
--- where a value says something: behind its quote, where it has one
+-- how many octets stand before what a value says: its quote, where it has one
 abbrev pub quote_length : Option (List ℕ) → ℕ
 quote_length None = 0
 quote_length (Some value) = if begins_with quote_mark value then 1 else 0
 
--- the anchor among parameters, with its place: behind the semicolon, the name, the equals sign, and the quote
-abbrev pub anchor_place : List Parameter → List Placed
-anchor_place [] = []
-anchor_place (p ∷ parameters) =
+-- the first anchor among parameters, with its offset: after the semicolon, the name, the equals sign, and the quote
+abbrev pub anchor_offset : List Parameter → List TextAtOffset
+anchor_offset [] = []
+anchor_offset (p ∷ parameters) =
     if is_anchor p then (length p.name + 2 + quote_length p.value, value_of p) ∷ []
-    else placed_behind (length (parameter_text p)) (anchor_place parameters)
+    else shifted (length (parameter_text p)) (anchor_offset parameters)
 
--- the references of a link with their places: its target, and its anchor where it has one
-abbrev pub link_references : Link → List Placed
-link_references l = (1, l.target) ∷ placed_behind (length l.target + 2) (anchor_place l.parameters)
+-- the references of a link with their offsets: its target, and its anchor where it has one
+abbrev pub link_references : Link → List TextAtOffset
+link_references l = (1, l.target) ∷ shifted (length l.target + 2) (anchor_offset l.parameters)
 
--- the references of links with their places in the document, a comma between each two links
-unfoldable pub references_of : List Link → List Placed
+-- the references of links with their offsets in the document, a comma between each two links
+unfoldable pub references_of : List Link → List TextAtOffset
 references_of [] = []
-references_of (l ∷ links) = link_references l ++ placed_behind (length (link_text l) + 1) (references_of links)
+references_of (l ∷ links) = link_references l ++ shifted (length (link_text l) + 1) (references_of links)
 
 -- the first of them that is no URI-reference
 unfoldable pub first_no_reference : List Link → Option ℕ
@@ -50,7 +50,7 @@ first_no_reference links = option_map (λ r. r.0) (find (λ r. not (is_reference
 
 -- the first fault of links: of their references, and else of the Limited Link Format
 abbrev pub reference_or_limited : Option ℕ → List Link → Option BodyFault
-reference_or_limited (Some place) links = Some (no_reference place)
+reference_or_limited (Some offset) links = Some (no_reference offset)
 reference_or_limited None links = option_map not_limited (first_unlimited (map submitted_link links))
 
 -- the fault of what was read of a body: that it is no document comes before all
@@ -64,10 +64,10 @@ body_fault body = document_or_links (document body) body
 
 -- the fault is one of the document or of a reference; or it is one of the Limited Link Format
 abbrev pub is_of_links : Option BodyFault → Bool
-is_of_links (Some (no_document place)) = true
-is_of_links (Some (no_reference place)) = true
+is_of_links (Some (no_document offset)) = true
+is_of_links (Some (no_reference offset)) = true
 is_of_links _ = false
 
 abbrev pub is_of_limits : Option BodyFault → Bool
-is_of_limits (Some (not_limited place)) = true
+is_of_limits (Some (not_limited index)) = true
 is_of_limits _ = false

@@ -36,7 +36,7 @@ unfoldable pub option_fault : List (List ℕ) → List ℕ → Option Why
 option_fault others query =
     first_reason ((not (is_utf8 query), why.Utf8) ∷ (if is_cut query then cut_reasons others query else criterion_reasons query))
 
--- what is found behind the last option: a page stands beside a count
+-- what is found after the last option: a page stands beside a count
 abbrev pub page_fault : List (List ℕ) → Option Why
 page_fault queries = if has_named page queries && not (has_named count queries) then Some why.PageAlone else None
 

@@ -1,4 +1,4 @@
--- What the directory tells of itself (RFC 9176 section 4.1, RFC 6690 section 4).
+-- The links of the directory itself (RFC 9176 section 4.1, RFC 6690 section 4).
 use Rattle.std.specs.Prelude.{ℕ, Bool, List, [], map, filter, codes, unwrap_or}
 use Rattle.std.specs.List.{list_all}
 use Rattle.rd_base.specs.declared.queries.Query.{Query}

@@ -10,7 +10,7 @@ use Rattle.reference_model.specs.References.{before, behind}
 abbrev pub option_name : List ℕ → List ℕ
 option_name query = before equals_sign query
 
--- the value of an option: what stands behind its first equals sign, or nothing
+-- the value of an option: what stands after its first equals sign, or nothing
 abbrev pub option_value : List ℕ → List ℕ
 option_value query = unwrap_or (behind equals_sign query) []
 

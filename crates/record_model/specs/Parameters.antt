@@ -33,8 +33,8 @@ abbrev pub own_names : List (List ℕ)
 own_names = ep ∷ sector ∷ lifetime ∷ base ∷ []
 
 -- the names that no extra attribute may have, since they mean something else in a lookup
-abbrev pub kept_names : List (List ℕ)
-kept_names = codes "href" ∷ codes "anchor" ∷ codes "rt" ∷ codes "page" ∷ codes "count" ∷ []
+abbrev pub reserved_names : List (List ℕ)
+reserved_names = codes "href" ∷ codes "anchor" ∷ codes "rt" ∷ codes "page" ∷ codes "count" ∷ []
 
 -- the most octets of the name of an endpoint or a sector (RFC 9176 section 5)
 abbrev pub max_name : ℕ
@@ -94,9 +94,9 @@ is_link_local_in (Some c) = is_link_local_host (host c)
 unfoldable pub is_link_local : List ℕ → Bool
 is_link_local value = is_link_local_in (reference value)
 
--- a name that an extra attribute may have: one or more characters of an attribute's name, and none of the names that are kept
+-- a name that an extra attribute may have: one or more characters of an attribute's name, and none of the reserved names
 abbrev pub is_extra_name : List ℕ → Bool
-is_extra_name name = is_run_of is_attribute_name_character name && not (is_among kept_names name)
+is_extra_name name = is_run_of is_attribute_name_character name && not (is_among reserved_names name)
 
 -- an update names no endpoint and no sector
 abbrev pub is_update : Reading → Bool
@@ -141,7 +141,7 @@ unfoldable pub parameter_fault : Reading → List (List ℕ) → List ℕ → Op
 parameter_fault kind others query =
     first_reason ((not (is_utf8 query), why.Utf8) ∷ (has_control (option_value query), why.Control) ∷ reasons_of_name kind others query)
 
--- what is found behind the last parameter: a registration names its endpoint
+-- what is found after the last parameter: a registration names its endpoint
 abbrev pub missing_fault : Reading → List (List ℕ) → Option Why
 missing_fault kind queries = if is_update kind || has_named ep queries then None else Some why.NoEp
 

@@ -11,7 +11,7 @@ use Rattle.rd_base.specs.declared.records.Record.{Record}
 use Rattle.rd_base.specs.declared.submitted_links.SubmittedLink.{SubmittedLink}
 use Rattle.record_model.specs.Bodies.{is_uri}
 use Rattle.reference_model.specs.Resolution.{resolved}
-use Rattle.record_model.specs.Bases.{registered_base, updated_base, updated_given}
+use Rattle.record_model.specs.Bases.{registered_base, updated_base, updated_base_given}
 
 -- a target or an anchor against a base: unchanged where it has a scheme, else resolved (RFC 3986 section 5.2)
 unfoldable pub based : List ℕ → List ℕ → List ℕ
@@ -36,13 +36,13 @@ items_of base links = map (item_of base) links
 unfoldable pub rebased : List ℕ → Item → Item
 rebased base item = record item { target = based base item.target_ref; anchor = option_map (based base) item.anchor_ref }
 
--- the attribute is given anew
-abbrev pub is_given : List Pair → Pair → Bool
-is_given given pair = list_any (λ other. bytes_eq pair.name other.name) given
+-- the attribute is replaced: an update gives one of its name
+abbrev pub is_replaced : List Pair → Pair → Bool
+is_replaced given pair = list_any (λ other. bytes_eq pair.name other.name) given
 
--- the extra attributes behind an update: those of a name that it gives are dropped, and its own are appended
+-- the extra attributes after an update: those of a name that it gives are dropped, and its own are appended
 unfoldable pub updated_attributes : List Pair → List Pair → List Pair
-updated_attributes given attrs = filter (λ pair. not (is_given given pair)) attrs ++ given
+updated_attributes given attrs = filter (λ pair. not (is_replaced given pair)) attrs ++ given
 
 -- the record of a registration of this number at this moment
 unfoldable pub registered : ℕ → Moment → Peer → RegParams → List SubmittedLink → Record
@@ -57,7 +57,7 @@ registered number now peer params links = record {
   items = items_of (registered_base params.base peer) links;
 }
 
--- the record behind an update: its lease starts anew, and its items are resolved against its base as it is then
+-- the record after an update: its lease starts anew, and its items are resolved against its base as it is then
 unfoldable pub updated : Moment → Peer → UpdateParams → Record → Record
 updated now peer change r =
     let base = updated_base change.base r.base_given r.base peer in
@@ -65,7 +65,7 @@ updated now peer change r =
       lt = unwrap_or change.lt r.lt;
       granted = now;
       base = base;
-      base_given = updated_given change.base r.base_given;
+      base_given = updated_base_given change.base r.base_given;
       attrs = updated_attributes change.attrs r.attrs;
       items = map (rebased base) r.items;
     }

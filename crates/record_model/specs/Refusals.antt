@@ -3,7 +3,7 @@ use Rattle.std.specs.Prelude.{ℕ, Bool, false, not, List, Option, Some, None, i
 use Rattle.rd_base.specs.declared.submitted_links.SubmittedLink.{SubmittedLink}
 use Rattle.record_model.specs.Bodies.{linked_references, is_limited}
 
--- the place of the first link that is not in the Limited Link Format, counted from 0
+-- the index of the first link that is not in the Limited Link Format, counted from 0
 unfoldable pub first_unlimited : List SubmittedLink → Option ℕ
 first_unlimited links = position (λ link. not (is_limited link)) links
 

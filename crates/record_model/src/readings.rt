@@ -1,4 +1,4 @@
-// What query options are read as, and what is wrong with one.
+//! What query options are read as, and what is wrong with one.
 
 /// What query options are read as.
 #[derive(Clone, Copy, Debug, PartialEq, Eq)]

@@ -53,7 +53,7 @@ right_filled (c ∷ a) b h = record { some = refl }
 digit_passes : (n : ℕ) → is_ascii_digit (digit_char (n % 10)) ≡ true
 digit_passes n = grind (arith, nat_tests)
 
--- and so are those before it, where the ones behind are
+-- and so are those before it, where the ones after are
 digits_pass : (k n : ℕ) (rest : List ℕ) → Passes is_ascii_digit rest → Passes is_ascii_digit (digits_onto k 10 false n rest)
 digits_pass zero n rest h = h
 digits_pass (suc k) n rest h =

@@ -4,21 +4,18 @@ use Rattle.std.proofs.lemmas.List.Sums.{sum_by-cons}
 use Rattle.std.proofs.lemmas.Bool.Decides.{nat_tests}
 use Rattle.std.specs.List.{join_with_byte, position_or_len}
 use Rattle.record_model.specs.Bodies.{is_reference, is_limited}
-use Rattle.record_model.specs.BodyFaults.{no_reference, not_limited, Placed, placed_behind, link_references, references_of, first_no_reference, reference_or_limited}
+use Rattle.record_model.specs.BodyFaults.{no_reference, not_limited, TextAtOffset, shifted, link_references, references_of, first_no_reference, reference_or_limited}
 use Rattle.link_model.specs.Characters.{comma}
 use Rattle.link_model.specs.Documents.{Link, link_text, document_text}
 use Rattle.record_model.specs.Faults.{or_else}
 use Rattle.link_model.specs.Quoting.{submitted_link}
 use Rattle.record_model.specs.Refusals.{first_unlimited}
-use Rattle.registration.specs.Reading.{first_bad, room_of, fault_with, fault_from, noted}
+use Rattle.registration.specs.Links.{first_bad, room_of, fault_with, fault_from, noted}
 
 -- ---- the first reference that is none
 
-is_bad : Placed → Bool
-is_bad r = not (is_reference r.1)
-
 -- in two lists, the first is found in the first, or else in the second
-bad_append : (rs ss : List Placed) → first_bad (rs ++ ss) ≡ or_else (first_bad rs) (first_bad ss)
+bad_append : (rs ss : List TextAtOffset) → first_bad (rs ++ ss) ≡ or_else (first_bad rs) (first_bad ss)
 bad_append [] ss = refl
 bad_append (r ∷ rs) ss = by_test (is_reference r.1) refl (bad_append rs ss)
   where
@@ -26,20 +23,20 @@ bad_append (r ∷ rs) ss = by_test (is_reference r.1) refl (bad_append rs ss)
     by_test true e more = rw e more
     by_test false e more = rw e refl
 
--- places move
-pub bad_placed : (n : ℕ) (rs : List Placed) → first_bad (placed_behind n rs) ≡ option_map (λ at. n + at) (first_bad rs)
-bad_placed n [] = refl
-bad_placed n (r ∷ rs) = by_test (is_reference r.1) refl (bad_placed n rs)
+-- offsets are shifted
+pub bad_shifted : (n : ℕ) (rs : List TextAtOffset) → first_bad (shifted n rs) ≡ option_map (λ at. n + at) (first_bad rs)
+bad_shifted n [] = refl
+bad_shifted n (r ∷ rs) = by_test (is_reference r.1) refl (bad_shifted n rs)
   where
-    by_test : (b : Bool) → is_reference r.1 ≡ b → first_bad (placed_behind n rs) ≡ option_map (λ at. n + at) (first_bad rs) → first_bad (placed_behind n (r ∷ rs)) ≡ option_map (λ at. n + at) (first_bad (r ∷ rs))
+    by_test : (b : Bool) → is_reference r.1 ≡ b → first_bad (shifted n rs) ≡ option_map (λ at. n + at) (first_bad rs) → first_bad (shifted n (r ∷ rs)) ≡ option_map (λ at. n + at) (first_bad (r ∷ rs))
     by_test true e more = rw e more
     by_test false e more = rw e refl
 
 first_of_links : (l : Link) (links : List Link) → first_no_reference (l ∷ links) ≡ or_else (first_bad (link_references l)) (option_map (λ at. length (link_text l) + 1 + at) (first_no_reference links))
 unfolding first_no_reference references_of
 first_of_links l links =
-    bad_append (link_references l) (placed_behind (length (link_text l) + 1) (references_of links))
-    ∙ ap (or_else (first_bad (link_references l))) (bad_placed (length (link_text l) + 1) (references_of links))
+    bad_append (link_references l) (shifted (length (link_text l) + 1) (references_of links))
+    ∙ ap (or_else (first_bad (link_references l))) (bad_shifted (length (link_text l) + 1) (references_of links))
 
 -- ---- the first link that is not limited
 
@@ -78,31 +75,31 @@ unfolding fault_from
 fault_of_all links = by_fault (first_no_reference links) (first_unlimited (map submitted_link links)) refl
   where
     by_fault : (o p : Option ℕ) → first_unlimited (map submitted_link links) ≡ p → fault_with 0 0 None o p ≡ reference_or_limited o links
-    by_fault (Some place) p e = let at : 0 + place ≡ place = omega arith in ap (λ k. Some (no_reference k)) at
+    by_fault (Some offset) p e = let at : 0 + offset ≡ offset = omega arith in ap (λ k. Some (no_reference k)) at
     by_fault None None e = rw e refl
     by_fault None (Some n) e = let at : 0 + n ≡ n = omega arith in rw e (ap (λ k. Some (not_limited k)) at)
 
--- behind the last one it is that of the link that was noted
+-- after the last one it is that of the link that was noted
 pub fault_of_none : (start index : ℕ) (unlimited : Option ℕ) → fault_from start index unlimited [] ≡ option_map not_limited unlimited
 unfolding fault_from first_no_reference references_of first_unlimited
 fault_of_none start index None = refl
 fault_of_none start index (Some n) = refl
 
 -- a reference of the first link that is none
-pub fault_here : (start index place : ℕ) (unlimited : Option ℕ) (l : Link) (links : List Link) → option_map (λ at. start + at) (first_bad (link_references l)) ≡ Some place
-    → fault_from start index unlimited (l ∷ links) ≡ Some (no_reference place)
+pub fault_here : (start index offset : ℕ) (unlimited : Option ℕ) (l : Link) (links : List Link) → option_map (λ at. start + at) (first_bad (link_references l)) ≡ Some offset
+    → fault_from start index unlimited (l ∷ links) ≡ Some (no_reference offset)
 unfolding fault_from
-fault_here start index place unlimited l links bad = by_bad (first_bad (link_references l)) refl bad
+fault_here start index offset unlimited l links bad = by_bad (first_bad (link_references l)) refl bad
   where
-    by_bad : (o : Option ℕ) → first_bad (link_references l) ≡ o → option_map (λ at. start + at) o ≡ Some place
-        → fault_with start index unlimited (first_no_reference (l ∷ links)) (first_unlimited (map submitted_link (l ∷ links))) ≡ Some (no_reference place)
+    by_bad : (o : Option ℕ) → first_bad (link_references l) ≡ o → option_map (λ at. start + at) o ≡ Some offset
+        → fault_with start index unlimited (first_no_reference (l ∷ links)) (first_unlimited (map submitted_link (l ∷ links))) ≡ Some (no_reference offset)
     by_bad None e h = cc
     by_bad (Some at) e h =
         let first : first_no_reference (l ∷ links) ≡ Some at = first_of_links l links ∙ ap (λ o. or_else o (option_map (λ m. length (link_text l) + 1 + m) (first_no_reference links))) e in
-        let there : start + at ≡ place = cc in
+        let there : start + at ≡ offset = cc in
         ap (λ o. fault_with start index unlimited o (first_unlimited (map submitted_link (l ∷ links)))) first ∙ ap (λ n. Some (no_reference n)) there
 
--- and none: the fault is that of the links behind it
+-- and none: the fault is that of the links after it
 pub fault_later : (start next index after : ℕ) (unlimited : Option ℕ) (limited : Bool) (l : Link) (links : List Link) → first_bad (link_references l) ≡ None → limited ≡ is_limited (submitted_link l)
     → next ≡ start + length (link_text l) + 1 → after ≡ index + 1 → fault_from next after (noted index limited unlimited) links ≡ fault_from start index unlimited (l ∷ links)
 unfolding fault_from

@@ -1,4 +1,4 @@
--- Links that are read one after the other, and a body whose links are read.
+-- Links that are read one after another, and a body whose links are read.
 use Rattle.std.proofs.Common.{◌≡◌, ℕ, ◌+◌, ◌≤◌, ◌<◌, ◌^◌, Bool, true, false, List, [], ◌∷◌, ◌++◌, length, map, Option, Some, None, option_map, is_none, is_some, Result, Ok, Err, refl, sym, ap, ◌∙◌, append_assoc, arith}
 use Rattle.std.specs.List.{list_all}
 use Rattle.std.proofs.lemmas.List.Folds.{list_all-append}
@@ -22,7 +22,7 @@ use Rattle.link_model.proofs.DocumentLaws.{document_found}
 use Rattle.ref_resolve.specs.declared.splitting.Parts.{Parts}
 use Rattle.ref_resolve.specs.Seen.{components_of}
 use Rattle.registration.specs.Drafts.{drafted, has_references, recorded}
-use Rattle.registration.specs.Reading.{LinkReads, Reads, IsLinksFault, BodyReads, fault_from, room_of}
+use Rattle.registration.specs.Links.{LinkReads, Reads, IsLinksFault, BodyReads, fault_from, room_of}
 use Rattle.registration.specs.declared.drafts.Draft.{Draft}
 use Rattle.registration.specs.declared.drafts.DraftFault.{DraftFault}
 use Rattle.registration.specs.declared.drafts.DraftFault.TheVariants as fault
@@ -33,9 +33,9 @@ use Rattle.registration.proofs.FaultLaws.{fault_here, fault_of_all, fault_of_non
 -- the fault of a link that is left is that of all
 pub links_refused : (base : Parts) (start index : ℕ) (unlimited : Option ℕ) (all left rest : List Link) (l : Link) (e : DraftFault) → left ≡ l ∷ rest
     → fault_from start index unlimited left ≡ fault_from 0 0 None all → LinkReads base start l (Err e) → IsLinksFault all e
-links_refused base start index unlimited all left rest l (fault.Links place) first same h = absurd h
-links_refused base start index unlimited all left rest l (fault.Reference place) first same h =
-    sym (fault_of_all all) ∙ sym same ∙ ap (fault_from start index unlimited) first ∙ fault_here start index place unlimited l rest h
+links_refused base start index unlimited all left rest l (fault.Links offset) first same h = absurd h
+links_refused base start index unlimited all left rest l (fault.Reference offset) first same h =
+    sym (fault_of_all all) ∙ sym same ∙ ap (fault_from start index unlimited) first ∙ fault_here start index offset unlimited l rest h
 links_refused base start index unlimited all left rest l (fault.Limited link) first same h = absurd h
 links_refused base start index unlimited all left rest l fault.Starved first same h = tt
 
@@ -48,16 +48,13 @@ all_more xs ys x e h k =
     let joined = list_all-append has_references xs (x ∷ []) in
     ap (list_all has_references) e ∙ (joined ∙ (rw (h, k) refl))
 
--- room behind a link
+-- room after a link
 pub room_behind : (start next all : ℕ) (left rest : List Link) (l : Link) → left ≡ l ∷ rest → next ≡ start + length (link_text l) + 1 → start + room_of left ≤ all → next + room_of rest ≤ all
 room_behind start next all left rest l first moved room = let e = ap room_of first ∙ room_cons l rest in omega (arith, e, moved, room)
 
-pub room_here : (start : ℕ) (all : ℕ) (left rest : List Link) (l : Link) → left ≡ l ∷ rest → start + room_of left ≤ all → start + length (link_text l) + 1 ≤ all
-room_here start all left rest l first room = let e = ap room_of first ∙ room_cons l rest in omega (arith, e, room)
-
 -- ---- all links
 
--- behind the last link the fault is that of the link that was noted
+-- after the last link the fault is that of the link that was noted
 pub fault_at_end : (start index : ℕ) (unlimited : Option ℕ) (all left : List Link) → left ≡ [] → fault_from start index unlimited left ≡ fault_from 0 0 None all
     → reference_or_limited (first_no_reference all) all ≡ option_map not_limited unlimited
 fault_at_end start index unlimited all left none same = sym (fault_of_all all) ∙ sym same ∙ ap (fault_from start index unlimited) none ∙ fault_of_none start index unlimited
@@ -100,8 +97,8 @@ pub body_reads : (base : Parts) (spelled body : List ℕ) (links : List Link) (r
 body_reads base spelled body links (Ok items) h s read =
     let good = fault_of_links body links h ∙ read.good in
     record { good = good; items = ap (option_map (items_of spelled)) (taken body links h good) ∙ ap (λ (is : List Item). Some is) (sym (read.items spelled s)); references = read.references }
-body_reads base spelled body links (Err (fault.Links place)) h s read = absurd read
-body_reads base spelled body links (Err (fault.Reference place)) h s read = fault_of_links body links h ∙ read
+body_reads base spelled body links (Err (fault.Links offset)) h s read = absurd read
+body_reads base spelled body links (Err (fault.Reference offset)) h s read = fault_of_links body links h ∙ read
 body_reads base spelled body links (Err (fault.Limited link)) h s read = fault_of_links body links h ∙ read
 body_reads base spelled body links (Err fault.Starved) h s read = tt
 

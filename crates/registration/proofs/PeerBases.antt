@@ -13,20 +13,17 @@ use Rattle.link_model.specs.Characters.{colon, at_sign, left_bracket, right_brac
 use Rattle.reference_model.specs.References.{Components, before, behind, from_first, through, has_octet, begins_with, host_in, host_of, recomposed, is_port_text, is_literal_and_port, is_name_and_port, is_host_and_port, is_authority}
 use Rattle.record_model.specs.Parameters.{is_base}
 use Rattle.reference_model.proofs.ReferenceCuts.{behind_none, before-marked, behind-marked, has_octet-append}
-use Rattle.reference_model.proofs.ReferenceMarks.{no_mark_in_run, no_mark_in_host}
+use Rattle.reference_model.proofs.ReferenceMarks.{no_mark_in_run}
 use Rattle.reference_model.proofs.ReferenceReading.{before-append, from_first-append, reference_only}
 use Rattle.registration.proofs.Addresses.{Passes, Filled, text_of_run, decimal_passes, ipv4_passes, ipv4_filled, ipv6_passes, ipv6_filled}
+use Rattle.reference_model.proofs.FaultHosts.{no_at_in_host}
 
--- ---- what stands behind `coap://`
+-- ---- what stands after `coap://`
 
 -- an authority of a host that is not empty, and a port or none
 record IsHostAndPort (authority : List ℕ) : Type 0 where
   allowed : is_host_and_port authority ≡ true
   has_host : is_empty (host_in authority) ≡ false
-
--- it has no user information
-no_userinfo : (authority : List ℕ) → is_host_and_port authority ≡ true → has_octet at_sign authority ≡ false
-no_userinfo authority h = no_mark_in_host at_sign (record { name = refl; literal = refl; digit = refl; hexdigit = refl; percent = refl; colon_octet = refl; left = refl; right = refl }) authority h
 
 -- the components of a base with such an authority
 coap : List ℕ → Components
@@ -36,7 +33,7 @@ coap authority = record { scheme = Some (codes "coap"); authority = Some authori
 coap_is_base : (authority : List ℕ) → IsHostAndPort authority → is_base (codes "coap://" ++ authority) ≡ true
 unfolding coap recomposed host_of is_base
 coap_is_base authority h =
-    let no_at = no_userinfo authority h.allowed in
+    let no_at = no_at_in_host authority h.allowed in
     let nothing = behind_none at_sign authority no_at in
     let allowed : is_authority authority ≡ true = rw (no_at, nothing) h.allowed in
     let spelled : codes "coap://" ++ authority ≡ recomposed (coap authority) = ap (λ (t : List ℕ). codes "coap://" ++ t) (sym (append-nil authority)) in

@@ -1,4 +1,4 @@
--- Sums that stop at the greatest number of 64 bits, and the octets of lines.
+-- The octets of lines, part by part.
 use Rattle.std.proofs.Common.{◌≡◌, ℕ, ◌+◌, ◌<◌, ◌^◌, List, ◌∷◌, ◌++◌, [], length, flat_map, sum_by, decimal, codes, refl, ap, ◌∙◌, arith, length-append}
 use Rattle.std.proofs.lemmas.Grind.{flat_map-append}
 use Rattle.rd_base.specs.declared.attributes.Pair.{Pair}
@@ -9,25 +9,12 @@ use Rattle.record_model.specs.ListingLines.{link_line, endpoint_line, weight, qu
 use Rattle.record_model.specs.Matching.{location, sector_pairs}
 use Rattle.link_model.specs.Quoting.{quoted, escaped_character}
 use Rattle.registration.specs.Drafts.{recorded}
-use Rattle.registration.specs.Weighing.{capped}
 use Rattle.registration.specs.declared.drafts.Draft.{Draft}
-
--- a sum is capped once
-pub capped_twice : (a b : ℕ) → capped (capped a + b) ≡ capped (a + b)
-capped_twice a b = omega arith
-
-pub capped_small : (a : ℕ) → a < 2 ^ 64 → capped a ≡ a
-capped_small a h = omega arith
 
 -- a text in quotes
 pub quoted_size : (text : List ℕ) → length (quoted text) ≡ 2 + length (flat_map escaped_character text)
 unfolding quoted
 quoted_size text = let joined = length-append (flat_map escaped_character text) (quote_mark ∷ []) in omega (arith, joined)
-
-pub attribute_size : (name value : List ℕ) → length (quoted_attribute (record { name = name; value = value })) ≡ 2 + length name + length (quoted value)
-attribute_size name value =
-    let whole = length-append name (codes "=" ++ quoted value) in
-    omega (arith, whole)
 
 pub link_size : (item : Item) → length (link_line item) ≡ 2 + length item.target + length item.raw + length (anchor_text item.anchor)
 unfolding link_line
@@ -55,10 +42,10 @@ endpoint_size number now draft =
     let own : List ℕ = flat_map quoted_attribute (based ∷ named ∷ (sectors ++ typed ∷ [])) in
     let extras : List ℕ = flat_map extra_attribute draft.attrs in
     let four = length-append own extras in
-    let place = length-append (codes "/rd/" ++ decimal number) (codes ">") in
+    let offset = length-append (codes "/rd/" ++ decimal number) (codes ">") in
     let digits = length-append (codes "/rd/") (decimal number) in
     let whole = length-append (codes "<" ++ ((codes "/rd/" ++ decimal number) ++ codes ">")) (own ++ extras) in
-    omega (arith, one, two, three, four, place, digits, whole)
+    omega (arith, one, two, three, four, offset, digits, whole)
   where
     add_nothing : (n : ℕ) → n + 0 ≡ n
     add_nothing n = omega arith

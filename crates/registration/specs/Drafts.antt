@@ -50,9 +50,9 @@ has_references item = is_reference item.target_ref && where_present is_reference
 abbrev pub IsBasis : List ℕ → Type 0
 IsBasis base = (is_base base ≡ true) ⊎ ((peer : Peer) × (IsHost peer.host × (base ≡ base_of peer)))
 
--- the answer is the fault of the body; want of memory has no cause in it
+-- the answer is the fault of the body; running out of memory has no cause in it
 abbrev pub IsFaultOf : List ℕ → DraftFault → Type 0
-IsFaultOf body (fault.Links place) = body_fault body ≡ Some (no_document place)
-IsFaultOf body (fault.Reference place) = body_fault body ≡ Some (no_reference place)
+IsFaultOf body (fault.Links offset) = body_fault body ≡ Some (no_document offset)
+IsFaultOf body (fault.Reference offset) = body_fault body ≡ Some (no_reference offset)
 IsFaultOf body (fault.Limited link) = body_fault body ≡ Some (not_limited link)
 IsFaultOf body fault.Starved = ⊤

@@ -1,6 +1,6 @@
 pub mod Drafts
-pub mod Gathering
-pub mod Referring
-pub mod Reading
-pub mod Rebasing
-pub mod Weighing
+pub mod LinkParameters
+pub mod References
+pub mod Links
+pub mod OtherBases
+pub mod Weights

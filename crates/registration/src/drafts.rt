@@ -1,6 +1,23 @@
-// Drafts of registrations, and why a body gives none.
-use rd_base::{Items, Name, Pairs, Starved, Text};
-use std::alloc::AllocFailed;
+//! Drafts of registrations: what one is, how a body makes one, and why a body makes none (RFC 9176 section 5).
+ghost use Rattle.std.specs.Prelude.{◌≡◌, ℕ, true, Some, None, IfOk, IfErr, IfSome, option_map};
+ghost use Rattle.std.specs.List.{list_all};
+ghost use Rattle.rd_base.specs.declared.moments.Moment.{Moment};
+ghost use Rattle.rd_base.specs.Bases.{base_of};
+ghost use Rattle.rd_base.specs.Peers.{IsHost};
+ghost use Rattle.rd_base.specs.declared.peers.Host.TheVariants as host;
+ghost use Rattle.record_model.specs.Bases.{registered_base};
+ghost use Rattle.record_model.specs.Bodies.{linked_references};
+ghost use Rattle.record_model.specs.BodyFaults.{body_fault};
+ghost use Rattle.record_model.specs.Parameters.{is_base};
+ghost use Rattle.record_model.specs.Records.{registered};
+ghost use Rattle.registration.specs.Drafts.{IsFaultOf, drafted, has_references, recorded};
+ghost use Rattle.registration.specs.Links.{BodyReads};
+
+use crate::links::read_links;
+use link_format::{LinkBad, check};
+use rd_base::{Host, Items, Name, Pairs, Peer, RegParams, Starved, Text, base_of};
+use ref_resolve::parts;
+use std::alloc::{AllocFailed, Global};
 
 /// What a registration is before it has a number and a moment (RFC 9176 section 5).
 #[derive(Debug, Drop)]
@@ -27,10 +44,10 @@ pub enum DraftFault {
     /// A target or an anchor is no URI-reference (RFC 3986 section 4.1): the octet of the body where the first such one
     /// begins.
     Reference(usize),
-    /// A link's anchor has a scheme and its target has none (RFC 9176 appendix C): the place of the first such link,
+    /// A link's anchor has a scheme and its target has none (RFC 9176 appendix C): the index of the first such link,
     /// counted from 0.
     Limited(usize),
-    /// Memory was wanted and was not to be had.
+    /// Out of memory.
     Starved,
 }
 
@@ -40,6 +57,7 @@ impl From<Starved> for DraftFault {
 
     ghost from_gives = { λ _ e. e ≡ fault.Starved };
 
+    /// Out of memory.
     fn from(_: Starved) -> DraftFault {
         DraftFault::Starved
     }
@@ -51,7 +69,100 @@ impl<T: Drop> From<AllocFailed<T>> for DraftFault {
 
     ghost from_gives = { λ _ e. e ≡ fault.Starved };
 
+    /// Out of memory.
     fn from(_: AllocFailed<T>) -> DraftFault {
         DraftFault::Starved
     }
+}
+
+/// The octets of an address are octets.
+fn known_octets(octets: [u8; 4])
+    ensures { IsHost (host.V4 octets) }
+{}
+
+/// The groups of an address have 16 bits.
+fn known_groups(groups: [u16; 8])
+    ensures { IsHost (host.V6 groups) }
+{}
+
+/// The numbers of an address fit.
+fn known_host(host: Host)
+    ensures { IsHost host }
+{
+    match host {
+        Host::V4(octets) => known_octets(octets),
+        Host::V6(groups) => known_groups(groups),
+    }
+}
+
+/// The base of a peer is one that may be given.
+fn peer_base(alloc: Global, peer: Peer) -> Result<Text, Starved>
+    ensures value { IfOk result (λ base. base ≡ base_of peer) }
+    ensures base { IfOk result (λ base. is_base base ≡ true) }
+{
+    known_host(peer.host);
+    base_of(alloc, &peer)
+}
+
+/// The base of a registration: the one that is given, else that of the peer (RFC 9176 section 5).
+fn registered_base(alloc: Global, given: Option<Text>, peer: Peer) -> Result<Text, Starved>
+    requires { IfSome given (λ base. is_base base ≡ true) }
+    ensures value { IfOk result (λ base. base ≡ registered_base given peer) }
+    ensures base { IfOk result (λ base. is_base base ≡ true) }
+{
+    match given {
+        Some(base) => Ok(base),
+        None => peer_base(alloc, peer),
+    }
+}
+
+/// The links of a body against a base, or its first fault.
+fn items_of(alloc: Global, base: &str, body: &[u8]) -> Result<Items, DraftFault>
+    requires { is_base base.now ≡ true }
+    ensures { BodyReads base.now body.now result }
+{
+    let Ok(base) = parts(base) else {
+        unreachable!();
+    };
+    match check(body) {
+        Ok(links) => read_links(alloc, &base, links),
+        Err(LinkBad { at }) => Err(DraftFault::Links(at)),
+    }
+}
+
+/// The draft of a registration (RFC 9176 section 5): its links against its base, which is the one that is given, else that
+/// of the peer. A target or an anchor with a scheme stays as it was written; any other one is resolved (RFC 3986 section
+/// 5.2). The base of the parameters is one that a registration may give.
+///
+/// # Errors
+///
+/// `Links` exactly where the body is no link document; else `Reference` exactly where a target or an anchor is no
+/// URI-reference; else `Limited` exactly where a link without a scheme in its target has one in its anchor. `Starved` may
+/// come instead of each, and leaves nothing.
+pub fn build(alloc: Global, params: RegParams, peer: Peer, body: &[u8]) -> Result<Draft, DraftFault>
+    requires { IfSome params.base (λ base. is_base base ≡ true) }
+    ensures draft { IfOk result (λ draft. option_map (drafted peer params) (linked_references body.now) ≡ Some draft) }
+    ensures record_of { (number : ℕ) (now : Moment) → IfOk result (λ draft. option_map (registered number now peer params) (linked_references body.now) ≡ Some (recorded number now draft)) }
+    ensures good { IfOk result (λ draft. body_fault body.now ≡ None) }
+    ensures base { IfOk result (λ draft. is_base draft.base ≡ true) }
+    ensures references { IfOk result (λ draft. list_all has_references draft.items ≡ true) }
+    ensures refused { IfErr result (λ fault. IsFaultOf body.now fault) }
+{
+    let RegParams {
+        name,
+        lt,
+        base,
+        attrs,
+    } = params;
+    let base_given = base.is_some();
+    let base = registered_base(alloc, base, peer)?;
+    let items = items_of(alloc, base.as_str(), body)?;
+    Ok(Draft {
+        name,
+        lt,
+        base,
+        base_given,
+        attrs,
+        items,
+    })
 }

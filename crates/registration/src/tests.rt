@@ -80,11 +80,11 @@ fn shown(alloc: Global, items: &Items) -> Result<String, Starved> {
 }
 
 /// What came of a body: its links, or its fault.
-fn told(alloc: Global, built: Result<Draft, DraftFault>) -> Result<String, Starved> {
+fn printed(alloc: Global, built: Result<Draft, DraftFault>) -> Result<String, Starved> {
     match built {
         Ok(draft) => shown(alloc, &draft.items),
-        Err(DraftFault::Links(place)) => Ok(format!(in alloc; "links {place}")?),
-        Err(DraftFault::Reference(place)) => Ok(format!(in alloc; "reference {place}")?),
+        Err(DraftFault::Links(offset)) => Ok(format!(in alloc; "links {offset}")?),
+        Err(DraftFault::Reference(offset)) => Ok(format!(in alloc; "reference {offset}")?),
         Err(DraftFault::Limited(link)) => Ok(format!(in alloc; "limited {link}")?),
         Err(DraftFault::Starved) => Err(Starved),
     }
@@ -116,6 +116,7 @@ path|<t>;anchor="x/../y"|<coap://h/c/t>;anchor="coap://h/c/y"
 path|<coap://f/./t>;anchor="coap://e/./"|<coap://f/./t>;anchor="coap://e/./"
 path|<coap://f/t>;anchor="?q"|<coap://f/t>;anchor="coap://h/c/d?q""#;
 
+/// Each body gives its draft or its fault.
 #[test]
 fn bodies_give_drafts(rt: HostRuntime) -> Result<(), Fail> {
     let alloc = rt.alloc();
@@ -123,7 +124,7 @@ fn bodies_give_drafts(rt: HostRuntime) -> Result<(), Fail> {
     for case in CASES.lines() {
         let (base, rest) = case.split_once('|').ok_or("no base")?;
         let (body, want) = rest.rsplit_once('|').ok_or("no body")?;
-        let text = told(alloc, draft_of(alloc, base, body.as_bytes()))?;
+        let text = printed(alloc, draft_of(alloc, base, body.as_bytes()))?;
         assert_eq!(rt; text.as_str(), want, "{base} {body}");
         count = u32::saturating_add(count, 1);
     }
@@ -131,6 +132,7 @@ fn bodies_give_drafts(rt: HostRuntime) -> Result<(), Fail> {
     Ok(())
 }
 
+/// Bodies with many links.
 #[test]
 fn long_bodies(rt: HostRuntime) -> Result<(), Fail> {
     let alloc = rt.alloc();
@@ -140,7 +142,7 @@ fn long_bodies(rt: HostRuntime) -> Result<(), Fail> {
     }
     body.push(b'>')?;
     assert_eq!(rt; body.len(), 8192);
-    let text = told(alloc, draft_of(alloc, "", body.as_slice()))?;
+    let text = printed(alloc, draft_of(alloc, "", body.as_slice()))?;
     assert_eq!(rt; text.len(), 8192 + 17);
     let mut body = Vec::new(alloc);
     for _ in 0..2046 {
@@ -148,11 +150,12 @@ fn long_bodies(rt: HostRuntime) -> Result<(), Fail> {
     }
     body.extend_from_slice(b"<1234:5>")?;
     assert_eq!(rt; body.len(), 8192);
-    let text = told(alloc, draft_of(alloc, "", body.as_slice()))?;
+    let text = printed(alloc, draft_of(alloc, "", body.as_slice()))?;
     assert_eq!(rt; text.as_str(), "reference 8185");
     Ok(())
 }
 
+/// What drafts weigh.
 #[test]
 fn weights(rt: HostRuntime) -> Result<(), Fail> {
     let alloc = rt.alloc();
@@ -180,6 +183,7 @@ fn weights(rt: HostRuntime) -> Result<(), Fail> {
     Ok(())
 }
 
+/// A thousand links weigh what each weighs.
 #[test]
 fn a_thousand_links_weigh(rt: HostRuntime) -> Result<(), Fail> {
     let alloc = rt.alloc();
@@ -199,6 +203,7 @@ fn a_thousand_links_weigh(rt: HostRuntime) -> Result<(), Fail> {
     Ok(())
 }
 
+/// Links resolved again against another base.
 #[test]
 fn links_against_another_base(rt: HostRuntime) -> Result<(), Fail> {
     let alloc = rt.alloc();

@@ -10,7 +10,7 @@ use Rattle.history_model.specs.Listing.{tag}
 use Rattle.history_model.specs.Refusals.{change_refusal}
 use Rattle.history_model.specs.Legal.{IsLegal}
 use Rattle.history_model.proofs.LegalLaws.{IsLegalFrom-nil, IsLegalFrom_push}
-use Rattle.history_model.proofs.OnLiterals.{history_on_literals}
+use Rattle.history_model.proofs.HistoryLiterals.{history_on_literals}
 use Rattle.history_model.proofs.Samples.{device, moved, registers, updates, removes, for_ten_minutes, two_links, registers_two, resources, by_lux, lux, live_numbers}
 
 -- a device registers: it is live under the first number, and weighs so much
@@ -54,7 +54,7 @@ update_before_lapse : change_refusal 0 (registers_two 1000 ∷ []) (updates 600_
 unfolding history_on_literals
 update_before_lapse = refl
 
--- no number is 0, and none is live that was not drawn
+-- no number is 0, and none above the last number is live
 update_of_zero : change_refusal 0 (registers_two 1000 ∷ []) (updates 1100 device 0 []) ≡ Some refusal.Registration
 unfolding history_on_literals
 update_of_zero = refl
@@ -91,7 +91,7 @@ with_sector : live_numbers (registers_two 1000 ∷ registers 2000 device (codes 
 unfolding history_on_literals
 with_sector = refl
 
--- a number that was removed is not drawn again
+-- a number that was removed is not used again
 after_removal : live_numbers (registers_two 1000 ∷ removes 2000 1 ∷ registers_two 3000 ∷ []) 3000 ≡ 2 ∷ []
 unfolding history_on_literals
 after_removal = refl

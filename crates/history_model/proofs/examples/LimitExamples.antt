@@ -9,7 +9,7 @@ use Rattle.history_model.specs.declared.entries.Entry.{Entry}
 use Rattle.history_model.specs.declared.refusals.Refusal.TheVariants as refusal
 use Rattle.history_model.specs.Replay.{State}
 use Rattle.history_model.specs.Refusals.{refusal_in, change_refusal}
-use Rattle.history_model.proofs.OnLiterals.{history_on_literals}
+use Rattle.history_model.proofs.HistoryLiterals.{history_on_literals}
 use Rattle.history_model.proofs.Samples.{device, registers, removes, registers_two}
 
 -- two entries below the limit one registration is accepted
@@ -37,7 +37,7 @@ numbered n = registered n (record { 0 = 100 }) device (registration_values (code
 
 -- so many of them
 abbrev many : ℕ → State
-many n = record { records = map numbered (range_with_len 1 n); drawn = n }
+many n = record { records = map numbered (range_with_len 1 n); last_number = n }
 
 -- a registration of another name
 abbrev one_more : Entry

@@ -4,7 +4,7 @@ use Rattle.rd_base.specs.declared.queries.Kind.TheVariants as kind
 use Rattle.record_model.specs.Criteria.{lookup_values}
 use Rattle.history_model.specs.declared.entries.Entry.{Entry}
 use Rattle.history_model.specs.Listing.{all_lines, tag, tag_from}
-use Rattle.history_model.proofs.OnLiterals.{history_on_literals}
+use Rattle.history_model.proofs.HistoryLiterals.{history_on_literals}
 use Rattle.history_model.proofs.Samples.{device, registers, removes, registers_two, resources, endpoints, by_lux, temp, lux}
 
 -- one link by its type

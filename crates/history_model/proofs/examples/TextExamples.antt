@@ -4,7 +4,7 @@ use Rattle.std.specs.List.{concat}
 use Rattle.history_model.specs.declared.entries.Entry.{Entry}
 use Rattle.history_model.specs.declared.refusals.Refusal.TheVariants as refusal
 use Rattle.history_model.specs.Refusals.{change_refusal}
-use Rattle.history_model.proofs.OnLiterals.{history_on_literals}
+use Rattle.history_model.proofs.HistoryLiterals.{history_on_literals}
 use Rattle.history_model.proofs.Samples.{device, registers}
 
 -- a thousand links to a base of 200 octets
@@ -18,7 +18,7 @@ long_base = codes "coap://" ++ replicate 193 104
 abbrev long : ℕ → Entry
 long n = registers (1000 + n) device ((codes "ep=n" ++ decimal n) ∷ (codes "base=" ++ long_base) ∷ []) thousand_links
 
--- behind five of them a sixth is refused
+-- after five of them a sixth is refused
 sixth_text : change_refusal 0 (long 1 ∷ long 2 ∷ long 3 ∷ long 4 ∷ long 5 ∷ []) (long 6) ≡ Some refusal.Text
 unfolding history_on_literals
 sixth_text = refl

@@ -1,5 +1,5 @@
 -- Tests that are joined: what all of them say of each.
-use Rattle.std.proofs.Common.{◌≡◌, ℕ, ◌≤◌, Bool, true, false, ◌&&◌, List, nat_le, bytes_eq, refl}
+use Rattle.std.proofs.Common.{◌≡◌, ℕ, ◌≤◌, Bool, true, false, ◌&&◌, List, nat_le, bytes_eq, refl, not}
 use Rattle.std.proofs.lemmas.Bool.{and_parts, and_from, leb-true, le-leb}
 use Rattle.std.proofs.lemmas.Slice.Eq.{bytes_eq-Decides}
 
@@ -19,3 +19,8 @@ both_parts m n xs ys e =
 -- and back
 pub both_from : (m n : ℕ) (xs ys : List ℕ) → m ≤ n → xs ≡ ys → (nat_le m n && bytes_eq xs ys) ≡ true
 both_from m n xs ys h e = and_from (nat_le m n) (bytes_eq xs ys) (le-leb m n h) ((bytes_eq-Decides xs ys).1 e)
+
+-- two negations
+pub not_not : (t : Bool) → t ≡ not (not t)
+not_not true = refl
+not_not false = refl

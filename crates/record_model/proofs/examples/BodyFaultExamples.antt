@@ -1,4 +1,4 @@
--- Faults of bodies and their places, computed.
+-- Faults of bodies and their offsets, computed.
 use Rattle.std.proofs.Common.{◌≡◌, codes, Some, None, refl}
 use Rattle.record_model.specs.BodyFaults.{no_document, no_reference, not_limited, body_fault}
 use Rattle.record_model.proofs.RecordLiterals.{record_on_literals}
@@ -13,17 +13,17 @@ cut_off : body_fault (codes "<t>;") ≡ Some (no_document 4)
 unfolding record_on_literals
 cut_off = refl
 
--- a space behind a link
-space_behind : body_fault (codes "<a> ,<b>") ≡ Some (no_document 3)
+-- a space after a link
+space_after : body_fault (codes "<a> ,<b>") ≡ Some (no_document 3)
 unfolding record_on_literals
-space_behind = refl
+space_after = refl
 
--- a target that is no reference begins behind its bracket
+-- a target that is no reference begins after its bracket
 target : body_fault (codes "<a>,<1a:b>") ≡ Some (no_reference 5)
 unfolding record_on_literals
 target = refl
 
--- an anchor behind its quote
+-- an anchor after its quote
 quoted_anchor : body_fault (codes "<a>;rt=b;anchor=\"c d\"") ≡ Some (no_reference 17)
 unfolding record_on_literals
 quoted_anchor = refl
@@ -48,7 +48,7 @@ limited : body_fault (codes "<a>,<t>;anchor=\"coap://e/\"") ≡ Some (not_limite
 unfolding record_on_literals
 limited = refl
 
--- comes behind each reference
+-- comes after each reference
 reference_first : body_fault (codes "<t>;anchor=\"coap://e/\",<1:2>") ≡ Some (no_reference 24)
 unfolding record_on_literals
 reference_first = refl

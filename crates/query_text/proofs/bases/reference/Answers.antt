@@ -2,7 +2,7 @@
 use Rattle.std.proofs.Common.{sym}
 use Rattle.reference_model.proofs.ReferenceReading.{reference_only}
 use Rattle.ref_resolve.specs.Seen.{components_of}
-use Rattle.query_text.proofs.BaseReading.{no_reference}
+use Rattle.query_text.proofs.BaseLaws.{no_reference}
 use Rattle.query_text.proofs.bases.reference.Goals as goal
 
 pub returns-in-Ok : goal.returns-in-Ok

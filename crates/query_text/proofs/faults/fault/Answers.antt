@@ -1,7 +1,7 @@
 -- What is left has the first fault of all.
 use Rattle.std.proofs.Common.{sym, ◌∙◌}
-use Rattle.query_text.proofs.Steps.{passed}
-use Rattle.query_text.proofs.Meeting.{same_fault}
+use Rattle.query_text.proofs.WalkLaws.{passed}
+use Rattle.query_text.proofs.RuleLaws.{same_fault}
 use Rattle.query_text.proofs.faults.fault.Goals as goal
 
 pub options-preserved : goal.options-preserved

@@ -1,5 +1,5 @@
 use Rattle.std.proofs.Common.{◌≡◌, ◌+◌, ◌<◌, ◌^◌, length}
-use Rattle.query_text.specs.Walking.{start_of, faults_from}
+use Rattle.query_text.specs.Walks.{start_of, faults_from}
 use Rattle.query_text.proofs.faults.fault.Given as goal
 
 abbrev pub invariant-options : goal.invariant-options

@@ -1,15 +1,15 @@
 -- What is left has the first fault of all, and asks with what is kept for what all ask for.
 use Rattle.std.proofs.Common.{sym, ap, ◌∙◌}
-use Rattle.query_text.specs.Asking.{wanted_in}
-use Rattle.query_text.specs.Walking.{walk_past}
-use Rattle.query_text.proofs.Steps.{passed}
+use Rattle.query_text.specs.AskedOptions.{wanted_in}
+use Rattle.query_text.specs.Walks.{walk_past}
+use Rattle.query_text.proofs.WalkLaws.{passed}
 use Rattle.query_text.proofs.OptionsKept.{asked_more, asked_all}
-use Rattle.query_text.proofs.LookupResults.{of_lookup, asking_refused}
+use Rattle.query_text.proofs.LookupResults.{of_lookup, asked_refused}
 use Rattle.query_text.proofs.lookups.all_asked.Goals as goal
 
 pub returns-in_err-named : goal.returns-in_err-named
 returns-in_err-named g c =
-    asking_refused (g.Q.Pieces.left c.args.queries) c.in_err-named.field-0.0 c.from_residual.result (sym c.options.invariant.same ∙ c.in_err-named.ensures.step) c.from_residual.ensures.1
+    asked_refused (g.Q.Pieces.left c.args.queries) c.in_err-named.field-0.0 c.from_residual.result (sym c.options.invariant.same ∙ c.in_err-named.ensures.step) c.from_residual.ensures.1
 
 pub options-preserved : goal.options-preserved
 options-preserved g c =

@@ -1,7 +1,7 @@
 use Rattle.std.proofs.Common.{◌≡◌, ◌+◌, ◌<◌, ◌^◌, length}
 use Rattle.record_model.specs.declared.readings.Reading.TheVariants as reading
-use Rattle.query_text.specs.Walking.{start_of, faults_from}
-use Rattle.query_text.specs.Asking.{wanted_in, wanted_of}
+use Rattle.query_text.specs.Walks.{start_of, faults_from}
+use Rattle.query_text.specs.AskedOptions.{wanted_in, wanted_of}
 use Rattle.query_text.proofs.OptionsKept.{joined}
 use Rattle.query_text.proofs.lookups.all_asked.Given as goal
 

@@ -1,6 +1,6 @@
 -- What the digits parse to.
 use Rattle.std.proofs.Common.{arith, sym, ◌∙◌}
-use Rattle.query_text.proofs.NumberReading.{parsed_number, great_number}
+use Rattle.query_text.proofs.NumberLaws.{parsed_number, great_number}
 use Rattle.query_text.proofs.options.number.Goals as goal
 
 pub returns-in-Ok : goal.returns-in-Ok

@@ -1,7 +1,7 @@
 -- From what the parameters give.
 use Rattle.std.proofs.Common.{◌≡◌, subst, Ok}
 use Rattle.record_model.specs.Parameters.{registration_parameters}
-use Rattle.query_text.specs.Answering.{Answers}
+use Rattle.query_text.specs.Outcomes.{Answers}
 use Rattle.query_text.proofs.Results.{registration_refused, registration_good}
 use Rattle.query_text.proofs.parameters.reg_params.Goals as goal
 

@@ -1,0 +1,131 @@
+//! Lines that are appended to a listing.
+ghost use Rattle.std.specs.Prelude.{◌≡◌, ◌++◌, ◌∷◌, [], flat_map, OnOk, OnErr};
+ghost use Rattle.record_model.specs.ListingLines as listing_model;
+ghost use Rattle.link_model.specs.Quoting.{escaped_character};
+ghost use Rattle.listing.specs.AppendedLines.{separated};
+ghost use Rattle.listing.specs.Pieces.{own_line, octets_of_piece, octets_of_pieces};
+
+use crate::locations::{ROOM, write_location};
+use crate::pieces::{Piece, attribute_pieces, endpoint_pieces, is_escaped, link_pieces};
+use rd_base::{Bytes, Item, Pair, Record, Starved};
+
+/// Appends an octet of a quoted text.
+fn append_octet(octet: u8, into: &mut Bytes) -> Result<(), Starved>
+    ensures ok { OnOk result (into.new ≡ into.old ++ escaped_character octet) }
+    ensures starved { OnErr result (into.new ≡ into.old) }
+{
+    if is_escaped(octet) {
+        return into.append(&[b'\\', octet]);
+    }
+    into.append(&[octet])
+}
+
+/// Appends a text with a backslash before each quote and each backslash.
+fn append_escaped(text: &[u8], into: &mut Bytes) -> Result<(), Starved>
+    ensures ok { OnOk result (into.new ≡ into.old ++ flat_map escaped_character text.now) }
+    ensures starved { OnErr result (into.new ≡ into.old) }
+{
+    let before = into.len();
+    'octets: for octet in text {
+        if append_octet(*octet, into).is_err() {
+            into.truncate(before);
+            return Err(Starved);
+        }
+    }
+    Ok(())
+}
+
+/// Appends a piece.
+fn append_piece(piece: &Piece<'_>, into: &mut Bytes) -> Result<(), Starved>
+    ensures ok { OnOk result (into.new ≡ into.old ++ octets_of_piece piece.now) }
+    ensures starved { OnErr result (into.new ≡ into.old) }
+{
+    match piece {
+        Piece::Plain(text) => into.append(text),
+        Piece::Escaped(text) => append_escaped(text, into),
+    }
+}
+
+/// Appends pieces.
+fn append_pieces(pieces: &[Piece<'_>], into: &mut Bytes) -> Result<(), Starved>
+    ensures ok { OnOk result (into.new ≡ into.old ++ octets_of_pieces pieces.now) }
+    ensures starved { OnErr result (into.new ≡ into.old) }
+{
+    let before = into.len();
+    'pieces: for piece in pieces {
+        if append_piece(piece, into).is_err() {
+            into.truncate(before);
+            return Err(Starved);
+        }
+    }
+    Ok(())
+}
+
+/// Appends a comma after what is there.
+fn append_comma(into: &mut Bytes) -> Result<(), Starved>
+    ensures ok { OnOk result (into.new ≡ separated into.old) }
+    ensures starved { OnErr result (into.new ≡ into.old) }
+{
+    if into.is_empty() {
+        return Ok(());
+    }
+    into.append(b",")
+}
+
+/// Appends the line of a link. Out of memory, the octets are as before.
+pub fn append_link(item: &Item, into: &mut Bytes) -> Result<(), Starved>
+    ensures ok { OnOk result (into.new ≡ separated into.old ++ listing_model.link_line item.now) }
+    ensures starved { OnErr result (into.new ≡ into.old) }
+{
+    let before = into.len();
+    append_comma(into)?;
+    if append_pieces(&link_pieces(item), into).is_err() {
+        into.truncate(before);
+        return Err(Starved);
+    }
+    Ok(())
+}
+
+/// Appends extra attributes of an endpoint.
+fn append_attributes(pairs: &[Pair], into: &mut Bytes) -> Result<(), Starved>
+    ensures ok { OnOk result (into.new ≡ into.old ++ flat_map listing_model.extra_attribute pairs.now) }
+    ensures starved { OnErr result (into.new ≡ into.old) }
+{
+    let before = into.len();
+    'pairs: for pair in pairs {
+        if append_pieces(&attribute_pieces(pair), into).is_err() {
+            into.truncate(before);
+            return Err(Starved);
+        }
+    }
+    Ok(())
+}
+
+/// Appends the line of an endpoint before its extra attributes.
+fn append_own(record_of: &Record, into: &mut Bytes) -> Result<(), Starved>
+    ensures ok { OnOk result (into.new ≡ into.old ++ own_line record_of.now) }
+    ensures starved { OnErr result (into.new ≡ into.old) }
+{
+    let mut octets = [0; ROOM];
+    let start = write_location(record_of.number, &mut octets);
+    append_pieces(&endpoint_pieces(record_of, &octets[start..]), into)
+}
+
+/// Appends the line of an endpoint. Out of memory, the octets are as before.
+#[tactic(auto, using(crate::proofs::PieceLaws::endpoint_whole))]
+pub fn append_endpoint(record_of: &Record, into: &mut Bytes) -> Result<(), Starved>
+    ensures ok { OnOk result (into.new ≡ separated into.old ++ listing_model.endpoint_line record_of.now) }
+    ensures starved { OnErr result (into.new ≡ into.old) }
+{
+    let before = into.len();
+    append_comma(into)?;
+    if append_own(record_of, into).is_err() {
+        into.truncate(before);
+        return Err(Starved);
+    }
+    if append_attributes(record_of.attrs.as_slice(), into).is_err() {
+        into.truncate(before);
+        return Err(Starved);
+    }
+    Ok(())
+}

@@ -1,0 +1,170 @@
+//! Which links and endpoints meet criteria (RFC 6690 section 4.1, RFC 9176 section 6.2).
+ghost use Rattle.std.specs.Prelude.{◌≡◌, ◌<◌, ◌&&◌, bytes_eq, length};
+ghost use Rattle.std.specs.List.{list_any, HoldsAt};
+ghost use Rattle.record_model.specs.Matching as model;
+ghost use Rattle.std.specs.Option.{option_copied};
+ghost use Rattle.record_model.specs.Discovery as discovery_model;
+ghost use Rattle.record_model.specs.ListingLines as listing_model;
+ghost use Rattle.listing.specs.ListedLinks.{listed_of};
+
+use crate::locations::{ROOM, write_location};
+use crate::patterns::{matches_named, matches_value};
+use rd_base::{Criterion, Item, Pair, Query, Record};
+
+/// Whether the criterion matches an attribute of this name and value.
+fn matches_attribute(criterion: &Criterion, name: &[u8], value: &[u8]) -> bool
+    ensures { result ≡ (bytes_eq name.now criterion.now.name && model.matches_named criterion.now.name criterion.now.pattern value.now) }
+{
+    name == criterion.name.as_bytes()
+        && matches_named(
+            criterion.name.as_bytes(),
+            criterion.pattern.as_bytes(),
+            value,
+        )
+}
+
+/// Whether the criterion matches one of the attributes.
+fn matches_pairs(criterion: &Criterion, pairs: &[Pair]) -> bool
+    ensures { result ≡ model.matches_pairs criterion.now pairs.now }
+{
+    pairs.iter().any(|pair| matches_attribute(
+        criterion,
+        pair.name.as_bytes(),
+        pair.value.as_bytes(),
+    ))
+}
+
+/// Whether the criterion is about targets.
+fn is_href(criterion: &Criterion) -> bool
+    ensures { result ≡ model.is_href criterion.now }
+{
+    criterion.name.as_bytes() == b"href".as_slice()
+}
+
+/// Whether the criterion is about anchors.
+fn is_anchor(criterion: &Criterion) -> bool
+    ensures { result ≡ model.is_anchor_criterion criterion.now }
+{
+    criterion.name.as_bytes() == b"anchor".as_slice()
+}
+
+/// Whether the criterion matches the link by itself: `href` by its target, `anchor` by its anchor where it has one,
+/// and any other name by one of its attributes (RFC 9176 section 6.2).
+#[tactic(auto, unfolding(record_model::specs::Matching::link_matches))]
+pub fn link_matches(criterion: &Criterion, item: &Item) -> bool
+    ensures { result ≡ model.link_matches criterion.now item.now }
+{
+    if is_href(criterion) {
+        return matches_value(criterion.pattern.as_bytes(), item.target.as_bytes());
+    }
+    if is_anchor(criterion) {
+        return match &item.anchor {
+            Some(anchor) => matches_value(criterion.pattern.as_bytes(), anchor.as_bytes()),
+            None => false,
+        };
+    }
+    matches_pairs(criterion, item.pairs.as_slice())
+}
+
+/// Whether the criterion matches one of the attributes that each endpoint has: its base, its name, its sector where it
+/// has one, and its type.
+fn matches_own(criterion: &Criterion, record_of: &Record) -> bool
+    ensures { result ≡ model.matches_pairs criterion.now (listing_model.own_pairs record_of.now) }
+{
+    if matches_attribute(criterion, b"base", record_of.base.as_bytes()) {
+        return true;
+    }
+    if matches_attribute(criterion, b"ep", record_of.name.ep.as_bytes()) {
+        return true;
+    }
+    if let Some(sector) = &record_of.name.sector {
+        if matches_attribute(criterion, b"d", sector.as_bytes()) {
+            return true;
+        }
+    }
+    matches_attribute(criterion, b"rt", b"core.rd-ep")
+}
+
+/// Whether the criterion matches the location of the registration.
+fn matches_location(criterion: &Criterion, number: u64) -> bool
+    ensures { result ≡ model.matches_value criterion.now.pattern (model.location number) }
+{
+    let mut octets = [0; ROOM];
+    let start = write_location(number, &mut octets);
+    matches_value(criterion.pattern.as_bytes(), &octets[start..])
+}
+
+/// Whether the criterion matches the endpoint by itself: `href` by its location, and any other name by its base, its
+/// name, its sector where it has one, its type, and its extra attributes (RFC 9176 section 6.2).
+#[tactic(auto, unfolding(record_model::specs::Matching::endpoint_matches))]
+pub fn endpoint_matches(criterion: &Criterion, record_of: &Record) -> bool
+    ensures { result ≡ model.endpoint_matches criterion.now record_of.now }
+{
+    if is_href(criterion) {
+        return matches_location(criterion, record_of.number);
+    }
+    if matches_own(criterion, record_of) {
+        return true;
+    }
+    matches_pairs(criterion, record_of.attrs.as_slice())
+}
+
+/// Whether each criterion matches the link by itself or its endpoint by itself.
+#[tactic(auto, unfolding(record_model::specs::ListingLines::link_listed))]
+fn link_listed(query: &Query, record_of: &Record, item: &Item) -> bool
+    ensures { result ≡ listing_model.link_listed query.now record_of.now item.now }
+{
+    query.criteria.as_slice().iter().all(|criterion| {
+        link_matches(criterion, item) || endpoint_matches(criterion, record_of)
+    })
+}
+
+/// Whether each criterion matches the link by itself.
+#[tactic(auto, unfolding(record_model::specs::Discovery::own_link_listed))]
+fn own_link_listed(query: &Query, item: &Item) -> bool
+    ensures { result ≡ discovery_model.own_link_listed query.now item.now }
+{
+    query
+        .criteria
+        .as_slice()
+        .iter()
+        .all(|criterion| link_matches(criterion, item))
+}
+
+/// Whether the query lists a link of this registration, or of the directory itself, which has no endpoint.
+pub(crate) fn is_listed(query: &Query, owner: Option<&Record>, item: &Item) -> bool
+    ensures { result ≡ listed_of query.now (option_copied owner.entry) item.now }
+{
+    match owner {
+        Some(record_of) => link_listed(query, record_of, item),
+        None => own_link_listed(query, item),
+    }
+}
+
+/// Whether a resource lookup lists the link with this index: each criterion matches the link by itself or its endpoint
+/// by itself (RFC 9176 section 6.2). The query's kind does not count.
+pub fn matches(query: &Query, record_of: &Record, item: usize) -> bool
+    requires { item < length record_of.now.items }
+    ensures { HoldsAt (λ link. result ≡ listing_model.link_listed query.now record_of.now link) record_of.now.items item }
+{
+    link_listed(query, record_of, &record_of.items.as_slice()[item])
+}
+
+/// Whether the criterion matches one of the links by itself.
+fn any_link_matches(criterion: &Criterion, items: &[Item]) -> bool
+    ensures { result ≡ list_any (model.link_matches criterion.now) items.now }
+{
+    items.iter().any(|item| link_matches(criterion, item))
+}
+
+/// Whether an endpoint lookup lists the endpoint: each criterion matches the endpoint by itself or any one of its links
+/// by itself (RFC 9176 section 6.2). The query's kind does not count.
+#[tactic(auto, unfolding(record_model::specs::ListingLines::endpoint_listed))]
+pub fn endpoint_listed(query: &Query, record_of: &Record) -> bool
+    ensures { result ≡ listing_model.endpoint_listed query.now record_of.now }
+{
+    query.criteria.as_slice().iter().all(|criterion| {
+        endpoint_matches(criterion, record_of)
+            || any_link_matches(criterion, record_of.items.as_slice())
+    })
+}

@@ -1,0 +1,110 @@
+//! The lines that one registration gives to a listing (RFC 9176 sections 6.3 and 6.4).
+ghost use Rattle.std.specs.Prelude.{◌≡◌, length, min, IfOk, OnOk, OnErr};
+ghost use Rattle.std.specs.Option.{option_copied};
+ghost use Rattle.record_model.specs.ListingLines.{part};
+ghost use Rattle.listing.specs.AppendedLines.{appended, shown_lines};
+ghost use Rattle.listing.specs.ListedLinks.{listed_endpoint, listed_lines};
+
+use crate::appended_lines::{append_endpoint, append_link};
+use crate::criteria::{endpoint_listed, is_listed};
+use rd_base::{Bytes, Item, Kind, Query, Record, Starved};
+use std::alloc::Global;
+
+/// Appends the lines of the links that are listed, after the first `skip` and at most `most`, and answers how many it
+/// skipped and wrote. Out of memory, the octets are as before.
+pub fn append_links(
+    query: &Query,
+    owner: Option<&Record>,
+    items: &[Item],
+    skip: u64,
+    most: u64,
+    into: &mut Bytes,
+) -> Result<(u64, u64), Starved>
+    ensures text { OnOk result (into.new ≡ appended into.old (shown_lines skip most (listed_lines query.now (option_copied owner.entry) items.now))) }
+    ensures skipped { IfOk result (λ counts. counts.0 ≡ min skip (length (listed_lines query.now (option_copied owner.entry) items.now))) }
+    ensures written { IfOk result (λ counts. counts.1 ≡ length (shown_lines skip most (listed_lines query.now (option_copied owner.entry) items.now))) }
+    ensures starved { OnErr result (into.new ≡ into.old) }
+{
+    let before = into.len();
+    let mut to_skip = skip;
+    let mut to_write = most;
+    let mut rest = items;
+    'items: while let Some((item, more)) = rest.split_first() {
+        rest = more;
+        if !is_listed(query, owner, item) {
+            continue;
+        }
+        if to_skip > 0 {
+            to_skip -= 1;
+            continue;
+        }
+        if to_write == 0 {
+            return Ok((skip, most));
+        }
+        if append_link(item, into).is_err() {
+            into.truncate(before);
+            return Err(Starved);
+        }
+        to_write -= 1;
+    }
+    Ok((skip - to_skip, most - to_write))
+}
+
+/// Appends the line of the endpoint where it is listed, by the same rules.
+fn append_listed_endpoint(
+    query: &Query,
+    record_of: &Record,
+    skip: u64,
+    most: u64,
+    into: &mut Bytes,
+) -> Result<(u64, u64), Starved>
+    ensures text { OnOk result (into.new ≡ appended into.old (shown_lines skip most (listed_endpoint query.now record_of.now))) }
+    ensures skipped { IfOk result (λ counts. counts.0 ≡ min skip (length (listed_endpoint query.now record_of.now))) }
+    ensures written { IfOk result (λ counts. counts.1 ≡ length (shown_lines skip most (listed_endpoint query.now record_of.now))) }
+    ensures starved { OnErr result (into.new ≡ into.old) }
+{
+    if !endpoint_listed(query, record_of) {
+        return Ok((0, 0));
+    }
+    if skip > 0 {
+        return Ok((1, 0));
+    }
+    if most == 0 {
+        return Ok((0, 0));
+    }
+    append_endpoint(record_of, into)?;
+    Ok((0, 1))
+}
+
+/// Appends the lines that the registration gives to a lookup of this kind, after the first `skip` and at most `most`:
+/// the links that a resource lookup lists, or the endpoint where an endpoint lookup lists it. A comma stands before each
+/// line where the octets are not empty (RFC 6690 section 2). Answers how many lines were skipped and how many written;
+/// those skipped are all that there are where that is fewer than `skip`. Out of memory, the octets are as
+/// before.
+#[tactic(auto, unfolding(record_model::specs::ListingLines::part))]
+pub fn lines(
+    _alloc: Global,
+    query: &Query,
+    record_of: &Record,
+    skip: u64,
+    most: u64,
+    into: &mut Bytes,
+) -> Result<(u64, u64), Starved>
+    ensures text { OnOk result (into.new ≡ appended into.old (shown_lines skip most (part query.now record_of.now))) }
+    ensures skipped { IfOk result (λ counts. counts.0 ≡ min skip (length (part query.now record_of.now))) }
+    ensures written { IfOk result (λ counts. counts.1 ≡ length (shown_lines skip most (part query.now record_of.now))) }
+    ensures starved { OnErr result (into.new ≡ into.old) }
+{
+    match query.kind {
+        Kind::Resource => append_links(
+            query,
+            Some(record_of),
+            record_of.items.as_slice(),
+            skip,
+            most,
+            into,
+        ),
+        Kind::Endpoint => append_listed_endpoint(query, record_of, skip, most, into),
+        Kind::Discovery => Ok((0, 0)),
+    }
+}

@@ -1,0 +1,143 @@
+//! Whether two states of a registration give the same lines.
+ghost use Rattle.std.specs.Prelude.{◌≡◌, ◌↔◌, [], Some, bytes_eq, IsTrue};
+ghost use Rattle.std.specs.Option.{option_copied};
+ghost use Rattle.record_model.specs.ListingLines as listing_model;
+ghost use Rattle.record_model.specs.Matching as model;
+ghost use Rattle.listing.specs.SameParts.{part_or_none, same_lines};
+ghost use Rattle.listing.specs.Views.{FirstListed, left};
+ghost use Rattle.listing.specs.ListedLinks.{listed_endpoint, listed_lines};
+
+use crate::criteria::{endpoint_listed, is_listed};
+use crate::locations::{ROOM, write_location};
+use crate::octets::{Octets, octets_of, same_octets};
+use crate::pieces::{endpoint_pieces, link_pieces};
+use rd_base::{Item, Kind, Query, Record};
+
+/// Whether the lines of both links have the same octets.
+fn same_link(old: &Item, new: &Item) -> bool
+    ensures { result ≡ bytes_eq (listing_model.link_line old.now) (listing_model.link_line new.now) }
+{
+    same_octets(
+        &mut octets_of(link_pieces(old), &[]),
+        &mut octets_of(link_pieces(new), &[]),
+    )
+}
+
+/// The line of an endpoint, octet by octet.
+#[tactic(auto, using(crate::proofs::PieceLaws::endpoint_parts))]
+fn endpoint_octets<'a>(record_of: &'a Record, location: &'a [u8]) -> Octets<'a>
+    requires { location.now ≡ model.location record_of.now.number }
+    ensures { left result ≡ listing_model.endpoint_line record_of.now }
+{
+    octets_of(
+        endpoint_pieces(record_of, location),
+        record_of.attrs.as_slice(),
+    )
+}
+
+/// Whether the lines of both endpoints have the same octets.
+fn same_endpoint(old: &Record, new: &Record) -> bool
+    ensures { result ≡ bytes_eq (listing_model.endpoint_line old.now) (listing_model.endpoint_line new.now) }
+{
+    let mut old_octets = [0; ROOM];
+    let old_start = write_location(old.number, &mut old_octets);
+    let mut new_octets = [0; ROOM];
+    let new_start = write_location(new.number, &mut new_octets);
+    let mut old_line = endpoint_octets(old, &old_octets[old_start..]);
+    let mut new_line = endpoint_octets(new, &new_octets[new_start..]);
+    same_octets(&mut old_line, &mut new_line)
+}
+
+/// The first of the links that is listed, and those after it.
+fn first_listed<'a>(
+    query: &Query,
+    record_of: &Record,
+    items: &'a [Item],
+) -> Option<(&'a Item, &'a [Item])>
+    ensures { FirstListed query.now record_of.now items.now result }
+{
+    let mut rest = items;
+    'items: while let Some((item, more)) = rest.split_first() {
+        if is_listed(query, Some(record_of), item) {
+            return Some((item, more));
+        }
+        rest = more;
+    }
+    None
+}
+
+/// Whether the links that are listed of both have the same lines in the same order.
+fn same_links(query: &Query, old: &Record, new: &Record) -> bool
+    ensures { result ≡ same_lines (listed_lines query.now (Some old.now) old.now.items) (listed_lines query.now (Some new.now) new.now.items) }
+{
+    let mut old_rest = old.items.as_slice();
+    let mut new_rest = new.items.as_slice();
+    'items: loop {
+        let old_first = first_listed(query, old, old_rest);
+        let new_first = first_listed(query, new, new_rest);
+        match old_first {
+            None => return new_first.is_none(),
+            Some((old_item, old_more)) => match new_first {
+                None => return false,
+                Some((new_item, new_more)) => {
+                    if !same_link(old_item, new_item) {
+                        return false;
+                    }
+                    old_rest = old_more;
+                    new_rest = new_more;
+                }
+            },
+        }
+    }
+}
+
+/// Whether both give the same lines to an endpoint lookup.
+fn same_listed_endpoint(query: &Query, old: &Record, new: &Record) -> bool
+    ensures { result ≡ same_lines (listed_endpoint query.now old.now) (listed_endpoint query.now new.now) }
+{
+    if !endpoint_listed(query, old) {
+        return !endpoint_listed(query, new);
+    }
+    if !endpoint_listed(query, new) {
+        return false;
+    }
+    same_endpoint(old, new)
+}
+
+/// Whether both give the same lines.
+#[tactic(auto, unfolding(record_model::specs::ListingLines::part))]
+fn same_parts(query: &Query, old: &Record, new: &Record) -> bool
+    ensures { result ≡ same_lines (listing_model.part query.now old.now) (listing_model.part query.now new.now) }
+{
+    match query.kind {
+        Kind::Resource => same_links(query, old, new),
+        Kind::Endpoint => same_listed_endpoint(query, old, new),
+        Kind::Discovery => true,
+    }
+}
+
+/// Whether the registration gives no line.
+#[tactic(auto, unfolding(record_model::specs::ListingLines::part))]
+fn gives_none(query: &Query, record_of: &Record) -> bool
+    ensures { result ≡ same_lines (listing_model.part query.now record_of.now) [] }
+{
+    match query.kind {
+        Kind::Resource => first_listed(query, record_of, record_of.items.as_slice()).is_none(),
+        Kind::Endpoint => !endpoint_listed(query, record_of),
+        Kind::Discovery => true,
+    }
+}
+
+/// Whether both give the same lines, in the same order, to a lookup of this kind; where there is no registration, there
+/// is no line (RFC 9176 section 6). Takes no memory.
+#[tactic(auto, using(crate::proofs::SamePartLaws::same_lines_answered))]
+pub fn same_part(query: &Query, old: Option<&Record>, new: Option<&Record>) -> bool
+    ensures { IsTrue result ↔ (part_or_none query.now (option_copied old.entry) ≡ part_or_none query.now (option_copied new.entry)) }
+{
+    match (old, new) {
+        (Some(before), Some(after)) => same_parts(query, before, after),
+        (Some(before), None) => gives_none(query, before),
+        (None, Some(after)) => gives_none(query, after),
+        (None, None) => true,
+    }
+}

@@ -1,0 +1,83 @@
+-- What a text is against a base, and what a base is.
+use Rattle.std.proofs.Common.{◌≡◌, ℕ, true, false, List, Option, Some, None, is_some, option_map, refl, ap, ◌∙◌, inl, inr}
+use Rattle.rd_base.specs.declared.attributes.Pair.{Pair}
+use Rattle.rd_base.specs.declared.records.Item.{Item}
+use Rattle.record_model.specs.Bodies.{is_reference, is_uri}
+use Rattle.reference_model.specs.References.{Components, IsReference, reference, has_scheme}
+use Rattle.reference_model.specs.Resolution.{resolved}
+use Rattle.record_model.specs.Parameters.{is_base, is_base_of}
+use Rattle.record_model.specs.Records.{based, rebased}
+use Rattle.ref_resolve.specs.declared.splitting.Parts.{Parts}
+use Rattle.ref_resolve.specs.Seen.{components_of}
+use Rattle.registration.specs.Drafts.{IsBasis, has_references}
+use Rattle.registration.specs.OtherBases.{IsBased, AreBased, IsRebased}
+use Rattle.registration.proofs.PeerBases.{is_base-base_of}
+use Rattle.reference_model.proofs.ReferenceLaws.{reference_found}
+use Rattle.reference_model.proofs.ReferenceReading.{reference_only}
+
+-- a text with these components is a reference, with a scheme where they have one
+pub reads : (text : List ℕ) (c : Components) → IsReference text c → is_reference text ≡ true
+reads text c h = ap is_some (reference_only text c h)
+
+pub reads_uri : (text : List ℕ) (c : Components) → IsReference text c → is_uri text ≡ has_scheme c
+unfolding is_uri
+reads_uri text c h = rw (reference_only text c h) refl
+
+-- a text without components is none
+pub reads_not : (text : List ℕ) → ((c : Components) → IsReference text c → ⊥) → is_reference text ≡ false
+reads_not text none = by_read (reference text) refl
+  where
+    by_read : (o : Option Components) → reference text ≡ o → is_some o ≡ false
+    by_read None e = refl
+    by_read (Some c) e = absurd (none c (reference_found text c e))
+
+-- against a base it stays, where it has a scheme, and else is resolved
+pub stays : (base text : List ℕ) → is_uri text ≡ true → based base text ≡ text
+unfolding based
+stays base text e = rw e refl
+
+pub is_resolved : (base text : List ℕ) → is_uri text ≡ false → based base text ≡ resolved base text
+unfolding based
+is_resolved base text e = rw e refl
+
+-- a base is a reference
+pub base_reads : (text : List ℕ) → is_base text ≡ true → ((c : Components) → IsReference text c → ⊥) → ⊥
+unfolding is_base
+base_reads text h none = by_read (reference text) refl h
+  where
+    by_read : (o : Option Components) → reference text ≡ o → is_base_of o ≡ true → ⊥
+    by_read None e h = cc
+    by_read (Some c) e h = none c (reference_found text c e)
+
+-- what references are resolved against is a base
+pub basis_is_base : (base : List ℕ) → IsBasis base → is_base base ≡ true
+basis_is_base base (inl given) = given
+basis_is_base base (inr of_peer) = ap is_base of_peer.1.1 ∙ is_base-base_of of_peer.0 of_peer.1.0
+
+-- ---- links against another base
+
+-- a link by its parts
+pub same_item : (item : Item) (target_ref : List ℕ) (anchor_ref : Option (List ℕ)) (target : List ℕ) (anchor : Option (List ℕ)) (raw : List ℕ) (pairs : List Pair)
+    → item.target_ref ≡ target_ref → item.anchor_ref ≡ anchor_ref → item.target ≡ target → item.anchor ≡ anchor → item.raw ≡ raw → item.pairs ≡ pairs
+    → item ≡ record { target_ref = target_ref; anchor_ref = anchor_ref; target = target; anchor = anchor; raw = raw; pairs = pairs }
+same_item item target_ref anchor_ref target anchor raw pairs e1 e2 e3 e4 e5 e6 = rw (← e1, ← e2, ← e3, ← e4, ← e5, ← e6) refl
+
+-- an anchor against a base
+based_anchor : (base : Parts) (text new : Option (List ℕ)) → AreBased base text new → (spelled : List ℕ) → IsReference spelled (components_of base) → new ≡ option_map (based spelled) text
+based_anchor base None None h spelled s = refl
+based_anchor base None (Some new) h spelled s = absurd h
+based_anchor base (Some text) None h spelled s = absurd h
+based_anchor base (Some text) (Some new) h spelled s = ap (λ (t : List ℕ). Some t) (h spelled s)
+
+-- a link whose parts are the old ones, or based
+pub is_rebased : (base : Parts) (item new : Item) → new.target_ref ≡ item.target_ref → new.anchor_ref ≡ item.anchor_ref → new.raw ≡ item.raw → new.pairs ≡ item.pairs
+    → IsBased base item.target_ref new.target → AreBased base item.anchor_ref new.anchor → IsRebased base item new
+unfolding rebased
+is_rebased base item new target_ref anchor_ref raw pairs target anchor spelled s =
+    same_item new item.target_ref item.anchor_ref (based spelled item.target_ref) (option_map (based spelled) item.anchor_ref) item.raw item.pairs
+    target_ref anchor_ref (target spelled s) (based_anchor base item.anchor_ref new.anchor anchor spelled s) raw pairs
+
+-- another base leaves the references
+pub keeps_references : (spelled : List ℕ) (item new : Item) → new ≡ rebased spelled item → has_references item ≡ true → has_references new ≡ true
+unfolding rebased
+keeps_references spelled item new e h = rw e h

@@ -1,6 +1,0 @@
-use Rattle.link_format.specs.Left.{parameters_in}
-use Rattle.registration.specs.Gathering.{IsGathered}
-use Rattle.registration.proofs.gathering.gather.Given as goal
-
-abbrev pub invariant-parameters : goal.invariant-parameters
-invariant-parameters l = IsGathered l.fn.start (parameters_in l.fn.link.params.now) l.left l.gathered

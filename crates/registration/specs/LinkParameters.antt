@@ -1,0 +1,28 @@
+-- What is gathered of a link's parameters, where some of them are left (RFC 6690 sections 2 and 3).
+use Rattle.std.specs.Prelude.{◌≡◌, ℕ, ◌+◌, List, [], ◌∷◌, ◌++◌, length, map, filter, not, Option, Some, None}
+use Rattle.record_model.specs.BodyFaults.{TextAtOffset, shifted, anchor_offset}
+use Rattle.link_model.specs.Documents.{Parameter, parameters_text}
+use Rattle.link_model.specs.Quoting.{is_anchor, pair_of}
+use Rattle.registration.specs.declared.link_parameters.Anchor.{Anchor}
+use Rattle.registration.specs.declared.link_parameters.Gathered.{Gathered}
+
+-- the parameters that are no anchors
+abbrev pub without_anchors : List Parameter → List Parameter
+without_anchors parameters = filter (λ p. not (is_anchor p)) parameters
+
+-- an anchor with its offset, where there is one
+abbrev pub anchor_at_offset : Option Anchor → List TextAtOffset
+anchor_at_offset None = []
+anchor_at_offset (Some anchor) = (anchor.offset, anchor.text) ∷ []
+
+-- the anchor that is known, and else the first of those that are left, which begin at this octet
+abbrev pub anchor_from : Option Anchor → ℕ → List Parameter → List TextAtOffset
+anchor_from (Some anchor) start rest = anchor_at_offset (Some anchor)
+anchor_from None start rest = shifted start (anchor_offset rest)
+
+-- this is what all parameters say but for those that are left, where the first of all begins at `start`
+pub record IsGathered (start : ℕ) (all rest : List Parameter) (g : Gathered) : Type 0 where
+  pub anchor : anchor_from g.anchor g.end rest ≡ shifted start (anchor_offset all)
+  pub raw : g.raw ++ parameters_text (without_anchors rest) ≡ parameters_text (without_anchors all)
+  pub pairs : g.pairs.items ++ map pair_of (without_anchors rest) ≡ map pair_of (without_anchors all)
+  pub end : g.end + length (parameters_text rest) ≡ start + length (parameters_text all)

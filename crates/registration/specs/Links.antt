@@ -1,0 +1,98 @@
+-- Links read one after another: the first fault of those that are left, and what is read.
+use Rattle.std.specs.Prelude.{◌≡◌, ⊤, ℕ, ◌+◌, Bool, true, false, not, ◌||◌, List, length, map, find, sum_by, Option, Some, None, option_map, Result, Ok, Err, if◌then◌else◌}
+use Rattle.std.specs.List.{list_all}
+use Rattle.rd_base.specs.declared.records.Item.{Item}
+use Rattle.ref_resolve.specs.declared.splitting.Parts.{Parts}
+use Rattle.ref_resolve.specs.Seen.{components_of}
+use Rattle.record_model.specs.Bodies.{is_reference, is_limited, linked_references}
+use Rattle.record_model.specs.BodyFaults.{BodyFault, no_reference, not_limited, TextAtOffset, link_references, first_no_reference, reference_or_limited, body_fault}
+use Rattle.link_model.specs.Documents.{Link, link_text}
+use Rattle.record_model.specs.Faults.{or_else}
+use Rattle.link_model.specs.Quoting.{submitted_link}
+use Rattle.record_model.specs.Records.{item_of, items_of}
+use Rattle.reference_model.specs.References.{IsReference}
+use Rattle.record_model.specs.Refusals.{first_unlimited}
+use Rattle.registration.specs.Drafts.{has_references, IsFaultOf}
+use Rattle.registration.specs.References.{IsReferred}
+use Rattle.registration.specs.declared.drafts.DraftFault.{DraftFault}
+use Rattle.registration.specs.declared.drafts.DraftFault.TheVariants as fault
+use Rattle.registration.specs.declared.link_parameters.Anchor.{Anchor}
+use Rattle.registration.specs.declared.links.Read.{Read}
+use Rattle.registration.specs.declared.references.Referred.{Referred}
+
+-- what links take in a document, each with one octet more for a comma
+abbrev pub room_of : List Link → ℕ
+room_of links = sum_by (λ l. length (link_text l) + 1) links
+
+-- the octet where the first of these begins that is no reference
+abbrev pub first_bad : List TextAtOffset → Option ℕ
+first_bad references = option_map (λ r. r.0) (find (λ r. not (is_reference r.1)) references)
+
+-- what an anchor is against a base; a fault has its offset
+abbrev pub AnchorReads : Parts → Option Anchor → Result (Option Referred) DraftFault → Type 0
+AnchorReads base None (Ok None) = ⊤
+AnchorReads base (Some anchor) (Ok (Some r)) = IsReferred base anchor.text r
+AnchorReads base (Some anchor) (Err (fault.Reference offset)) = (offset ≡ anchor.offset) × (is_reference anchor.text ≡ false)
+AnchorReads base anchor (Err fault.Starved) = ⊤
+AnchorReads base anchor _ = ⊥
+
+-- a link that begins at an octet is read, and has no fault of its references
+pub record IsRead (base : Parts) (start : ℕ) (l : Link) (read : Read) : Type 0 where
+  pub good : first_bad (link_references l) ≡ None
+  pub item : (spelled : List ℕ) → IsReference spelled (components_of base) → read.item ≡ item_of spelled (submitted_link l)
+  pub references : has_references read.item ≡ true
+  pub limited : read.is_limited ≡ is_limited (submitted_link l)
+  pub end : read.end ≡ start + length (link_text l)
+
+-- what is read of a link; a fault has the offset of the first reference that is none
+abbrev pub LinkReads : Parts → ℕ → Link → Result Read DraftFault → Type 0
+LinkReads base start l (Ok read) = IsRead base start l read
+LinkReads base start l (Err (fault.Reference offset)) = option_map (λ at. start + at) (first_bad (link_references l)) ≡ Some offset
+LinkReads base start l (Err fault.Starved) = ⊤
+LinkReads base start l (Err _) = ⊥
+
+-- the fault of links of which some are left: of the references left, which begin at an octet, and else the first unlimited link
+abbrev pub fault_with : ℕ → ℕ → Option ℕ → Option ℕ → Option ℕ → Option BodyFault
+fault_with start index unlimited (Some offset) later = Some (no_reference (start + offset))
+fault_with start index unlimited None later = option_map not_limited (or_else unlimited (option_map (λ n. index + n) later))
+
+unfoldable pub fault_from : ℕ → ℕ → Option ℕ → List Link → Option BodyFault
+fault_from start index unlimited links = fault_with start index unlimited (first_no_reference links) (first_unlimited (map submitted_link links))
+
+-- the index of the first link that is not limited, where one link more is read
+abbrev pub noted : ℕ → Bool → Option ℕ → Option ℕ
+noted index limited unlimited = or_else unlimited (if limited then None else Some index)
+
+-- a link is limited: its target has a scheme, or its anchor has none
+abbrev pub is_limited_as_referred : Bool → Option Referred → Bool
+is_limited_as_referred has_scheme None = true
+is_limited_as_referred has_scheme (Some r) = has_scheme || not r.has_scheme
+
+-- a fault of links
+abbrev pub IsLinksFault : List Link → DraftFault → Type 0
+IsLinksFault links (fault.Reference offset) = reference_or_limited (first_no_reference links) links ≡ Some (no_reference offset)
+IsLinksFault links (fault.Limited link) = reference_or_limited (first_no_reference links) links ≡ Some (not_limited link)
+IsLinksFault links fault.Starved = ⊤
+IsLinksFault links (fault.Links offset) = ⊥
+
+-- all links are read, and none has a fault
+pub record AreRead (base : Parts) (links : List Link) (read : List Item) : Type 0 where
+  pub good : reference_or_limited (first_no_reference links) links ≡ None
+  pub items : (spelled : List ℕ) → IsReference spelled (components_of base) → read ≡ items_of spelled (map submitted_link links)
+  pub references : list_all has_references read ≡ true
+
+-- a body is read, and has no fault
+pub record IsBody (base body : List ℕ) (read : List Item) : Type 0 where
+  pub good : body_fault body ≡ None
+  pub items : option_map (items_of base) (linked_references body) ≡ Some read
+  pub references : list_all has_references read ≡ true
+
+-- what is read of a body, or its fault
+abbrev pub BodyReads : List ℕ → List ℕ → Result (List Item) DraftFault → Type 0
+BodyReads base body (Ok items) = IsBody base body items
+BodyReads base body (Err fault) = IsFaultOf body fault
+
+-- what is read of links, or their first fault
+abbrev pub Reads : Parts → List Link → Result (List Item) DraftFault → Type 0
+Reads base links (Ok items) = AreRead base links items
+Reads base links (Err fault) = IsLinksFault links fault

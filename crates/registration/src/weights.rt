@@ -1,0 +1,144 @@
+//! What a draft weighs: the octets of the lines that it gives, each with one more for a comma.
+ghost use Rattle.std.specs.Prelude.{◌≡◌, ◌+◌, ◌<◌, length, flat_map, sum_by, decimal};
+ghost use Rattle.rd_base.specs.declared.moments.Moment.{Moment};
+ghost use Rattle.record_model.specs.ListingLines as listing_model;
+ghost use Rattle.record_model.specs.Matching as matching;
+ghost use Rattle.link_model.specs.Quoting.{escaped_character, quoted};
+ghost use Rattle.registration.specs.Drafts.{recorded};
+ghost use Rattle.registration.specs.Weights.{capped};
+
+use crate::drafts::Draft;
+use itoa::write_digits;
+use rd_base::{Item, Pair, Text};
+
+/// The digits that a number of 64 bits has at most.
+const DIGITS: usize = 20;
+
+/// As many octets more, up to the greatest number of 64 bits.
+fn add(weight: u64, octets: usize) -> u64
+    ensures { result ≡ capped (weight + octets) }
+{
+    weight.saturating_add(octets as u64)
+}
+
+/// How many octets an octet takes in a quoted text: two where a backslash stands before it.
+fn quoted_size(octet: u8) -> usize
+    ensures { result ≡ length (escaped_character octet) }
+{
+    if octet == b'"' || octet == b'\\' {
+        2
+    } else {
+        1
+    }
+}
+
+/// With a text in quotes, a backslash before each quote and each backslash in it.
+fn add_quoted(weight: u64, text: &str) -> u64
+    ensures { result ≡ capped (weight + length (quoted text.now)) }
+{
+    let mut sum = add(weight, 2);
+    'octets: for octet in text.as_bytes() {
+        sum = add(sum, quoted_size(*octet));
+    }
+    sum
+}
+
+/// With a name of so many octets and a value in quotes: a semicolon stands before the name and an equals sign after it.
+fn add_attribute(weight: u64, name: &str, value: &str) -> u64
+    ensures { result ≡ capped (weight + length (listing_model.quoted_attribute (record { name = name.now; value = value.now }))) }
+{
+    add_quoted(add(weight, 2 + name.len()), value)
+}
+
+/// With an extra attribute: its name alone where its value is empty.
+fn add_extra(weight: u64, pair: &Pair) -> u64
+    ensures { result ≡ capped (weight + length (listing_model.extra_attribute pair.now)) }
+{
+    if pair.value.is_empty() {
+        return add(weight, 1 + pair.name.len());
+    }
+    add_attribute(weight, pair.name.as_str(), pair.value.as_str())
+}
+
+/// With extra attributes.
+fn add_extras(weight: u64, pairs: &[Pair]) -> u64
+    ensures { result ≡ capped (weight + length (flat_map listing_model.extra_attribute pairs.now)) }
+{
+    let mut sum = weight;
+    'pairs: for pair in pairs {
+        sum = add_extra(sum, pair);
+    }
+    sum
+}
+
+/// With the sector of an endpoint, where it has one.
+fn add_sector(weight: u64, sector: &Option<Text>) -> u64
+    ensures { result ≡ capped (weight + length (flat_map listing_model.quoted_attribute (matching.sector_pairs sector.now))) }
+{
+    match sector {
+        None => weight,
+        Some(sector) => add_attribute(weight, "d", sector.as_str()),
+    }
+}
+
+/// How many digits a number has.
+fn digits(number: u64) -> usize
+    ensures value { result ≡ length (decimal number) }
+    ensures small { result < 21 }
+{
+    let mut room = [0; DIGITS];
+    DIGITS - write_digits(number, &mut room, DIGITS)
+}
+
+/// With the line of an endpoint.
+fn add_endpoint(weight: u64, draft: &Draft, number: u64) -> u64
+    ensures { (now : Moment) → result ≡ capped (weight + length (listing_model.endpoint_line (recorded number now draft.now))) }
+{
+    let sum = add(weight, "</rd/>".len() + digits(number));
+    let sum = add_attribute(sum, "base", draft.base.as_str());
+    let sum = add_attribute(sum, "ep", draft.name.ep.as_str());
+    let sum = add_sector(sum, &draft.name.sector);
+    let sum = add_attribute(sum, "rt", "core.rd-ep");
+    add_extras(sum, draft.attrs.as_slice())
+}
+
+/// With the anchor of a link, where it has one.
+fn add_anchor(weight: u64, anchor: &Option<Text>) -> u64
+    ensures { result ≡ capped (weight + length (listing_model.anchor_text anchor.now)) }
+{
+    match anchor {
+        None => weight,
+        Some(anchor) => add_attribute(weight, "anchor", anchor.as_str()),
+    }
+}
+
+/// With the line of a link.
+fn add_link(weight: u64, item: &Item) -> u64
+    ensures { result ≡ capped (weight + length (listing_model.link_line item.now)) }
+{
+    let sum = add(weight, 2);
+    let sum = add(sum, item.target.len());
+    let sum = add(sum, item.raw.len());
+    add_anchor(sum, &item.anchor)
+}
+
+/// With the lines of links, each with one octet more.
+fn add_links(weight: u64, items: &[Item]) -> u64
+    ensures { result ≡ capped (weight + sum_by (λ item. length (listing_model.link_line item) + 1) items.now) }
+{
+    let mut sum = weight;
+    'items: for item in items {
+        sum = add(add_link(sum, item), 1);
+    }
+    sum
+}
+
+/// What a draft weighs under a number, in octets: its endpoint line and each of its link lines, each with one octet more
+/// (RFC 9176 sections 6.3 and 6.4). No listing is longer than what its registrations weigh. It is the greatest number of
+/// 64 bits where it would be more. Takes no memory.
+pub fn weight(draft: &Draft, number: u64) -> u64
+    ensures { (now : Moment) → result ≡ capped (listing_model.weight (recorded number now draft.now)) }
+{
+    let sum = add(add_endpoint(0, draft, number), 1);
+    add_links(sum, draft.items.as_slice())
+}
