@@ -1,6 +1,6 @@
 -- What an example unfolds, so that looking back computes on events that are written out.
 use Rattle.std.specs.Prelude.{⊤}
-use Rattle.history_model.proofs.OnLiterals.{history_on_literals}
+use Rattle.history_model.proofs.HistoryLiterals.{history_on_literals}
 use Rattle.event_model.specs.Events.{events_since, last_said}
 use Rattle.event_model.specs.Repeats.{admissions, kept, repeated, settled}
 use Rattle.event_model.specs.Uploads.{upload, live_upload, uploads, live_uploads}

@@ -6,7 +6,7 @@ ghost use Rattle.link_model.specs.Characters.{left_bracket};
 ghost use Rattle.record_model.specs.Parameters as parameters;
 ghost use Rattle.reference_model.specs.References as references;
 ghost use Rattle.record_model.specs.declared.readings.Why.TheVariants as why;
-ghost use Rattle.ref_resolve.specs.Seen.{components_of};
+ghost use Rattle.ref_resolve.specs.ComponentsOfParts.{components_of};
 ghost use Rattle.query_text.specs.Bases.{begins_link_local, base_fault};
 
 use crate::Why;

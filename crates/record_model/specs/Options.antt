@@ -4,7 +4,7 @@ use Rattle.std.specs.List.{list_any, list_all}
 use Rattle.std.specs.Char.{is_ascii_digit}
 use Rattle.std.specs.Str.Parse.{digits_value}
 use Rattle.link_model.specs.Characters.{equals_sign, is_empty}
-use Rattle.reference_model.specs.References.{before, behind}
+use Rattle.reference_model.specs.References.{before, after}
 
 -- the name of an option: what stands before its first equals sign, or all of it
 abbrev pub option_name : List ℕ → List ℕ
@@ -12,7 +12,7 @@ option_name query = before equals_sign query
 
 -- the value of an option: what stands after its first equals sign, or nothing
 abbrev pub option_value : List ℕ → List ℕ
-option_value query = unwrap_or (behind equals_sign query) []
+option_value query = unwrap_or (after equals_sign query) []
 
 -- the option has this name
 abbrev pub is_named : List ℕ → List ℕ → Bool

@@ -8,8 +8,8 @@ use Rattle.link_model.specs.Documents.{Link, parameters_text}
 use Rattle.link_model.specs.Quoting.{anchor, attributes, pair_of, submitted_link}
 use Rattle.record_model.specs.Records.{based, item_of}
 use Rattle.reference_model.specs.References.{IsReference, where_present}
-use Rattle.ref_resolve.specs.declared.splitting.Parts.{Parts}
-use Rattle.ref_resolve.specs.Seen.{components_of}
+use Rattle.ref_resolve.specs.declared.components.Parts.{Parts}
+use Rattle.ref_resolve.specs.ComponentsOfParts.{components_of}
 use Rattle.registration.specs.LinkParameters.{anchor_at_offset, anchor_from, IsGathered}
 use Rattle.registration.specs.Links.{AnchorReads, LinkReads, IsRead, first_bad, is_limited_as_referred}
 use Rattle.registration.specs.References.{IsReferred}

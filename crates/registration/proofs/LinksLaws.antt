@@ -19,8 +19,8 @@ use Rattle.reference_model.specs.References.{IsReference}
 use Rattle.record_model.specs.Refusals.{is_refused_as_links}
 use Rattle.record_model.proofs.BodyLaws.{body_fault-links}
 use Rattle.link_model.proofs.DocumentLaws.{document_found}
-use Rattle.ref_resolve.specs.declared.splitting.Parts.{Parts}
-use Rattle.ref_resolve.specs.Seen.{components_of}
+use Rattle.ref_resolve.specs.declared.components.Parts.{Parts}
+use Rattle.ref_resolve.specs.ComponentsOfParts.{components_of}
 use Rattle.registration.specs.Drafts.{drafted, has_references, recorded}
 use Rattle.registration.specs.Links.{LinkReads, Reads, IsLinksFault, BodyReads, fault_from, room_of}
 use Rattle.registration.specs.declared.drafts.Draft.{Draft}

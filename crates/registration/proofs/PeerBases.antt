@@ -10,9 +10,9 @@ use Rattle.rd_base.specs.declared.peers.Peer.{Peer}
 use Rattle.rd_base.specs.Peers.{IsHost}
 use Rattle.rd_base.specs.Bases.{coap_port, host_text, port_text, base_of}
 use Rattle.link_model.specs.Characters.{colon, at_sign, left_bracket, right_bracket, is_empty, is_name_character, is_literal_character}
-use Rattle.reference_model.specs.References.{Components, before, behind, from_first, through, has_octet, begins_with, host_in, host_of, recomposed, is_port_text, is_literal_and_port, is_name_and_port, is_host_and_port, is_authority}
+use Rattle.reference_model.specs.References.{Components, before, after, from_first, through, has_octet, begins_with, host_in, host_of, recomposed, is_port_text, is_literal_and_port, is_name_and_port, is_host_and_port, is_authority}
 use Rattle.record_model.specs.Parameters.{is_base}
-use Rattle.reference_model.proofs.ReferenceCuts.{behind_none, before-marked, behind-marked, has_octet-append}
+use Rattle.reference_model.proofs.ReferenceCuts.{after_none, before-marked, after-marked, has_octet-append}
 use Rattle.reference_model.proofs.ReferenceMarks.{no_mark_in_run}
 use Rattle.reference_model.proofs.ReferenceReading.{before-append, from_first-append, reference_only}
 use Rattle.registration.proofs.Addresses.{Passes, Filled, text_of_run, decimal_passes, ipv4_passes, ipv4_filled, ipv6_passes, ipv6_filled}
@@ -34,7 +34,7 @@ coap_is_base : (authority : List ℕ) → IsHostAndPort authority → is_base (c
 unfolding coap recomposed host_of is_base
 coap_is_base authority h =
     let no_at = no_at_in_host authority h.allowed in
-    let nothing = behind_none at_sign authority no_at in
+    let nothing = after_none at_sign authority no_at in
     let allowed : is_authority authority ≡ true = rw (no_at, nothing) h.allowed in
     let spelled : codes "coap://" ++ authority ≡ recomposed (coap authority) = ap (λ (t : List ℕ). codes "coap://" ++ t) (sym (append-nil authority)) in
     let read = reference_only (codes "coap://" ++ authority) (coap authority) (record { spelled = spelled; allowed = rw allowed refl }) in
@@ -81,7 +81,7 @@ literal_and_port literal port some run is_port =
     let no_bracket = no_mark_in_run is_literal_character right_bracket refl literal run.all in
     let flat : (literal ++ codes "]") ++ port ≡ literal ++ right_bracket ∷ port = append_assoc literal (codes "]") port in
     let front : before right_bracket (literal ++ right_bracket ∷ port) ≡ literal = before-marked right_bracket literal (Some port) no_bracket in
-    let back : behind right_bracket (literal ++ right_bracket ∷ port) ≡ Some port = behind-marked right_bracket literal (Some port) no_bracket in
+    let back : after right_bracket (literal ++ right_bracket ∷ port) ≡ Some port = after-marked right_bracket literal (Some port) no_bracket in
     let closed : has_octet right_bracket (literal ++ right_bracket ∷ port) ≡ true = has_octet-append right_bracket literal (right_bracket ∷ port) ∙ rw no_bracket refl in
     let allowed : is_literal_and_port ((codes "[" ++ (literal ++ codes "]")) ++ port) ≡ true = rw (flat, front, back, closed, some.some, run.all, is_port.allowed) refl in
     record { allowed = rw allowed refl; has_host = refl }

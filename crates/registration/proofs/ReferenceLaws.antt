@@ -7,8 +7,8 @@ use Rattle.reference_model.specs.References.{Components, IsReference, reference,
 use Rattle.reference_model.specs.Resolution.{resolved}
 use Rattle.record_model.specs.Parameters.{is_base, is_base_of}
 use Rattle.record_model.specs.Records.{based, rebased}
-use Rattle.ref_resolve.specs.declared.splitting.Parts.{Parts}
-use Rattle.ref_resolve.specs.Seen.{components_of}
+use Rattle.ref_resolve.specs.declared.components.Parts.{Parts}
+use Rattle.ref_resolve.specs.ComponentsOfParts.{components_of}
 use Rattle.registration.specs.Drafts.{IsBasis, has_references}
 use Rattle.registration.specs.OtherBases.{IsBased, AreBased, IsRebased}
 use Rattle.registration.proofs.PeerBases.{is_base-base_of}

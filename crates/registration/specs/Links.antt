@@ -2,8 +2,8 @@
 use Rattle.std.specs.Prelude.{◌≡◌, ⊤, ℕ, ◌+◌, Bool, true, false, not, ◌||◌, List, length, map, find, sum_by, Option, Some, None, option_map, Result, Ok, Err, if◌then◌else◌}
 use Rattle.std.specs.List.{list_all}
 use Rattle.rd_base.specs.declared.records.Item.{Item}
-use Rattle.ref_resolve.specs.declared.splitting.Parts.{Parts}
-use Rattle.ref_resolve.specs.Seen.{components_of}
+use Rattle.ref_resolve.specs.declared.components.Parts.{Parts}
+use Rattle.ref_resolve.specs.ComponentsOfParts.{components_of}
 use Rattle.record_model.specs.Bodies.{is_reference, is_limited, linked_references}
 use Rattle.record_model.specs.BodyFaults.{BodyFault, no_reference, not_limited, TextAtOffset, link_references, first_no_reference, reference_or_limited, body_fault}
 use Rattle.link_model.specs.Documents.{Link, link_text}

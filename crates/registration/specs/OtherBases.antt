@@ -1,8 +1,8 @@
 -- Links against another base, whatever text spells it.
 use Rattle.std.specs.Prelude.{◌≡◌, ⊤, ℕ, List, Option, Some, None}
 use Rattle.rd_base.specs.declared.records.Item.{Item}
-use Rattle.ref_resolve.specs.declared.splitting.Parts.{Parts}
-use Rattle.ref_resolve.specs.Seen.{components_of}
+use Rattle.ref_resolve.specs.declared.components.Parts.{Parts}
+use Rattle.ref_resolve.specs.ComponentsOfParts.{components_of}
 use Rattle.record_model.specs.Records.{based, rebased}
 use Rattle.reference_model.specs.References.{IsReference}
 

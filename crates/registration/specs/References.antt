@@ -1,8 +1,8 @@
 -- A reference against a base, as an answer (RFC 3986 section 5.2).
 use Rattle.std.specs.Prelude.{◌≡◌, ⊤, ℕ, true, false, List, Option, Some, None, Result, Ok, Err}
 use Rattle.rd_base.specs.declared.out_of_memory.Starved.{Starved}
-use Rattle.ref_resolve.specs.declared.splitting.Parts.{Parts}
-use Rattle.ref_resolve.specs.Seen.{components_of}
+use Rattle.ref_resolve.specs.declared.components.Parts.{Parts}
+use Rattle.ref_resolve.specs.ComponentsOfParts.{components_of}
 use Rattle.record_model.specs.Bodies.{is_reference, is_uri}
 use Rattle.record_model.specs.Records.{based}
 use Rattle.reference_model.specs.References.{IsReference}

@@ -3,7 +3,7 @@ ghost use Rattle.std.specs.Prelude.{◌≡◌, ◌<◌, ◌+◌, ◌^◌, ◌∷
 ghost use Rattle.record_model.specs.BodyFaults as faults;
 ghost use Rattle.link_model.specs.Documents.{Parameter, parameter_text, parameters_text};
 ghost use Rattle.link_model.specs.Quoting as quoting;
-ghost use Rattle.link_format.specs.Left.{parameters_in};
+ghost use Rattle.link_format.specs.LinksOfText.{parameters_in};
 ghost use Rattle.link_format.specs.Views.{parameter_seen};
 ghost use Rattle.registration.specs.LinkParameters.{IsGathered};
 

@@ -11,7 +11,7 @@ use Rattle.message_model.specs.OptionTable as table
 use Rattle.message_model.specs.Spelling.{spelling}
 use Rattle.message_model.proofs.Notation.{hex}
 use Rattle.message_model.proofs.OnLiterals.{messages_on_literals}
-use Rattle.history_model.proofs.OnLiterals.{history_on_literals}
+use Rattle.history_model.proofs.HistoryLiterals.{history_on_literals}
 use Rattle.event_model.specs.declared.notes.Note.{Note}
 use Rattle.event_model.specs.declared.notes.Note.TheVariants as note
 use Rattle.event_model.specs.declared.notes.Observer.{Observer}

@@ -2,7 +2,7 @@
 use Rattle.std.proofs.Common.{rules}
 use Rattle.std.proofs.lemmas.Str.Pattern.{strip_prefix_char}
 use Rattle.link_model.specs.Characters.{left_bracket}
-use Rattle.ref_resolve.proofs.Cutting.{stripped}
+use Rattle.ref_resolve.proofs.CutLaws.{stripped}
 use Rattle.query_text.proofs.bases.after_bracket.Goals as goal
 
 pub returns : goal.returns

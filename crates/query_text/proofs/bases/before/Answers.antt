@@ -1,8 +1,9 @@
 -- What stands before the first mark, from what `split_once` finds.
 use Rattle.std.proofs.Common.{Some, None, sym}
 use Rattle.std.proofs.lemmas.Str.Pattern.{split_parts}
-use Rattle.ref_resolve.proofs.Cutting.{octet_nowhere, before_nowhere, before_parts}
+use Rattle.ref_resolve.proofs.CutLaws.{octet_nowhere, before_parts}
 use Rattle.query_text.proofs.bases.before.Goals as goal
+use Rattle.reference_model.proofs.ReferenceCuts.{before_alone}
 
 pub returns-in-Some : goal.returns-in-Some
 returns-in-Some c =
@@ -12,4 +13,4 @@ returns-in-Some c =
 pub returns-in-None : goal.returns-in-None
 returns-in-None c =
     let nowhere = split_parts c.args.mark c.args.text.now None c.in-None.ensures.cases c.requires in
-    sym (before_nowhere c.args.mark c.args.text.now (octet_nowhere c.args.mark c.args.text.now nowhere))
+    sym (before_alone c.args.mark c.args.text.now (octet_nowhere c.args.mark c.args.text.now nowhere))

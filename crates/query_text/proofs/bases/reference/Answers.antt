@@ -1,7 +1,7 @@
 -- What `parts` reads.
 use Rattle.std.proofs.Common.{sym}
 use Rattle.reference_model.proofs.ReferenceReading.{reference_only}
-use Rattle.ref_resolve.specs.Seen.{components_of}
+use Rattle.ref_resolve.specs.ComponentsOfParts.{components_of}
 use Rattle.query_text.proofs.BaseLaws.{no_reference}
 use Rattle.query_text.proofs.bases.reference.Goals as goal
 

@@ -14,4 +14,4 @@ pub returns-in-Ok-check : goal.returns-in-Ok-check
 returns-in-Ok-check c = body_reads c.in-Ok.base c.args.base.now c.args.body.now c.in-Ok-check.links c.read_links.result c.in-Ok-check.ensures.ok c.in-Ok.ensures.found c.read_links.ensures
 
 pub returns-in-Err : goal.returns-in-Err
-returns-in-Err c = fault_of_no_document c.args.body.now c.in-Err.ensures.refused ∙ ap (λ (n : ℕ). Some (no_document n)) (sym c.in-Err.ensures.place)
+returns-in-Err c = fault_of_no_document c.args.body.now c.in-Err.ensures.refused ∙ ap (λ (n : ℕ). Some (no_document n)) (sym c.in-Err.ensures.offset)

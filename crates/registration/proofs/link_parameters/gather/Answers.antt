@@ -1,6 +1,6 @@
 use Rattle.std.proofs.Common.{List, subst}
 use Rattle.link_model.specs.Documents.{Parameter}
-use Rattle.link_format.specs.Left.{parameters_in}
+use Rattle.link_format.specs.LinksOfText.{parameters_in}
 use Rattle.link_format.specs.Views.{parameter_seen}
 use Rattle.registration.specs.LinkParameters.{IsGathered}
 use Rattle.registration.proofs.LinkParameterLaws.{fits_here}

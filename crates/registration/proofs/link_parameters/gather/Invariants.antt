@@ -1,4 +1,4 @@
-use Rattle.link_format.specs.Left.{parameters_in}
+use Rattle.link_format.specs.LinksOfText.{parameters_in}
 use Rattle.registration.specs.LinkParameters.{IsGathered}
 use Rattle.registration.proofs.link_parameters.gather.Given as goal
 

@@ -3,7 +3,7 @@ use Rattle.std.specs.List.{list_all}
 use Rattle.link_model.specs.Quoting.{submitted_link}
 use Rattle.record_model.specs.Records.{items_of}
 use Rattle.reference_model.specs.References.{IsReference}
-use Rattle.ref_resolve.specs.Seen.{components_of}
+use Rattle.ref_resolve.specs.ComponentsOfParts.{components_of}
 use Rattle.registration.specs.Drafts.{has_references}
 use Rattle.registration.specs.Links.{fault_from, room_of}
 use Rattle.registration.proofs.links.read_links.Given as goal

@@ -2,7 +2,7 @@ use Rattle.std.proofs.Common.{◌≡◌, true, ◌++◌, ℕ, List, length, map}
 use Rattle.std.specs.List.{list_all}
 use Rattle.record_model.specs.Records.{rebased}
 use Rattle.reference_model.specs.References.{IsReference}
-use Rattle.ref_resolve.specs.Seen.{components_of}
+use Rattle.ref_resolve.specs.ComponentsOfParts.{components_of}
 use Rattle.registration.specs.Drafts.{has_references}
 use Rattle.registration.proofs.other_bases.rebased.Given as goal
 

@@ -1,6 +1,6 @@
 use Rattle.std.proofs.Common.{◌≡◌, true, false, sym, ◌∙◌}
 use Rattle.record_model.specs.Bodies.{is_uri}
-use Rattle.ref_resolve.specs.Seen.{components_of}
+use Rattle.ref_resolve.specs.ComponentsOfParts.{components_of}
 use Rattle.registration.proofs.ReferenceLaws.{reads, reads_uri, reads_not, stays, is_resolved}
 use Rattle.registration.proofs.references.refer.Goals as goal
 
