@@ -7,7 +7,7 @@
 --   an answer that reports a change), ResponseEntries (responses that complete a fetch) and QuietSteps (all others); RowLaws and JournalLaws lift it to
 --   rows and journals; CommitLaws has that an admission is committed once; Admissions and FailedLaws that a repeat is recognized; HoldsEachOnce, the sentence.
 --
--- TagsTellStates: equal tags mean one state.
+-- TagsDecideStates: equal tags mean one state.
 --   entries: TagStates, by JournalLaws.
 --
 -- ObserversKnow: an observer that is not due knows the listing.

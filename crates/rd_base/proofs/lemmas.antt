@@ -1,3 +1,5 @@
+-- Lemmas that the standard library lacks, one subject a file: tests (Booleans, Choices), Numbers, Options, what holds of each element (Each), of each two (Pairs),
+-- of the elements of a list (Among, Contains), what filters keep (Filters, Partitions), and lists that are made one element after the other (Lists).
 pub mod Booleans
 pub mod Choices
 pub mod Numbers
