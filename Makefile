@@ -1,7 +1,8 @@
-# What a newcomer needs: `make demo` shows a trace replayed, `make build` makes the proved programs, `make test` is the gate.
+# What a newcomer needs: `make demo` shows a trace replayed, `make build` makes the proved programs, `make bench` measures what calls cost,
+# `make test` is the gate.
 PROGRAMS = rd_replay
 
-.PHONY: demo build test
+.PHONY: demo build bench test
 
 demo:
 	@echo "examples/register.trace, a recorded trace:"; echo; sed 's/^/    /' examples/register.trace; echo
@@ -16,6 +17,10 @@ build:
 		(cd crates/$$program && rt run -- $$(cat args) < stdin > /dev/null) || exit 1; \
 		cp crates/$$program/out/$$program bin/; echo "bin/$$program"; \
 	done
+
+bench:
+	@cd crates/rd_bench && rt run < stdin > out.bench 2>&1 || { cat out.bench; rm -f out.bench; exit 1; }
+	@rm -f crates/rd_bench/out.bench; crates/rd_bench/out/rd_bench > /dev/null
 
 test:
 	rt ci

@@ -1,0 +1,30 @@
+//! `rd_bench`: what calls of the directory's crates cost at growing sizes. It measures, and never fails.
+//!
+//! Times go to standard error, a line for each call: nanoseconds at each size, the middle one of several rounds, and in
+//! parentheses how many times the cost at the first size that is. Standard output has what was counted in passing, which
+//! is the same in each run.
+#![tactic(auto)]
+
+mod exchanges;
+mod leases;
+mod listings;
+mod registrations;
+mod tables;
+
+use tables::Trouble;
+
+/// Measures all calls, one after another.
+fn measured(rt: &HostRuntime) -> Result<(), Trouble> {
+    exchanges::measured(rt)?;
+    leases::measured(rt)?;
+    registrations::measured(rt)?;
+    listings::measured(rt)
+}
+
+fn main(rt: HostRuntime) {
+    if measured(&rt).is_err() {
+        let _ = eprintln!(rt;
+            "what comes next was not measured: out of memory, or the clock or a stream failed"
+        );
+    }
+}

@@ -1,0 +1,119 @@
+//! The table that is printed: rounds that are timed, their middle one, and a line for each call.
+
+use rd_base::Starved;
+use std::alloc::{AllocError, AllocFailed, Global};
+use std::io;
+use std::time::Instant;
+
+/// How often each call is measured at each size.
+pub const ROUNDS: u64 = 5;
+
+/// Why a measurement ends early.
+#[derive(Debug, Drop)]
+pub enum Trouble {
+    /// Out of memory.
+    Starved,
+    /// The clock could not be asked, or a stream could not be written.
+    Outside,
+}
+
+impl From<Starved> for Trouble {
+    fn from(_: Starved) -> Trouble {
+        Trouble::Starved
+    }
+}
+
+impl From<AllocError> for Trouble {
+    fn from(_: AllocError) -> Trouble {
+        Trouble::Starved
+    }
+}
+
+impl<T: Drop> From<AllocFailed<T>> for Trouble {
+    fn from(_: AllocFailed<T>) -> Trouble {
+        Trouble::Starved
+    }
+}
+
+impl From<io::Error> for Trouble {
+    fn from(_: io::Error) -> Trouble {
+        Trouble::Outside
+    }
+}
+
+/// The moment at which a round begins.
+pub fn begin(rt: &HostRuntime) -> Result<Instant, Trouble> {
+    Ok(Instant::now(rt)?)
+}
+
+/// The times of the rounds of one call at one size, in nanoseconds.
+#[derive(Drop)]
+pub struct Rounds {
+    times: Vec<u64>,
+}
+
+impl Rounds {
+    /// No round yet.
+    pub fn new(alloc: Global) -> Rounds {
+        Rounds {
+            times: Vec::new(alloc),
+        }
+    }
+
+    /// A round that began at `start` ends now; it made this many calls.
+    pub fn end(&mut self, rt: &HostRuntime, start: Instant, calls: u64) -> Result<(), Trouble> {
+        let time = start.elapsed(rt)?;
+        let nanoseconds = u64::try_from(time.as_nanos()).unwrap_or(u64::MAX);
+        self.times
+            .push(nanoseconds.checked_div(calls).unwrap_or(0))?;
+        Ok(())
+    }
+
+    /// The time of a call in the middle round, in nanoseconds; 0 where there was no round.
+    pub fn middle(mut self) -> Result<u64, Trouble> {
+        self.times.sort()?;
+        let middle = self.times.len() / 2;
+        Ok(self.times.as_slice().get(middle).copied().unwrap_or(0))
+    }
+}
+
+/// What one call costs at each size.
+#[derive(Drop)]
+pub struct Costs {
+    name: &'static str,
+    line: String,
+    first: Option<u64>,
+}
+
+impl Costs {
+    /// The line of the call of this name.
+    pub fn new(alloc: Global, name: &'static str) -> Costs {
+        Costs {
+            name,
+            line: String::new(alloc),
+            first: None,
+        }
+    }
+
+    /// The cost at one more size.
+    pub fn add(&mut self, rt: &HostRuntime, size: u64, rounds: Rounds) -> Result<(), Trouble> {
+        let cost = rounds.middle()?;
+        let first = self.first.unwrap_or(cost);
+        self.first = Some(first);
+        let hundredths = u64::saturating_mul(cost, 100)
+            .checked_div(first)
+            .unwrap_or(100);
+        let whole = hundredths / 100;
+        let rest = hundredths % 100;
+        let part = format!(in rt.alloc(); "  {size}: {cost} ns ({whole}.{rest:02})")?;
+        self.line.push_str(part.as_str())?;
+        Ok(())
+    }
+
+    /// The line is printed, and beside it on standard output how much was counted.
+    pub fn print(self, rt: &HostRuntime, counted: u64) -> Result<(), Trouble> {
+        eprintln!(rt; "{}{}", self.name, self.line)?;
+        println!(rt; "{} counted {counted}", self.name)?;
+        Ok(())
+    }
+}
