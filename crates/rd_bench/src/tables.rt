@@ -49,6 +49,7 @@ pub fn begin(rt: &HostRuntime) -> Result<Instant, Trouble> {
 /// The times of the rounds of one call at one size, in nanoseconds.
 #[derive(Drop)]
 pub struct Rounds {
+    /// The time of a call in each round so far, in nanoseconds.
     times: Vec<u64>,
 }
 
@@ -80,8 +81,11 @@ impl Rounds {
 /// What one call costs at each size.
 #[derive(Drop)]
 pub struct Costs {
+    /// The name of the call.
     name: &'static str,
+    /// What is printed of the sizes so far.
     line: String,
+    /// The cost at the first size, in nanoseconds.
     first: Option<u64>,
 }
 
