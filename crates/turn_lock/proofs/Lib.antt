@@ -1,0 +1,4 @@
+mod TakeMoves
+mod GiveMoves
+mod SplitMoves
+mod NewPasses
