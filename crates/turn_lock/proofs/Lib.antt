@@ -2,3 +2,4 @@ mod TakeMoves
 mod GiveMoves
 mod SplitMoves
 mod NewPasses
+mod Endings

@@ -21,7 +21,7 @@ within [] i x e = absurd (some-ne-none x (sym e))
 within (y ∷ ys) zero x e = omega arith
 within (y ∷ ys) (suc i) x e = let h = within ys i x e in omega arith
 
-held_is : (n w : ℕ) (b : Bool) → w ≡ word_of n b → w % 2 ≡ 0 → b ≡ false
+pub held_is : (n w : ℕ) (b : Bool) → w ≡ word_of n b → w % 2 ≡ 0 → b ≡ false
 held_is n w true e even = absurd (omega (arith, e, even))
 held_is n w false e even = refl
 

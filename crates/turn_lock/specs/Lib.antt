@@ -2,3 +2,4 @@ pub mod Histories
 pub mod Rule
 pub mod Steps
 pub mod Passes
+pub mod Endings

@@ -1,5 +1,5 @@
 //! The lock: a value behind one word and one slot.
-ghost use Rattle.std.specs.Prelude.{◌≡◌, ℕ, ◌+◌, false};
+ghost use Rattle.std.specs.Prelude.{◌≡◌, ℕ, ◌+◌, false, [], ◌∷◌, Some};
 ghost use Rattle.turn_lock.specs.Rule.{word_of};
 
 use crate::rows::{Added, Replays};
@@ -43,11 +43,34 @@ fn next_word(word: u64) -> u64
     }
 }
 
+// The value of the one slot.
+fn only<T>(mut slots: Vec<Option<T>>) -> T
+    requires { (value : T) × (slots.items ≡ Some value ∷ []) }
+    ensures { slots.items ≡ Some result ∷ [] }
+{
+    let Some(Some(value)) = slots.pop() else {
+        unreachable!()
+    };
+    slots.destroy_empty();
+    value
+}
+
+// A pass that has seen nothing.
+fn new_pass<T: Replays>(seat: Seat<Option<T>, View<T::Row, T::Label>>) -> Pass<T>
+    requires idle { seat.me.0.holding ≡ false }
+    requires seen { seat.me.0.seen ≡ [] }
+    requires slot { seat.me.1 ≡ [] }
+    ensures { result.seat ≡ seat }
+{
+    Pass { seat, word: 0 }
+}
+
 impl<T: Replays> TurnLock<T> {
-    ghost use Rattle.std.specs.Prelude.{◌*◌, ◌%◌, ◌^◌, ◌<◌, ◌≤◌, List, [], ◌∷◌, length, true, None, Some, IfOk, IfErr, IfSome, IsSome, slice_get};
+    ghost use Rattle.std.specs.Prelude.{◌%◌, ◌<◌, ◌≤◌, List, length, true, None, IfOk, IfErr, IfSome, IsSome, slice_get};
     ghost use Rattle.std.specs.Bool.{MatchBool};
     ghost use Rattle.std.specs.Vec.{vec_capacity};
     ghost use Rattle.turn_lock.specs.Histories.{Extends, rows_of};
+    ghost use Rattle.turn_lock.specs.Endings.{IfFree};
     ghost use Rattle.turn_lock.specs.Steps.{Took, DidNotTake, CameOut, WentIn, IsReady, Gave, WasSplit};
     ghost use Rattle.turn_lock.specs.Passes.{IsFresh};
 
@@ -157,5 +180,118 @@ impl<T: Replays> TurnLock<T> {
         let shared = &self.table.shared;
         shared.swap::<Give<T, S>>(seat, 0, word);
         shared.wake_one(0);
+    }
+
+    // Cuts a pass with the next number off the one that was made last.
+    fn next(&self, last: &mut Seat<Option<T>, View<T::Row, T::Label>>) -> Seat<Option<T>, View<T::Row, T::Label>>
+        requires lock { last.old.table_id ≡ self.now.table.shared.table_id }
+        requires last { last.old.me.0.last ≡ true }
+        requires idle { last.old.me.0.holding ≡ false }
+        ensures lock { (last.new.table_id ≡ last.old.table_id) × (result.table_id ≡ last.old.table_id) }
+        ensures split { WasSplit last.old.me last.new.me result.me }
+    {
+        self.table.shared.split_seat::<Next>(last)
+    }
+
+    // As many passes as are wanted, cut off one after another.
+    fn cut(
+        &self,
+        mut passes: Vec<Pass<T>>,
+        first: Seat<Option<T>, View<T::Row, T::Label>>,
+        seats: usize,
+    ) -> Vec<Pass<T>>
+        requires none { passes.items ≡ [] }
+        requires room { seats ≤ vec_capacity passes }
+        requires some { 0 < seats }
+        requires lock { first.table_id ≡ self.now.table.shared.table_id }
+        requires fresh { IsFresh (T.label self.now.table.shared.key.value) 0 first.me }
+        requires last { first.me.0.last ≡ true }
+        ensures count { length result.items ≡ seats }
+        ensures passes { (i : ℕ) (pass : _) → slice_get result.items i ≡ Some pass → IsFresh (T.label self.now.table.shared.key.value) i pass.seat.me × (pass.seat.table_id ≡ self.now.table.shared.table_id) }
+    {
+        let mut last = first;
+        for _ in 1..seats {
+            let next = self.next(&mut last);
+            passes.push_reserved(new_pass(last));
+            last = next;
+        }
+        passes.push_reserved(new_pass(last));
+        passes
+    }
+
+    /// The lock round the value, and its passes, numbered from 0. Where no memory is found, the value comes back.
+    pub fn make_or_return(
+        alloc: Global,
+        seats: u32,
+        value: T,
+    ) -> Result<(TurnLock<T>, Passes<T>), Unmade<T>>
+        requires seats { (1 ≤ seats) × (seats ≤ 16) }
+        requires value { T.stands [] value }
+        ensures count { IfOk result (λ made. length made.1.passes.items ≡ seats) }
+        ensures passes { IfOk result (λ made. (i : ℕ) (pass : _) → slice_get made.1.passes.items i ≡ Some pass → IsFresh (T.label value) i pass.seat.me) }
+        ensures lock { IfOk result (λ made. (i : ℕ) (pass : _) → slice_get made.1.passes.items i ≡ Some pass → pass.seat.table_id ≡ made.0.table.shared.table_id) }
+        ensures back { IfErr result (λ unmade. unmade.value ≡ value) }
+    {
+        let Ok(passes) = Vec::with_capacity(alloc, seats as usize) else {
+            return Err(Unmade { value });
+        };
+        let Ok(mut slots) = Vec::with_capacity(alloc, 1) else {
+            return Err(Unmade { value });
+        };
+        let about = Snapshot::of(&value);
+        slots.push_reserved(Some(value));
+        let (table, seat) = match Table::new(alloc, &[0], slots, &about) {
+            Ok(made) => made,
+            Err(Refused { slots }) => {
+                return Err(Unmade {
+                    value: only(slots),
+                });
+            }
+        };
+        let lock = TurnLock { table };
+        let passes = lock.cut(passes, seat, seats as usize);
+        Ok((lock, Passes::of(passes)))
+    }
+
+    /// Takes the lock apart, with one of its passes. The value comes back where the turn is free, and stands for a history that goes on from what this pass has seen.
+    pub fn end(self, pass: Pass<T>) -> Ended<T>
+        requires lock { pass.seat.table_id ≡ self.table.shared.table_id }
+        ensures value { IfFree result (λ value. (history : List T.Row) × Extends pass.seat.me.0.seen history × (pass.seat.me.0.mine ≡ rows_of T.number pass.seat.me.0.number history) × T.stands history value) }
+        ensures value_label { IfFree result (λ value. T.label value ≡ pass.seat.me.0.label) }
+    {
+        let TurnLock { table } = self;
+        let Pass { seat, word: _ } = pass;
+        let mut closed = table.close_with(seat);
+        let word = closed.word(0);
+        let found = closed.take(0);
+        closed.free();
+        if word % 2 != 0 {
+            return Ended::Held(found);
+        }
+        let Some(value) = found else { unreachable!() };
+        Ended::Free(value)
+    }
+}
+
+impl<T: Replays + Drop> TurnLock<T> {
+    ghost use Rattle.std.specs.Prelude.{◌≤◌, [], length, Some, IfOk, slice_get};
+    ghost use Rattle.turn_lock.specs.Passes.{IsFresh};
+
+    /// The lock round the value, and its passes, numbered from 0.
+    pub fn make(
+        alloc: Global,
+        seats: u32,
+        value: T,
+    ) -> Result<(TurnLock<T>, Passes<T>), Starved>
+        requires seats { (1 ≤ seats) × (seats ≤ 16) }
+        requires value { T.stands [] value }
+        ensures count { IfOk result (λ made. length made.1.passes.items ≡ seats) }
+        ensures passes { IfOk result (λ made. (i : ℕ) (pass : _) → slice_get made.1.passes.items i ≡ Some pass → IsFresh (T.label value) i pass.seat.me) }
+        ensures lock { IfOk result (λ made. (i : ℕ) (pass : _) → slice_get made.1.passes.items i ≡ Some pass → pass.seat.table_id ≡ made.0.table.shared.table_id) }
+    {
+        match TurnLock::make_or_return(alloc, seats, value) {
+            Ok(made) => Ok(made),
+            Err(Unmade { value: _ }) => Err(Starved),
+        }
     }
 }
