@@ -3,3 +3,4 @@ mod GiveMoves
 mod SplitMoves
 mod NewPasses
 mod Endings
+mod SeenLaws

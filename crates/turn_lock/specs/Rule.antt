@@ -1,5 +1,5 @@
 -- The rule of the turn: what holds of the word, of the slot and of all views between any two steps.
-use Rattle.std.specs.Prelude.{◌≡◌, ℕ, ◌+◌, ◌*◌, ◌%◌, ◌^◌, Bool, true, false, cond, List, [], length, Option, Some, slice_index}
+use Rattle.std.specs.Prelude.{◌≡◌, ◌⊎◌, ℕ, ◌+◌, ◌*◌, ◌%◌, ◌^◌, Bool, true, false, cond, List, [], length, Option, Some, slice_index}
 use mathlib.Core.Option.{some}
 use lib.ListN.{get_elem?}
 use Rattle.atomic_table.specs.Table.{State}
@@ -49,3 +49,7 @@ module _ {T R L : Type 0} (stands : List R → T → Type 0) (number : R → ℕ
     pub label_is : (id : ℕ) (v : View R L) → get_elem? s.views id ≡ some v → v.label ≡ lab
     -- The mark of the view that was made last: while passes are made, each is cut off it.
     pub last : (id : ℕ) (v : View R L) → get_elem? s.views id ≡ some v → v.last ≡ true → id + 1 ≡ length s.views
+
+  -- of what two views have seen, one is the other as it once was
+  abbrev pub SeenInOrder : Type 0
+  SeenInOrder = (lab : L) (s : State (Option T) (View R L)) → Kept lab s → (i j : ℕ) (v w : View R L) → get_elem? s.views i ≡ some v → get_elem? s.views j ≡ some w → Extends v.seen w.seen ⊎ Extends w.seen v.seen

@@ -8,7 +8,10 @@ mod rows;
 mod seats;
 mod views;
 
-pub use lock::{Ended, TurnLock, Unmade};
+pub use lock::{Ended, TurnLock, Unmade, seen_in_order};
 pub use rows::{Added, Replays};
 pub use seats::{Pass, Passes};
 pub use views::View;
+
+#[cfg(test)]
+mod tests;

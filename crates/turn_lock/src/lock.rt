@@ -1,6 +1,6 @@
 //! The lock: a value behind one word and one slot.
 ghost use Rattle.std.specs.Prelude.{◌≡◌, ℕ, ◌+◌, false, [], ◌∷◌, Some};
-ghost use Rattle.turn_lock.specs.Rule.{word_of};
+ghost use Rattle.turn_lock.specs.Rule.{word_of, SeenInOrder};
 
 use crate::rows::{Added, Replays};
 use crate::seats::{Pass, Passes};
@@ -12,6 +12,7 @@ use std::snapshot::Snapshot;
 use std::sync::Wait;
 
 /// A value that many workers change, each at its turn.
+#[derive(Drop)]
 pub struct TurnLock<T: Replays> {
     table: Table<Option<T>, View<T::Row, T::Label>, Snapshot<T>, Turn<T>, Global>,
     ghost words: { table.shared.table_id.words ≡ 1 },
@@ -19,12 +20,14 @@ pub struct TurnLock<T: Replays> {
 }
 
 /// No memory was found for a lock. The value comes back.
+#[derive(Drop)]
 pub struct Unmade<T> {
     /// The value that was handed in.
     pub value: T,
 }
 
 /// What a lock leaves when it ends.
+#[derive(Drop)]
 pub enum Ended<T> {
     /// The turn was free: the value.
     Free(T),
@@ -66,7 +69,7 @@ fn new_pass<T: Replays>(seat: Seat<Option<T>, View<T::Row, T::Label>>) -> Pass<T
 }
 
 impl<T: Replays> TurnLock<T> {
-    ghost use Rattle.std.specs.Prelude.{◌%◌, ◌<◌, ◌≤◌, List, length, true, None, IfOk, IfErr, IfSome, IsSome, slice_get};
+    ghost use Rattle.std.specs.Prelude.{◌%◌, ◌<◌, ◌≤◌, List, length, true, None, IfOk, IfErr, IfSome, IsSome, slice_get, slice_index_or, All};
     ghost use Rattle.std.specs.Bool.{MatchBool};
     ghost use Rattle.std.specs.Vec.{vec_capacity};
     ghost use Rattle.turn_lock.specs.Histories.{Extends, rows_of};
@@ -148,7 +151,7 @@ impl<T: Replays> TurnLock<T> {
     }
 
     /// Gives the turn back with the value, which stands for what the pass has seen with one row more.
-    pub fn give<S: Added<T>>(&self, pass: &mut Pass<T>, value: T)
+    pub fn give<S: Added<T::Row>>(&self, pass: &mut Pass<T>, value: T)
         requires lock { pass.old.seat.table_id ≡ self.now.table.shared.table_id }
         requires holding { pass.old.seat.me.0.holding ≡ true }
         requires added { IsSome S.added }
@@ -170,7 +173,11 @@ impl<T: Replays> TurnLock<T> {
     }
 
     // Makes the turn free, and wakes one that waits.
-    fn release<S: Added<T>>(&self, seat: &mut Seat<Option<T>, View<T::Row, T::Label>>, word: u64)
+    fn release<S: Added<T::Row>>(
+        &self,
+        seat: &mut Seat<Option<T>, View<T::Row, T::Label>>,
+        word: u64,
+    )
         requires lock { seat.old.table_id ≡ self.now.table.shared.table_id }
         requires word { word ≡ word_of (length seat.old.me.0.seen + 1) false }
         requires ready { (row : T.Row) × (S.added ≡ Some row) × IsReady T.stands T.number T.label row seat.old.me }
@@ -183,7 +190,10 @@ impl<T: Replays> TurnLock<T> {
     }
 
     // Cuts a pass with the next number off the one that was made last.
-    fn next(&self, last: &mut Seat<Option<T>, View<T::Row, T::Label>>) -> Seat<Option<T>, View<T::Row, T::Label>>
+    fn next(
+        &self,
+        last: &mut Seat<Option<T>, View<T::Row, T::Label>>,
+    ) -> Seat<Option<T>, View<T::Row, T::Label>>
         requires lock { last.old.table_id ≡ self.now.table.shared.table_id }
         requires last { last.old.me.0.last ≡ true }
         requires idle { last.old.me.0.holding ≡ false }
@@ -228,8 +238,8 @@ impl<T: Replays> TurnLock<T> {
         requires seats { (1 ≤ seats) × (seats ≤ 16) }
         requires value { T.stands [] value }
         ensures count { IfOk result (λ made. length made.1.passes.items ≡ seats) }
-        ensures passes { IfOk result (λ made. (i : ℕ) (pass : _) → slice_get made.1.passes.items i ≡ Some pass → IsFresh (T.label value) i pass.seat.me) }
-        ensures lock { IfOk result (λ made. (i : ℕ) (pass : _) → slice_get made.1.passes.items i ≡ Some pass → pass.seat.table_id ≡ made.0.table.shared.table_id) }
+        ensures fresh { IfOk result (λ made. (i : ℕ) (d : _) → i < length made.1.passes.items → IsFresh (T.label value) i (slice_index_or made.1.passes.items i d).seat.me) }
+        ensures lock { IfOk result (λ made. All (λ pass. pass.seat.table_id ≡ made.0.table.shared.table_id) made.1.passes.items) }
         ensures back { IfErr result (λ unmade. unmade.value ≡ value) }
     {
         let Ok(passes) = Vec::with_capacity(alloc, seats as usize) else {
@@ -243,9 +253,7 @@ impl<T: Replays> TurnLock<T> {
         let (table, seat) = match Table::new(alloc, &[0], slots, &about) {
             Ok(made) => made,
             Err(Refused { slots }) => {
-                return Err(Unmade {
-                    value: only(slots),
-                });
+                return Err(Unmade { value: only(slots) });
             }
         };
         let lock = TurnLock { table };
@@ -273,21 +281,22 @@ impl<T: Replays> TurnLock<T> {
     }
 }
 
+/// Of what two passes of one lock have seen, one is the other as it once was.
+pub fn seen_in_order<T: Replays>()
+    ensures { SeenInOrder T.stands T.number T.label }
+{}
+
 impl<T: Replays + Drop> TurnLock<T> {
-    ghost use Rattle.std.specs.Prelude.{◌≤◌, [], length, Some, IfOk, slice_get};
+    ghost use Rattle.std.specs.Prelude.{◌≤◌, ◌<◌, length, IfOk, slice_index_or, All};
     ghost use Rattle.turn_lock.specs.Passes.{IsFresh};
 
     /// The lock round the value, and its passes, numbered from 0.
-    pub fn make(
-        alloc: Global,
-        seats: u32,
-        value: T,
-    ) -> Result<(TurnLock<T>, Passes<T>), Starved>
+    pub fn make(alloc: Global, seats: u32, value: T) -> Result<(TurnLock<T>, Passes<T>), Starved>
         requires seats { (1 ≤ seats) × (seats ≤ 16) }
         requires value { T.stands [] value }
         ensures count { IfOk result (λ made. length made.1.passes.items ≡ seats) }
-        ensures passes { IfOk result (λ made. (i : ℕ) (pass : _) → slice_get made.1.passes.items i ≡ Some pass → IsFresh (T.label value) i pass.seat.me) }
-        ensures lock { IfOk result (λ made. (i : ℕ) (pass : _) → slice_get made.1.passes.items i ≡ Some pass → pass.seat.table_id ≡ made.0.table.shared.table_id) }
+        ensures fresh { IfOk result (λ made. (i : ℕ) (d : _) → i < length made.1.passes.items → IsFresh (T.label value) i (slice_index_or made.1.passes.items i d).seat.me) }
+        ensures lock { IfOk result (λ made. All (λ pass. pass.seat.table_id ≡ made.0.table.shared.table_id) made.1.passes.items) }
     {
         match TurnLock::make_or_return(alloc, seats, value) {
             Ok(made) => Ok(made),

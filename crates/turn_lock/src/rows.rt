@@ -22,15 +22,14 @@ pub trait Replays {
     ghost label: { Self → Self.Label };
 }
 
-/// The row that a call of `give` adds, which contracts alone see.
-pub trait Added<T: Replays> {
+/// The row that a call of `give` adds, which contracts alone see. The call names it.
+pub trait Added<R> {
     ghost use Rattle.std.specs.Prelude.{Option};
 
-    // The row, which a call has to name.
-    ghost added: { Option T.Row };
+    ghost added: { Option R };
 }
 
-impl<T: Replays> Added<T> for Brand {
+impl<R> Added<R> for Brand {
     ghost use Rattle.std.specs.Prelude.{None};
 
     ghost added = { None };

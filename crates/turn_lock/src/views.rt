@@ -51,7 +51,7 @@ pub struct Give<T, S> {
     marker: PhantomData<(T, S)>,
 }
 
-impl<T: Replays, S: Added<T>> Play<Option<T>, View<T::Row, T::Label>> for Give<T, S> {
+impl<T: Replays, S: Added<T::Row>> Play<Option<T>, View<T::Row, T::Label>> for Give<T, S> {
     ghost use Rattle.turn_lock.specs.Steps.{Gives};
 
     ghost then = { Gives T.stands T.number T.label S.added };

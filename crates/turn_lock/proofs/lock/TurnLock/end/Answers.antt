@@ -8,4 +8,4 @@ returns-clause-value g c =
     let closed = c.close_with-closed in
     let seat = c.args.pass.seat in
     left_value g.T.Replays.stands g.T.Replays.number g.T.Replays.label (g.T.Replays.label c.args.self.table.shared.key.value) seat.id seat.me.0 _ _ c.word-word.result c.in-Some.value
-        closed.ensures.values.2 c.word-word.ensures (omega (arith, c.if-word-ne0.false)) (c.take-found.ensures.value ∙ ap some c.in-Some.is)
+    closed.ensures.values.2 c.word-word.ensures (omega (arith, c.if-word-ne0.false)) (c.take-found.ensures.value ∙ ap some c.in-Some.is)

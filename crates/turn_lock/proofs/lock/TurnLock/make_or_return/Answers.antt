@@ -1,4 +1,5 @@
-use Rattle.std.proofs.Common.{◌≡◌, ◌∷◌, ◌++◌, [], Some, ap, sym, ◌∙◌, subst, slice_get}
+use Rattle.std.proofs.Common.{◌≡◌, ◌∷◌, ◌++◌, [], Some, ap, sym, ◌∙◌, subst, slice_get, get_or}
+use Rattle.std.proofs.lemmas.Option.{slice_get-get_or}
 use Rattle.turn_lock.specs.Rule.{Kept, first_view}
 use Rattle.turn_lock.specs.Passes.{IsFresh}
 use Rattle.atomic_table.specs.Table.{opening}
@@ -12,8 +13,15 @@ new-requires g c =
     (sym c.of-about.ensures)
     (opens g.T.Replays.stands g.T.Replays.number g.T.Replays.label c.args.value c.push_reserved.new.self.items items c.requires.value)
 
-pub returns-clause-passes : goal.returns-clause-passes
-returns-clause-passes g c i p e =
+pub returns-clause-fresh : goal.returns-clause-fresh
+returns-clause-fresh g c i d e =
     let made = c.in-Ok-new.ensures.ok in
+    let items = c.of.result.passes.items in
+    let p = get_or items i d in
     subst (λ l. IsFresh l i p.seat.me) (ap g.T.Replays.label (ap (λ k. k.value) made.5 ∙ c.of-about.ensures))
-    (c.cut-passes.ensures.passes i p (ap (λ xs. slice_get xs i) (sym c.of.ensures) ∙ e)).0
+    (c.cut-passes.ensures.passes i p (ap (λ xs. slice_get xs i) (sym c.of.ensures) ∙ slice_get-get_or items i d e)).0
+
+pub returns-clause-lock : goal.returns-clause-lock
+returns-clause-lock g c i d e =
+    let items = c.of.result.passes.items in
+    (c.cut-passes.ensures.passes i (get_or items i d) (ap (λ xs. slice_get xs i) (sym c.of.ensures) ∙ slice_get-get_or items i d e)).1
