@@ -4,7 +4,7 @@ use mathlib.Core.Option.{some, some-injective, some-ne-none}
 use lib.ListN.{get_elem?}
 use Rattle.atomic_table.specs.Table.{Final, Seen}
 use Rattle.turn_lock.specs.Histories.{Extends, rows_of}
-use Rattle.turn_lock.specs.Rule.{IsHome, Kept}
+use Rattle.turn_lock.specs.Rule.{Kept}
 use Rattle.turn_lock.proofs.TakeMoves.{held_is}
 use Rattle.turn_lock.specs.declared.views.View.{View}
 

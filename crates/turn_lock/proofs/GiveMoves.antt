@@ -1,13 +1,13 @@
 -- Giving the turn back keeps the rule.
-use Rattle.std.proofs.Common.{◌≡◌, ◌≢◌, ℕ, ◌+◌, ◌*◌, ◌%◌, ◌^◌, ◌<◌, ◌≤◌, ◌==◌, Bool, true, false, cond, List, [], ◌∷◌, ◌++◌, length, filter, Option, Some, None, get_or, sym, refl, ◌∙◌, subst, ap, arith, length-set, get_or-set_same, set, ⊎_elim, true≢false}
+use Rattle.std.proofs.Common.{◌≡◌, ◌≢◌, ℕ, ◌+◌, ◌<◌, ◌==◌, Bool, true, false, cond, List, [], ◌∷◌, length, Option, Some, sym, refl, ◌∙◌, subst, ap, arith, length-set, get_or-set_same, set, ⊎_elim, true≢false}
 use Rattle.std.proofs.lemmas.Bool.Decides.{nat_tests}
 use mathlib.Core.Option.{some, none}
 use lib.ListN.{get_elem?}
 use Rattle.atomic_table.specs.Table.{State, Me, gives, Allows, step, stepped, rest}
 use Rattle.atomic_table.proofs.Lists.{at_set, set_here}
 use Rattle.turn_lock.specs.Histories.{rows_of, AllBelow}
-use Rattle.turn_lock.specs.Rule.{word_of, IsHome, Kept}
-use Rattle.turn_lock.specs.Steps.{IsReady, Gave, Gives}
+use Rattle.turn_lock.specs.Rule.{word_of, Kept}
+use Rattle.turn_lock.specs.Steps.{IsReady, Gives}
 use Rattle.turn_lock.proofs.TakeMoves.{within, Fits, fits}
 use Rattle.turn_lock.specs.declared.views.View.{View}
 

@@ -1,5 +1,5 @@
 -- Passes that have seen nothing, in a list.
-use Rattle.std.proofs.Common.{◌≡◌, ℕ, ◌+◌, List, [], ◌∷◌, ◌++◌, slice_get, Option, Some, true, false, refl, sym, ap, ◌∙◌, inl, inr, ⊎_elim, ◌⊎◌, arith, zero, suc, length}
+use Rattle.std.proofs.Common.{◌≡◌, ℕ, ◌+◌, List, [], ◌∷◌, ◌++◌, slice_get, Option, Some, refl, ap, inl, inr, ⊎_elim, ◌⊎◌, arith, zero, suc, length}
 use Rattle.atomic_table.specs.Table.{Me}
 use Rattle.turn_lock.specs.Passes.{IsFresh}
 use Rattle.turn_lock.specs.Steps.{kept_view, next_view}

@@ -1,11 +1,7 @@
 -- What two passes have seen.
-use Rattle.std.proofs.Common.{◌≡◌, ◌⊎◌, inl, inr, ℕ, List, [], ◌∷◌, ◌++◌, Option, sym, ap, ◌∙◌}
-use mathlib.Core.Option.{some}
-use lib.ListN.{get_elem?}
-use Rattle.atomic_table.specs.Table.{State}
+use Rattle.std.proofs.Common.{◌≡◌, ◌⊎◌, inl, inr, ℕ, List, [], ◌∷◌, ◌++◌, sym, ap, ◌∙◌}
 use Rattle.turn_lock.specs.Histories.{Extends}
-use Rattle.turn_lock.specs.Rule.{Kept, SeenInOrder}
-use Rattle.turn_lock.specs.declared.views.View.{View}
+use Rattle.turn_lock.specs.Rule.{SeenInOrder}
 
 abbrev behind_first : {A : Type 0} → List A → List A
 behind_first [] = []

@@ -1,12 +1,12 @@
 -- A new pass, and the lock at its start.
-use Rattle.std.proofs.Common.{◌≡◌, ◌≢◌, ℕ, ◌+◌, ◌<◌, ◌≤◌, ◌==◌, ◌⊎◌, Bool, true, false, cond, List, [], ◌∷◌, ◌++◌, length, Option, Some, None, sym, refl, ◌∙◌, subst, ap, arith, length-set, length-append, set, ⊎_elim, inl, inr, true≢false, zero, suc}
+use Rattle.std.proofs.Common.{◌≡◌, ◌≢◌, ℕ, ◌+◌, ◌≤◌, ◌==◌, ◌⊎◌, true, false, cond, List, [], ◌∷◌, ◌++◌, length, Option, Some, sym, refl, ◌∙◌, subst, ap, arith, length-set, length-append, set, ⊎_elim, inl, inr, true≢false, zero, suc}
 use Rattle.std.proofs.lemmas.Bool.Decides.{nat_tests}
 use mathlib.Core.Option.{some, some-injective, some-ne-none}
 use lib.ListN.{get_elem?}
 use Rattle.atomic_table.specs.Table.{State, Splits, opening}
 use Rattle.atomic_table.proofs.Lists.{at_set, set_here, set_else, at_longer}
 use Rattle.turn_lock.specs.Histories.{rows_of, AllBelow}
-use Rattle.turn_lock.specs.Rule.{IsHome, Kept, first_view}
+use Rattle.turn_lock.specs.Rule.{Kept, first_view}
 use Rattle.turn_lock.specs.Steps.{kept_view, next_view}
 use Rattle.turn_lock.proofs.TakeMoves.{within, Fits, fits}
 use Rattle.turn_lock.specs.declared.views.View.{View}

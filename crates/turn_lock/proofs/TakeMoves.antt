@@ -1,5 +1,5 @@
 -- Taking the turn, or failing to, keeps the rule.
-use Rattle.std.proofs.Common.{◌≡◌, ◌≢◌, ℕ, ◌+◌, ◌*◌, ◌%◌, ◌^◌, ◌<◌, ◌≤◌, ◌==◌, Bool, true, false, cond, List, [], ◌∷◌, ◌++◌, length, filter, Option, Some, None, get_or, sym, refl, ◌∙◌, subst, ap, arith, length-set, get_or-set_same, set, inl, inr, ⊎_elim, true≢false, zero, suc}
+use Rattle.std.proofs.Common.{◌≡◌, ℕ, ◌+◌, ◌%◌, ◌<◌, ◌==◌, Bool, true, false, List, [], ◌∷◌, length, Option, Some, get_or, sym, refl, ◌∙◌, subst, ap, arith, length-set, get_or-set_same, set, ⊎_elim, true≢false, zero, suc}
 use Rattle.std.specs.Bool.{MatchBool}
 use mathlib.Core.Option.{some, none, some-ne-none}
 use Rattle.std.proofs.lemmas.Bool.Decides.{nat_tests}
@@ -8,7 +8,7 @@ use prog.Atomic.{either}
 use Rattle.atomic_table.specs.Table.{State, Me, Act, Valid, carried_after, keeps, takes, Allows, step, stepped}
 use Rattle.atomic_table.proofs.Lists.{at_set, set_here, set_again}
 use Rattle.turn_lock.specs.Histories.{Extends, rows_of, AllBelow}
-use Rattle.turn_lock.specs.Rule.{word_of, IsHome, Kept}
+use Rattle.turn_lock.specs.Rule.{word_of, Kept}
 use Rattle.turn_lock.specs.Steps.{Took, Takes, DidNotTake}
 use Rattle.turn_lock.specs.declared.views.View.{View}
 

@@ -1,4 +1,4 @@
-use Rattle.std.proofs.Common.{◌≡◌, ℕ, ◌+◌, false, length}
+use Rattle.std.proofs.Common.{◌≡◌, ◌+◌, false, length}
 use Rattle.turn_lock.proofs.tests.steps.Given as goal
 
 abbrev pub invariant-loop : goal.invariant-loop

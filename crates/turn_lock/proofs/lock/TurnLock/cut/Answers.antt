@@ -1,4 +1,4 @@
-use Rattle.std.proofs.Common.{rules, ◌≡◌, ℕ, ◌+◌, ◌≤◌, List, [], ◌∷◌, ◌++◌, length, slice_get, Some, true, refl, sym, ap, ◌∙◌, subst, ⊎_elim, arith, length-append}
+use Rattle.std.proofs.Common.{rules, ◌≡◌, ℕ, ◌+◌, [], ◌∷◌, length, slice_get, sym, ap, ◌∙◌, subst, ⊎_elim, arith, length-append}
 use Rattle.turn_lock.specs.Passes.{IsFresh}
 use Rattle.turn_lock.proofs.NewPasses.{get_end, fresh_kept, fresh_next}
 use Rattle.turn_lock.proofs.lock.TurnLock.cut.Goals as goal

@@ -1,6 +1,6 @@
-use Rattle.std.proofs.Common.{rules, ◌∙◌, ap, arith}
+use Rattle.std.proofs.Common.{◌∙◌, ap, arith}
 use mathlib.Core.Option.{some}
-use Rattle.turn_lock.proofs.Endings.{left_value, left_label}
+use Rattle.turn_lock.proofs.Endings.{left_value}
 use Rattle.turn_lock.proofs.lock.TurnLock.end.Goals as goal
 
 pub returns-clause-value : goal.returns-clause-value
