@@ -1,0 +1,6 @@
+mod TakeMoves
+mod GiveMoves
+mod SplitMoves
+mod NewPasses
+mod Endings
+mod SeenLaws

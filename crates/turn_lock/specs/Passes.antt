@@ -1,0 +1,17 @@
+-- A pass between two calls, and a new one.
+use Rattle.std.specs.Prelude.{◌≡◌, ℕ, Bool, false, cond, List, [], ◌∷◌, Option, None}
+use Rattle.atomic_table.specs.Table.{Me}
+use Rattle.turn_lock.specs.declared.views.View.{View}
+
+-- what is out with a pass: the empty slot while it holds the turn, and else nothing
+abbrev pub slots_of : {T : Type 0} → Bool → List (ℕ × Option T)
+slots_of holding = cond holding ((0, None) ∷ []) []
+
+-- a pass that has seen nothing
+pub record IsFresh {T R L : Type 0} (lab : L) (number : ℕ) (me : Me (Option T) (View R L)) : Type 0 where
+  pub number_is : me.0.number ≡ number
+  pub label_is : me.0.label ≡ lab
+  pub idle : me.0.holding ≡ false
+  pub seen : me.0.seen ≡ []
+  pub mine : me.0.mine ≡ []
+  pub slot : me.1 ≡ []

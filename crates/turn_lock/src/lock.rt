@@ -1,0 +1,306 @@
+//! The lock: a value behind one word and one slot.
+ghost use Rattle.std.specs.Prelude.{◌≡◌, ℕ, ◌+◌, false, [], ◌∷◌, Some};
+ghost use Rattle.turn_lock.specs.Rule.{word_of, SeenInOrder};
+
+use crate::rows::{Added, Replays};
+use crate::seats::{Pass, Passes};
+use crate::views::{Give, Next, Take, Turn, View};
+use atomic_table::{Refused, Seat, Table};
+use rd_base::Starved;
+use std::alloc::Global;
+use std::snapshot::Snapshot;
+use std::sync::Wait;
+
+/// A value that many workers change, each at its turn.
+#[derive(Drop)]
+pub struct TurnLock<T: Replays> {
+    table: Table<Option<T>, View<T::Row, T::Label>, Snapshot<T>, Turn<T>, Global>,
+    ghost words: { table.shared.table_id.words ≡ 1 },
+    ghost slots: { table.shared.table_id.slots ≡ 1 },
+}
+
+/// No memory was found for a lock. The value comes back.
+#[derive(Drop)]
+pub struct Unmade<T> {
+    /// The value that was handed in.
+    pub value: T,
+}
+
+/// What a lock leaves when it ends.
+#[derive(Drop)]
+pub enum Ended<T> {
+    /// The turn was free: the value.
+    Free(T),
+    /// A pass held the turn, and has the value. What lay in the slot, which no contract tells.
+    Held(Option<T>),
+}
+
+// The word of a history that has one row more.
+fn next_word(word: u64) -> u64
+    ensures { (n : ℕ) → word ≡ word_of n false → result ≡ word_of (n + 1) false }
+{
+    if word >= 0x7fff_ffff_ffff_fffe {
+        0
+    } else {
+        word + 2
+    }
+}
+
+// The value of the one slot.
+fn only<T>(mut slots: Vec<Option<T>>) -> T
+    requires { (value : T) × (slots.items ≡ Some value ∷ []) }
+    ensures { slots.items ≡ Some result ∷ [] }
+{
+    let Some(Some(value)) = slots.pop() else {
+        unreachable!()
+    };
+    slots.destroy_empty();
+    value
+}
+
+// A pass that has seen nothing.
+fn new_pass<T: Replays>(seat: Seat<Option<T>, View<T::Row, T::Label>>) -> Pass<T>
+    requires idle { seat.me.0.holding ≡ false }
+    requires seen { seat.me.0.seen ≡ [] }
+    requires slot { seat.me.1 ≡ [] }
+    ensures { result.seat ≡ seat }
+{
+    Pass { seat, word: 0 }
+}
+
+impl<T: Replays> TurnLock<T> {
+    ghost use Rattle.std.specs.Prelude.{◌%◌, ◌<◌, ◌≤◌, List, length, true, None, IfOk, IfErr, IfSome, IsSome, slice_get, slice_index_or, All};
+    ghost use Rattle.std.specs.Bool.{MatchBool};
+    ghost use Rattle.std.specs.Vec.{vec_capacity};
+    ghost use Rattle.turn_lock.specs.Histories.{Extends, rows_of};
+    ghost use Rattle.turn_lock.specs.Endings.{IfFree};
+    ghost use Rattle.turn_lock.specs.Steps.{Took, DidNotTake, CameOut, WentIn, IsReady, Gave, WasSplit};
+    ghost use Rattle.turn_lock.specs.Passes.{IsFresh};
+
+    /// Waits for the turn and takes the value out. It stands for all that the pass has seen then.
+    pub fn take<R: Wait>(&self, rt: &R, pass: &mut Pass<T>) -> T
+        requires lock { pass.old.seat.table_id ≡ self.now.table.shared.table_id }
+        requires idle { pass.old.seat.me.0.holding ≡ false }
+        ensures lock { pass.new.seat.table_id ≡ pass.old.seat.table_id }
+        ensures holding { pass.new.seat.me.0.holding ≡ true }
+        ensures number { pass.new.seat.me.0.number ≡ pass.old.seat.me.0.number }
+        ensures label { pass.new.seat.me.0.label ≡ pass.old.seat.me.0.label }
+        ensures seen { Extends pass.old.seat.me.0.seen pass.new.seat.me.0.seen }
+        ensures mine { pass.new.seat.me.0.mine ≡ pass.old.seat.me.0.mine }
+        ensures own { pass.new.seat.me.0.mine ≡ rows_of T.number pass.new.seat.me.0.number pass.new.seat.me.0.seen }
+        ensures value { T.stands pass.new.seat.me.0.seen result }
+        ensures value_label { T.label result ≡ pass.old.seat.me.0.label }
+    {
+        let word = self.win(rt, &mut pass.seat);
+        pass.word = word;
+        self.slot_out(&mut pass.seat)
+    }
+
+    // Waits until the turn is taken. The word as it was found.
+    fn win<R: Wait>(&self, rt: &R, seat: &mut Seat<Option<T>, View<T::Row, T::Label>>) -> u64
+        requires lock { seat.old.table_id ≡ self.now.table.shared.table_id }
+        requires bare { seat.old.me.1 ≡ [] }
+        ensures lock { seat.new.table_id ≡ seat.old.table_id }
+        ensures took { Took T.stands T.number T.label seat.old.me seat.new.me result }
+    {
+        let shared = &self.table.shared;
+        for _ in rt.forever() {
+            let word = shared.peek(0);
+            if word % 2 == 0 {
+                if self.try_take(seat, word) {
+                    return word;
+                }
+            } else {
+                shared.park(rt, 0, (word & 0xffff_ffff) as u32);
+            }
+        }
+        unreachable!()
+    }
+
+    // Takes the turn if the word is this one.
+    fn try_take(&self, seat: &mut Seat<Option<T>, View<T::Row, T::Label>>, word: u64) -> bool
+        requires lock { seat.old.table_id ≡ self.now.table.shared.table_id }
+        requires bare { seat.old.me.1 ≡ [] }
+        requires free { word % 2 ≡ 0 }
+        ensures lock { seat.new.table_id ≡ seat.old.table_id }
+        ensures took { MatchBool result (Took T.stands T.number T.label seat.old.me seat.new.me word) (DidNotTake T.stands T.number T.label seat.old.me seat.new.me) }
+    {
+        let shared = &self.table.shared;
+        shared.compare_exchange::<Take<T>>(seat, 0, word, word + 1) == word
+    }
+
+    // Moves the value out of the slot.
+    fn slot_out(&self, seat: &mut Seat<Option<T>, View<T::Row, T::Label>>) -> T
+        requires lock { seat.old.table_id ≡ self.now.table.shared.table_id }
+        requires full { (value : T) × (seat.old.me.1 ≡ (0, Some value) ∷ []) }
+        ensures lock { seat.new.table_id ≡ seat.old.table_id }
+        ensures came_out { CameOut T.stands T.number T.label seat.old.me seat.new.me result }
+    {
+        self.table.shared.exchange(seat, 0, None).unwrap()
+    }
+
+    // Moves the value into the slot.
+    fn slot_in(&self, seat: &mut Seat<Option<T>, View<T::Row, T::Label>>, value: T)
+        requires lock { seat.old.table_id ≡ self.now.table.shared.table_id }
+        requires empty { seat.old.me.1 ≡ (0, None) ∷ [] }
+        ensures lock { seat.new.table_id ≡ seat.old.table_id }
+        ensures went_in { WentIn T.stands T.number T.label seat.old.me seat.new.me value }
+    {
+        let out = self.table.shared.exchange(seat, 0, Some(value));
+        let None = out else { unreachable!() };
+    }
+
+    /// Gives the turn back with the value, which stands for what the pass has seen with one row more.
+    pub fn give<S: Added<T::Row>>(&self, pass: &mut Pass<T>, value: T)
+        requires lock { pass.old.seat.table_id ≡ self.now.table.shared.table_id }
+        requires holding { pass.old.seat.me.0.holding ≡ true }
+        requires added { IsSome S.added }
+        requires number { IfSome S.added (λ row. T.number row ≡ pass.old.seat.me.0.number) }
+        requires value { IfSome S.added (λ row. T.stands (row ∷ pass.old.seat.me.0.seen) value) }
+        requires value_label { T.label value ≡ pass.old.seat.me.0.label }
+        ensures lock { pass.new.seat.table_id ≡ pass.old.seat.table_id }
+        ensures idle { pass.new.seat.me.0.holding ≡ false }
+        ensures number { pass.new.seat.me.0.number ≡ pass.old.seat.me.0.number }
+        ensures label { pass.new.seat.me.0.label ≡ pass.old.seat.me.0.label }
+        ensures seen { IfSome S.added (λ row. pass.new.seat.me.0.seen ≡ row ∷ pass.old.seat.me.0.seen) }
+        ensures mine { IfSome S.added (λ row. pass.new.seat.me.0.mine ≡ row ∷ pass.old.seat.me.0.mine) }
+        ensures own { pass.new.seat.me.0.mine ≡ rows_of T.number pass.new.seat.me.0.number pass.new.seat.me.0.seen }
+    {
+        self.slot_in(&mut pass.seat, value);
+        let word = next_word(pass.word);
+        self.release::<S>(&mut pass.seat, word);
+        pass.word = word;
+    }
+
+    // Makes the turn free, and wakes one that waits.
+    fn release<S: Added<T::Row>>(
+        &self,
+        seat: &mut Seat<Option<T>, View<T::Row, T::Label>>,
+        word: u64,
+    )
+        requires lock { seat.old.table_id ≡ self.now.table.shared.table_id }
+        requires word { word ≡ word_of (length seat.old.me.0.seen + 1) false }
+        requires ready { (row : T.Row) × (S.added ≡ Some row) × IsReady T.stands T.number T.label row seat.old.me }
+        ensures lock { seat.new.table_id ≡ seat.old.table_id }
+        ensures gave { (row : T.Row) × (S.added ≡ Some row) × Gave T.stands T.number T.label row seat.old.me seat.new.me }
+    {
+        let shared = &self.table.shared;
+        shared.swap::<Give<T, S>>(seat, 0, word);
+        shared.wake_one(0);
+    }
+
+    // Cuts a pass with the next number off the one that was made last.
+    fn next(
+        &self,
+        last: &mut Seat<Option<T>, View<T::Row, T::Label>>,
+    ) -> Seat<Option<T>, View<T::Row, T::Label>>
+        requires lock { last.old.table_id ≡ self.now.table.shared.table_id }
+        requires last { last.old.me.0.last ≡ true }
+        requires idle { last.old.me.0.holding ≡ false }
+        ensures lock { (last.new.table_id ≡ last.old.table_id) × (result.table_id ≡ last.old.table_id) }
+        ensures split { WasSplit last.old.me last.new.me result.me }
+    {
+        self.table.shared.split_seat::<Next>(last)
+    }
+
+    // As many passes as are wanted, cut off one after another.
+    fn cut(
+        &self,
+        mut passes: Vec<Pass<T>>,
+        first: Seat<Option<T>, View<T::Row, T::Label>>,
+        seats: usize,
+    ) -> Vec<Pass<T>>
+        requires none { passes.items ≡ [] }
+        requires room { seats ≤ vec_capacity passes }
+        requires some { 0 < seats }
+        requires lock { first.table_id ≡ self.now.table.shared.table_id }
+        requires fresh { IsFresh (T.label self.now.table.shared.key.value) 0 first.me }
+        requires last { first.me.0.last ≡ true }
+        ensures count { length result.items ≡ seats }
+        ensures passes { (i : ℕ) (pass : _) → slice_get result.items i ≡ Some pass → IsFresh (T.label self.now.table.shared.key.value) i pass.seat.me × (pass.seat.table_id ≡ self.now.table.shared.table_id) }
+    {
+        let mut last = first;
+        for _ in 1..seats {
+            let next = self.next(&mut last);
+            passes.push_reserved(new_pass(last));
+            last = next;
+        }
+        passes.push_reserved(new_pass(last));
+        passes
+    }
+
+    /// The lock round the value, and its passes, numbered from 0. Where no memory is found, the value comes back.
+    pub fn make_or_return(
+        alloc: Global,
+        seats: u32,
+        value: T,
+    ) -> Result<(TurnLock<T>, Passes<T>), Unmade<T>>
+        requires seats { (1 ≤ seats) × (seats ≤ 16) }
+        requires value { T.stands [] value }
+        ensures count { IfOk result (λ made. length made.1.passes.items ≡ seats) }
+        ensures fresh { IfOk result (λ made. (i : ℕ) (d : _) → i < length made.1.passes.items → IsFresh (T.label value) i (slice_index_or made.1.passes.items i d).seat.me) }
+        ensures lock { IfOk result (λ made. All (λ pass. pass.seat.table_id ≡ made.0.table.shared.table_id) made.1.passes.items) }
+        ensures back { IfErr result (λ unmade. unmade.value ≡ value) }
+    {
+        let Ok(passes) = Vec::with_capacity(alloc, seats as usize) else {
+            return Err(Unmade { value });
+        };
+        let Ok(mut slots) = Vec::with_capacity(alloc, 1) else {
+            return Err(Unmade { value });
+        };
+        let about = Snapshot::of(&value);
+        slots.push_reserved(Some(value));
+        let (table, seat) = match Table::new(alloc, &[0], slots, &about) {
+            Ok(made) => made,
+            Err(Refused { slots }) => {
+                return Err(Unmade { value: only(slots) });
+            }
+        };
+        let lock = TurnLock { table };
+        let passes = lock.cut(passes, seat, seats as usize);
+        Ok((lock, Passes::of(passes)))
+    }
+
+    /// Takes the lock apart, with one of its passes. The value comes back where the turn is free, and stands for a history that goes on from what this pass has seen.
+    pub fn end(self, pass: Pass<T>) -> Ended<T>
+        requires lock { pass.seat.table_id ≡ self.table.shared.table_id }
+        ensures value { IfFree result (λ value. (history : List T.Row) × Extends pass.seat.me.0.seen history × (pass.seat.me.0.mine ≡ rows_of T.number pass.seat.me.0.number history) × T.stands history value) }
+        ensures value_label { IfFree result (λ value. T.label value ≡ pass.seat.me.0.label) }
+    {
+        let TurnLock { table } = self;
+        let Pass { seat, word: _ } = pass;
+        let mut closed = table.close_with(seat);
+        let word = closed.word(0);
+        let found = closed.take(0);
+        closed.free();
+        if word % 2 != 0 {
+            return Ended::Held(found);
+        }
+        let Some(value) = found else { unreachable!() };
+        Ended::Free(value)
+    }
+}
+
+/// Of what two passes of one lock have seen, one is the other as it once was.
+pub fn seen_in_order<T: Replays>()
+    ensures { SeenInOrder T.stands T.number T.label }
+{}
+
+impl<T: Replays + Drop> TurnLock<T> {
+    ghost use Rattle.std.specs.Prelude.{◌≤◌, ◌<◌, length, IfOk, slice_index_or, All};
+    ghost use Rattle.turn_lock.specs.Passes.{IsFresh};
+
+    /// The lock round the value, and its passes, numbered from 0.
+    pub fn make(alloc: Global, seats: u32, value: T) -> Result<(TurnLock<T>, Passes<T>), Starved>
+        requires seats { (1 ≤ seats) × (seats ≤ 16) }
+        requires value { T.stands [] value }
+        ensures count { IfOk result (λ made. length made.1.passes.items ≡ seats) }
+        ensures fresh { IfOk result (λ made. (i : ℕ) (d : _) → i < length made.1.passes.items → IsFresh (T.label value) i (slice_index_or made.1.passes.items i d).seat.me) }
+        ensures lock { IfOk result (λ made. All (λ pass. pass.seat.table_id ≡ made.0.table.shared.table_id) made.1.passes.items) }
+    {
+        match TurnLock::make_or_return(alloc, seats, value) {
+            Ok(made) => Ok(made),
+            Err(Unmade { value: _ }) => Err(Starved),
+        }
+    }
+}

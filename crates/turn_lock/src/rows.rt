@@ -1,0 +1,36 @@
+//! What a value behind a lock stands for, and the row that a step adds.
+
+use std::marker::Brand;
+
+/// A value that stands for a list of rows, the newest first.
+pub trait Replays {
+    /// One step of one worker.
+    type Row;
+
+    /// Plain data that every value of one lock shows alike.
+    type Label;
+
+    ghost use Rattle.std.specs.Prelude.{ℕ, List};
+
+    // That the value stands for these rows.
+    ghost stands: { List Self.Row → Self → Type 0 };
+
+    // The number of the pass whose step the row is.
+    ghost number: { Self.Row → ℕ };
+
+    // The label that the value shows.
+    ghost label: { Self → Self.Label };
+}
+
+/// The row that a call of `give` adds, which contracts alone see. The call names it.
+pub trait Added<R> {
+    ghost use Rattle.std.specs.Prelude.{Option};
+
+    ghost added: { Option R };
+}
+
+impl<R> Added<R> for Brand {
+    ghost use Rattle.std.specs.Prelude.{None};
+
+    ghost added = { None };
+}

@@ -1,0 +1,150 @@
+//! Counters whose rows are their steps.
+ghost use Rattle.std.specs.Prelude.{◌≡◌, ℕ, ◌+◌, ◌*◌, ◌%◌, ◌^◌, ◌≤◌, [], true, false, length, All};
+
+use crate::{Ended, Pass, Replays, TurnLock};
+use std::marker::Brand;
+use std::sync::Wait;
+use std::test::Fail;
+use std::thread;
+use std::thread::Threads;
+
+/// How many steps each worker makes.
+const STEPS: u64 = 10_000;
+
+/// One step of a worker. No value of it is made.
+pub struct Tick {
+    /// The number of the worker's pass.
+    pub by: u64,
+}
+
+/// How many steps there were, up to 2^64.
+#[derive(Drop)]
+pub struct Counter {
+    /// The number of steps.
+    pub count: u64,
+    /// Which counter it is.
+    pub name: u64,
+}
+
+impl Replays for Counter {
+    type Row = Tick;
+
+    type Label = u64;
+
+    ghost use Rattle.std.specs.Prelude.{◌≡◌, ◌%◌, ◌^◌, length};
+
+    ghost stands = { λ rows counter. counter.count ≡ length rows % 2 ^ 64 };
+
+    ghost number = { λ row. row.by };
+
+    ghost label = { λ counter. counter.name };
+}
+
+// One step more. What the counter is then.
+fn step<R: Wait>(rt: &R, lock: &TurnLock<Counter>, pass: &mut Pass<Counter>) -> u64
+    requires lock { pass.old.seat.table_id ≡ lock.now.table.shared.table_id }
+    requires idle { pass.old.seat.me.0.holding ≡ false }
+    ensures lock { pass.new.seat.table_id ≡ pass.old.seat.table_id }
+    ensures idle { pass.new.seat.me.0.holding ≡ false }
+    ensures seen { result ≡ length pass.new.seat.me.0.seen % 2 ^ 64 }
+    ensures mine { length pass.new.seat.me.0.mine ≡ length pass.old.seat.me.0.mine + 1 }
+{
+    let mut counter = lock.take(rt, pass);
+    counter.count = counter.count.wrapping_add(1);
+    let count = counter.count;
+    give_back(lock, pass, counter);
+    count
+}
+
+// Gives the counter back, one step further.
+fn give_back(lock: &TurnLock<Counter>, pass: &mut Pass<Counter>, counter: Counter)
+    requires lock { pass.old.seat.table_id ≡ lock.now.table.shared.table_id }
+    requires holding { pass.old.seat.me.0.holding ≡ true }
+    requires count { counter.count ≡ (length pass.old.seat.me.0.seen + 1) % 2 ^ 64 }
+    requires name { counter.name ≡ pass.old.seat.me.0.label }
+    ensures lock { pass.new.seat.table_id ≡ pass.old.seat.table_id }
+    ensures idle { pass.new.seat.me.0.holding ≡ false }
+    ensures seen { length pass.new.seat.me.0.seen ≡ length pass.old.seat.me.0.seen + 1 }
+    ensures mine { length pass.new.seat.me.0.mine ≡ length pass.old.seat.me.0.mine + 1 }
+{
+    lock.give::<Brand>(pass, counter);
+}
+
+// As many steps as are wanted.
+fn steps<R: Wait>(rt: &R, lock: &TurnLock<Counter>, pass: &mut Pass<Counter>, count: u64)
+    requires lock { pass.old.seat.table_id ≡ lock.now.table.shared.table_id }
+    requires idle { pass.old.seat.me.0.holding ≡ false }
+    ensures lock { pass.new.seat.table_id ≡ pass.old.seat.table_id }
+    ensures idle { pass.new.seat.me.0.holding ≡ false }
+    ensures mine { length pass.new.seat.me.0.mine ≡ length pass.old.seat.me.0.mine + count }
+{
+    for _ in 0..count {
+        step(rt, lock, pass);
+    }
+}
+
+// All workers at once.
+fn all_at_once<R: Threads + Wait + Sync>(
+    rt: &R,
+    lock: &TurnLock<Counter>,
+    passes: &mut [Pass<Counter>],
+)
+    requires lock { All (λ pass. pass.seat.table_id ≡ lock.now.table.shared.table_id) passes.old }
+    requires idle { All (λ pass. pass.seat.me.0.holding ≡ false) passes.old }
+    ensures lock { All (λ pass. pass.seat.table_id ≡ lock.now.table.shared.table_id) passes.new }
+    ensures idle { All (λ pass. pass.seat.me.0.holding ≡ false) passes.new }
+{
+    thread::for_each_mut(
+        rt,
+        passes,
+        16,
+        &|_, pass: &mut Pass<Counter>| steps(rt, lock, pass, STEPS),
+    );
+}
+
+#[test]
+fn two_passes_in_turn(rt: HostRuntime) -> Result<(), Fail> {
+    let (lock, passes) = TurnLock::make(rt.alloc(), 2, Counter { count: 0, name: 7 })?;
+    let mut passes = passes.into_vec();
+    assert_eq!(rt; step(&rt, &lock, &mut passes[0]), 1);
+    assert_eq!(rt; step(&rt, &lock, &mut passes[1]), 2);
+    Ok(())
+}
+
+#[test]
+fn many_steps_at_once(rt: HostRuntime) -> Result<(), Fail> {
+    for workers in [2, 16] {
+        let (lock, passes) = TurnLock::make(rt.alloc(), workers, Counter { count: 0, name: 7 })?;
+        let mut passes = passes.into_vec();
+        all_at_once(&rt, &lock, passes.as_mut_slice());
+        let count = step(&rt, &lock, &mut passes[0]);
+        assert_eq!(rt; count, u64::from(workers) * STEPS + 1);
+    }
+    Ok(())
+}
+
+// Each pass makes its steps in one thread, then in another, and one of them here.
+#[test]
+fn passes_given_away(rt: HostRuntime) -> Result<(), Fail> {
+    let (lock, passes) = TurnLock::make(rt.alloc(), 2, Counter { count: 0, name: 7 })?;
+    let mut passes = passes.into_vec();
+    all_at_once(&rt, &lock, passes.as_mut_slice());
+    all_at_once(&rt, &lock, passes.as_mut_slice());
+    assert_eq!(rt; step(&rt, &lock, &mut passes[1]), 4 * STEPS + 1);
+    Ok(())
+}
+
+#[test]
+fn ends_with_its_value(rt: HostRuntime) -> Result<(), Fail> {
+    let (lock, mut passes) = TurnLock::make(rt.alloc(), 1, Counter { count: 0, name: 7 })?;
+    let Some(mut pass) = passes.take_first() else {
+        assert!(rt; false, "there is a pass");
+        unreachable!()
+    };
+    step(&rt, &lock, &mut pass);
+    match lock.end(pass) {
+        Ended::Free(counter) => assert_eq!(rt; counter.count, 1),
+        Ended::Held(_) => assert!(rt; false, "nobody holds the turn"),
+    }
+    Ok(())
+}

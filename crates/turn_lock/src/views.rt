@@ -1,0 +1,69 @@
+//! What a pass knows, and the rule that ties it to the word and the slot.
+
+use crate::rows::{Added, Replays};
+use atomic_table::{Play, Split, TableRule};
+use std::collections::LinkedList;
+use std::marker::PhantomData;
+use std::snapshot::Snapshot;
+
+/// What a pass knows. No value of it is made.
+pub struct View<R, L> {
+    /// The number of the pass, from 0.
+    pub number: u64,
+    /// The history as far as the pass knows it, the newest row first.
+    pub seen: LinkedList<R>,
+    /// The rows of `seen` that the pass has made.
+    pub mine: LinkedList<R>,
+    /// The label of the lock.
+    pub label: L,
+    /// Whether the pass holds the turn.
+    pub holding: bool,
+    /// Whether it is the pass that was made last.
+    pub last: bool,
+}
+
+/// The rule of the turn. No value of it is made.
+pub struct Turn<T> {
+    marker: PhantomData<T>,
+}
+
+impl<T: Replays> TableRule<Option<T>, View<T::Row, T::Label>, Snapshot<T>> for Turn<T> {
+    ghost use Rattle.turn_lock.specs.Rule.{Kept, first_view};
+
+    ghost holds = { λ key. Kept T.stands T.number T.label (T.label key.value) };
+
+    ghost first = { λ key. first_view (T.label key.value) };
+}
+
+/// The step that takes the turn, or fails to.
+pub struct Take<T> {
+    marker: PhantomData<T>,
+}
+
+impl<T: Replays> Play<Option<T>, View<T::Row, T::Label>> for Take<T> {
+    ghost use Rattle.turn_lock.specs.Steps.{Takes};
+
+    ghost then = { Takes T.stands T.number T.label };
+}
+
+/// The step that gives the turn back.
+pub struct Give<T, S> {
+    marker: PhantomData<(T, S)>,
+}
+
+impl<T: Replays, S: Added<T::Row>> Play<Option<T>, View<T::Row, T::Label>> for Give<T, S> {
+    ghost use Rattle.turn_lock.specs.Steps.{Gives};
+
+    ghost then = { Gives T.stands T.number T.label S.added };
+}
+
+/// The step that cuts a new pass off the one that was made last.
+pub struct Next;
+
+impl<R, L> Split<View<R, L>> for Next {
+    ghost use Rattle.turn_lock.specs.Steps.{kept_view, next_view};
+
+    ghost left = { kept_view };
+
+    ghost right = { next_view };
+}
