@@ -64,7 +64,12 @@ impl Arrivals {
     }
 
     /// Adds a copy of a datagram as the last. `Starved`: out of memory, and the list is as before.
-    pub(crate) fn push_copy(&mut self, alloc: Global, peer: Peer, octets: &[u8]) -> Result<(), Starved>
+    pub(crate) fn push_copy(
+        &mut self,
+        alloc: Global,
+        peer: Peer,
+        octets: &[u8],
+    ) -> Result<(), Starved>
         ensures ok { OnOk result (self.new ≡ self.old ++ (peer, octets.now) ∷ []) }
         ensures err { OnErr result (self.new ≡ self.old) }
     {

@@ -59,7 +59,10 @@ fn a_clock_gives_its_lists(rt: HostRuntime) -> Result<(), Fail> {
     let moments = Moments::of(vec![in alloc; Moment(5), Moment(9)]?);
     let words = Words::of(vec![in alloc; 3]?);
     let mut clock = MemClock::of(moments, words);
-    assert_eq!(rt; [clock.now(), clock.now(), clock.now()], [Moment(5), Moment(9), Moment(9)]);
+    assert_eq!(rt;
+        [clock.now(), clock.now(), clock.now()],
+        [Moment(5), Moment(9), Moment(9)]
+    );
     assert_eq!(rt; [clock.word(), clock.word()], [3, 3]);
     let mut clock = MemClock::of(Moments::of(Vec::new(alloc)), Words::of(Vec::new(alloc)));
     assert_eq!(rt; (clock.now(), clock.word()), (Moment(0), 0));

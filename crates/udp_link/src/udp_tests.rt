@@ -41,10 +41,8 @@ fn links_exchange_datagrams(rt: HostRuntime) -> Result<(), Fail> {
 #[test]
 fn an_absent_peer_is_no_fault(rt: HostRuntime) -> Result<(), Fail> {
     for host in ["127.0.0.1:0", "[::1]:0"] {
-        let (near, far) = (UdpSocket::bind(&rt, host)?, UdpSocket::bind(&rt, host)?);
-        let nobody = far.local_addr()?;
-        drop(far);
-        let told = UdpSocket::bind(&rt, host)?;
+        let (near, told) = (UdpSocket::bind(&rt, host)?, UdpSocket::bind(&rt, host)?);
+        let nobody = UdpSocket::bind(&rt, host)?.local_addr()?;
         told.connect(nobody)?;
         for socket in [near, told] {
             let mut link = UdpLink::of(Arc::new(rt.alloc(), socket)?);
