@@ -1,5 +1,5 @@
 -- What a clock gives of the list that it reads from.
-use Rattle.std.specs.Prelude.{◌≡◌, ℕ, ◌≤◌, ◌^◌, List, [], ◌∷◌}
+use Rattle.std.specs.Prelude.{◌≡◌, ◌≤◌, ◌^◌, List, [], ◌∷◌}
 use Rattle.rd_base.specs.declared.moments.Moment.{Moment}
 
 -- a moment that may be handed in, at most 10^15 milliseconds

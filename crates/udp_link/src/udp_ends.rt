@@ -1,6 +1,7 @@
 //! A link over a UDP socket, and a clock over the machine's time.
-ghost use Rattle.std.specs.Prelude.{◌≡◌, None};
+ghost use Rattle.std.specs.Prelude.{◌≡◌, ◌<◌, None, length};
 ghost use Rattle.udp_link.specs.Clocks.{IsHandedIn};
+ghost use Rattle.udp_link.specs.declared.links.TheConstants.{MAX_DATAGRAM};
 
 use crate::datagrams::deliver;
 use crate::failures::raised;
@@ -29,6 +30,7 @@ pub struct UdpLink {
     room: [u8; ROOM],
     recv_faults: u64,
     send_faults: u64,
+    ghost longer_is_told: { MAX_DATAGRAM < length room },
 }
 
 impl UdpLink {
