@@ -1,0 +1,4 @@
+pub mod Told
+pub mod Links
+pub mod Clocks
+pub mod Addresses

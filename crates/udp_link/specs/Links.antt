@@ -1,0 +1,51 @@
+-- What a call on a link may answer, and what is then known of the link.
+use Rattle.std.specs.Prelude.{◌≡◌, ℕ, ◌<◌, ◌≤◌, List, [], ◌∷◌, ◌++◌, length, take, ⊤}
+use Rattle.rd_base.specs.Outside.{Rose}
+use Rattle.rd_base.specs.declared.peers.Peer.{Peer}
+use Rattle.udp_link.specs.declared.links.TheConstants.{MAX_DATAGRAM}
+use Rattle.udp_link.specs.declared.links.Came.{Came}
+use Rattle.udp_link.specs.declared.links.Came.TheVariants as came
+use Rattle.udp_link.specs.declared.links.Went.{Went}
+use Rattle.udp_link.specs.declared.links.Went.TheVariants as went
+
+-- a datagram: the peer that it comes from or goes to, and its octets
+abbrev pub Datagram : Type 0
+Datagram = Peer × List ℕ
+
+-- no datagram that is handed over is longer than the limit
+abbrev pub IsWithinLimit : Came → Type 0
+IsWithinLimit (came.Datagram peer n) = n ≤ MAX_DATAGRAM
+IsWithinLimit came.TooLong = ⊤
+IsWithinLimit came.Nothing = ⊤
+IsWithinLimit came.Failed = ⊤
+
+-- A receive takes the first datagram off those that are coming: it hands it over whole, or it is longer than the limit and lost. Nothing comes only where none is left. A failure takes none.
+abbrev pub TakesFirst : Came → List ℕ → List Datagram → List Datagram → Type 0
+TakesFirst (came.Datagram peer n) into before now = before ≡ (peer, take n into) ∷ now
+TakesFirst came.TooLong into before now = (long : Datagram) × ((MAX_DATAGRAM < length long.1) × (before ≡ long ∷ now))
+TakesFirst came.Nothing into before now = (before ≡ []) × (now ≡ [])
+TakesFirst came.Failed into before now = now ≡ before
+
+-- What was sent stands at the end of what is gone. A failure adds nothing.
+abbrev pub AddsLast : Went → Datagram → List Datagram → List Datagram → Type 0
+AddsLast went.Sent datagram before now = now ≡ before ++ datagram ∷ []
+AddsLast went.Failed datagram before now = now ≡ before
+
+-- a receive failed only where the count rose, and otherwise the count stands
+abbrev pub CountsReceived : ℕ → ℕ → Came → Type 0
+CountsReceived before now (came.Datagram peer n) = now ≡ before
+CountsReceived before now came.TooLong = now ≡ before
+CountsReceived before now came.Nothing = now ≡ before
+CountsReceived before now came.Failed = (before ≤ now) × Rose before now
+
+-- a send failed only where the count rose, and otherwise the count stands
+abbrev pub CountsSent : ℕ → ℕ → Went → Type 0
+CountsSent before now went.Sent = now ≡ before
+CountsSent before now went.Failed = (before ≤ now) × Rose before now
+
+-- this datagram was handed over whole, or it is longer than the limit
+abbrev pub IsDelivered : Came → Datagram → List ℕ → Type 0
+IsDelivered (came.Datagram peer n) datagram into = (n ≤ MAX_DATAGRAM) × ((peer, take n into) ≡ datagram)
+IsDelivered came.TooLong datagram into = MAX_DATAGRAM < length datagram.1
+IsDelivered came.Nothing datagram into = ⊥
+IsDelivered came.Failed datagram into = ⊥

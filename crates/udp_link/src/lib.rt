@@ -1,0 +1,26 @@
+//! The outside of a server: links, over which datagrams come and go, and clocks; in memory, and over a socket and the machine's time.
+#![tactic(auto)]
+
+mod clock_lists;
+mod clocks;
+mod datagrams;
+mod failures;
+mod links;
+mod memory_clock;
+mod memory_link;
+mod receive_room;
+mod socket_addresses;
+mod udp_ends;
+
+pub use clock_lists::{Moments, Words};
+pub use clocks::{Clock, LAST_MOMENT};
+pub use datagrams::Arrivals;
+pub use links::{Came, Link, MAX_DATAGRAM, Went};
+pub use memory_clock::MemClock;
+pub use memory_link::MemLink;
+pub use udp_ends::{UdpClock, UdpLink};
+
+#[cfg(test)]
+mod memory_tests;
+#[cfg(test)]
+mod udp_tests;

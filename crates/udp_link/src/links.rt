@@ -1,0 +1,62 @@
+//! Links: where datagrams come from and go to.
+ghost use Rattle.std.specs.Prelude.{◌≡◌, ◌≤◌, ℕ, List, Option, length};
+ghost use Rattle.udp_link.specs.Told.{WhereTold, Stays};
+ghost use Rattle.udp_link.specs.Links.{Datagram, IsWithinLimit, TakesFirst, AddsLast, CountsReceived, CountsSent};
+
+use rd_base::Peer;
+
+/// The longest datagram that is read, in octets.
+pub const MAX_DATAGRAM: usize = 4096;
+
+/// What a call of `Link::recv` gave.
+#[derive(Clone, Copy, Debug, PartialEq, Eq)]
+pub enum Came {
+    /// A datagram of this peer with so many octets, at most 4,096.
+    Datagram(Peer, usize),
+    /// A datagram of more than 4,096 octets, which is lost.
+    TooLong,
+    /// No datagram, for as long as the link waits for one.
+    Nothing,
+    /// The receive failed, and the link has counted it.
+    Failed,
+}
+
+/// What a call of `Link::send` did.
+#[derive(Clone, Copy, Debug, PartialEq, Eq)]
+pub enum Went {
+    /// The datagram was sent.
+    Sent,
+    /// The send failed, and the link has counted it. The datagram is lost.
+    Failed,
+}
+
+/// Where datagrams come from and go to.
+pub trait Link {
+    /// The datagrams that are still to come, where they are known.
+    ghost coming: { Self → Option (List Datagram) };
+
+    /// The datagrams that were sent so far, where they are known.
+    ghost gone: { Self → Option (List Datagram) };
+
+    /// How many receives failed so far. It never falls, and stands at the last value of 64 bits.
+    ghost recv_faults: { Self → ℕ };
+
+    /// How many sends failed so far. It never falls, and stands at the last value of 64 bits.
+    ghost send_faults: { Self → ℕ };
+
+    /// Receives a datagram, and puts its octets at the beginning of `into`.
+    fn recv(&mut self, into: &mut [u8]) -> Came
+        requires { MAX_DATAGRAM ≤ length into.old }
+        ensures within { IsWithinLimit result }
+        ensures takes { WhereTold (TakesFirst result into.new) (coming self.old) (coming self.new) }
+        ensures cause { CountsReceived (recv_faults self.old) (recv_faults self.new) result }
+        ensures sent_stays { Stays (gone self.old) (gone self.new) }
+        ensures sends_stand { send_faults self.new ≡ send_faults self.old };
+
+    /// Sends `piece` to `peer` as one datagram.
+    fn send(&mut self, peer: Peer, piece: &[u8]) -> Went
+        ensures adds { WhereTold (AddsLast result (peer, piece.now)) (gone self.old) (gone self.new) }
+        ensures cause { CountsSent (send_faults self.old) (send_faults self.new) result }
+        ensures coming_stays { Stays (coming self.old) (coming self.new) }
+        ensures receives_stand { recv_faults self.new ≡ recv_faults self.old };
+}
