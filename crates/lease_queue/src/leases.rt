@@ -1,8 +1,8 @@
 //! Leases and their order.
-ghost use Rattle.std.specs.Prelude.{◌≡◌};
-ghost use Rattle.lease_queue.specs.Leases as order;
+ghost use Rattle.std.specs.Prelude.{◌≡◌, IfOk};
 
-use rd_base::Moment;
+use chunk_map::Shared;
+use rd_base::{Moment, Starved};
 
 /// A lease: the moment at which it lapses, and the number of its registration. Leases are ordered by their lapse,
 /// those of one lapse by their number.
@@ -14,9 +14,9 @@ pub struct Lease {
     pub number: u64,
 }
 
-/// Whether the first lease stands before the second.
-pub(crate) fn is_before(lease: &Lease, other: &Lease) -> bool
-    ensures { result ≡ order.is_before lease.now other.now }
-{
-    lease < other
+/// A lease is two numbers, which cost nothing.
+impl Shared for Lease {
+    fn share(&self) -> Result<Lease, Starved> {
+        Ok(*self)
+    }
 }
