@@ -1,5 +1,5 @@
 -- Queues of leases: where they are cut, what is put and taken, and that they ascend.
-use Rattle.std.proofs.Common.{◌≡◌, ◌≢◌, ℕ, suc, ◌≤◌, Bool, true, false, not, cond, List, [], ◌∷◌, ◌++◌, length, map, filter, refl, sym, ap, ◌∙◌, subst, ◌⊎◌, inl, inr, arith}
+use Rattle.std.proofs.Common.{◌≡◌, ◌≢◌, ℕ, suc, ◌≤◌, Bool, true, false, not, cond, List, [], ◌∷◌, ◌++◌, length, map, filter, refl, sym, ap, ◌∙◌, subst, ◌⊎◌, inl, inr, Option, Some, None, IfNone, append_assoc, append-nil, arith}
 use Rattle.std.specs.declared.cmp.Ordering.{Ordering}
 use Rattle.std.specs.declared.cmp.Ordering.TheVariants.{Less, Equal, Greater}
 use Rattle.std.specs.Ordering.{MatchOrdering, match_ordering, is_eq}
@@ -223,3 +223,24 @@ lapsed_within now (x ∷ xs) = by (has_lapsed now x) (lapsed_within now xs)
     by : (t : Bool) → length (lapsed_at now xs) ≤ length xs → length (map (λ y. y.number) (cond t (x ∷ filter (has_lapsed now) xs) (filter (has_lapsed now) xs))) ≤ suc (length xs)
     by true more = omega arith
     by false more = omega arith
+
+-- ---- what a cursor says
+
+pub none_holds : {X P : Type 0} (r : Option X) → P → IfNone r P
+none_holds None p = p
+none_holds (Some x) p = tt
+
+pub numbers_on : (before : List ℕ) (number : ℕ) (after : List ℕ) → (before ++ number ∷ []) ++ after ≡ before ++ number ∷ after
+numbers_on before number after = append_assoc before (number ∷ []) after
+
+pub numbers_end : (before after : List ℕ) → after ≡ [] → before ≡ before ++ after
+numbers_end before after end = sym (ap (λ more. before ++ more) end ∙ append-nil before)
+
+-- what is left where the next lease has not lapsed, and where there is none
+pub nothing_left : (now : ℕ) (x : Lease) (xs all : List Lease) → all ≡ x ∷ xs → IsAscending all → has_lapsed now x ≡ false → (lapsed_at now all ≡ []) × (unlapsed_at now all ≡ all)
+nothing_left now x xs all is up h =
+    let ascends = subst IsAscending is up in
+    (ap (lapsed_at now) is ∙ (lapsed_end now x xs ascends h).0, ap (unlapsed_at now) is ∙ unlapsed_end now x xs ascends h ∙ sym is)
+
+pub none_left : (now : ℕ) (all : List Lease) → all ≡ [] → (lapsed_at now all ≡ []) × (unlapsed_at now all ≡ all)
+none_left now all is = (ap (lapsed_at now) is ∙ lapsed_empty now, ap (unlapsed_at now) is ∙ unlapsed_empty now ∙ sym is)

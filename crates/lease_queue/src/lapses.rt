@@ -4,6 +4,7 @@ ghost use Rattle.std.specs.Map.{keys_of};
 ghost use Rattle.lease_queue.specs.Leases.{IsAscending, lapsed_at};
 
 use crate::Lease;
+use crate::leases::has_lapsed;
 use chunk_map::RangeIter;
 use rd_base::{Moment, Steps};
 use std::marker::Model;
@@ -34,7 +35,7 @@ impl<'a> LapsedIter<'a> {
     /// A cursor over the numbers of those of these leases that have lapsed at this moment.
     pub(crate) fn over(left: RangeIter<'a, Lease, ()>, now: Moment) -> LapsedIter<'a>
         requires { IsAscending (keys_of left) }
-        ensures { result ≡ lapsed_at now.0 (keys_of left) }
+        ensures { result ≡ lapsed_at now.0 (keys_of left.entry) }
     {
         LapsedIter { left, now }
     }
@@ -46,11 +47,10 @@ impl<'a> LapsedIter<'a> {
         ensures counted { steps.new ≡ steps.old + 1 }
     {
         let (lease, _) = self.left.step(steps)?;
-        if lease.lapse <= self.now {
-            Some(lease.number)
-        } else {
-            None
+        if !has_lapsed(lease, self.now) {
+            return None;
         }
+        Some(lease.number)
     }
 
     /// How many numbers are left, which are not more than `most`.
@@ -59,7 +59,7 @@ impl<'a> LapsedIter<'a> {
         requires name { blank.name ≡ L.name }
         requires parts { blank.parts ≡ L.parts }
         requires some { 0 < L.parts }
-        ensures { result ≡ length self }
+        ensures { result ≡ length self.entry }
     {
         let mut steps = Steps::<L>::new(blank);
         let mut count = 0;

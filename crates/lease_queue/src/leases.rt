@@ -1,5 +1,6 @@
 //! Leases and their order.
 ghost use Rattle.std.specs.Prelude.{◌≡◌, IfOk};
+ghost use Rattle.lease_queue.specs.Leases as order;
 
 use chunk_map::Shared;
 use rd_base::{Moment, Starved};
@@ -19,4 +20,11 @@ impl Shared for Lease {
     fn share(&self) -> Result<Lease, Starved> {
         Ok(*self)
     }
+}
+
+/// Whether the lease has lapsed at this moment, which may be that of its lapse.
+pub(crate) fn has_lapsed(lease: &Lease, now: Moment) -> bool
+    ensures { result ≡ order.has_lapsed now.0 lease.now }
+{
+    lease.lapse <= now
 }

@@ -4,6 +4,7 @@ ghost use Rattle.std.specs.Map.{keys_of};
 ghost use Rattle.lease_queue.specs.declared.leases.Lease.{Lease};
 ghost use Rattle.lease_queue.specs.Leases.{IsAscending, with_lease, without_lease, lapsed_at, unlapsed_at};
 
+use crate::leases::has_lapsed;
 use crate::{LapsedIter, Lease};
 use chunk_map::{ChunkMap, RangeIter};
 use rd_base::{Moment, Starved, Steps};
@@ -133,7 +134,7 @@ impl LeaseQueue {
         let mut numbers = Vec::new(self.alloc);
         let mut all = self.all();
         while let Some((lease, _)) = all.step(steps) {
-            if lease.lapse > now {
+            if !has_lapsed(lease, now) {
                 break;
             }
             queue = queue.take(lease.lapse, lease.number)?;
