@@ -1,0 +1,34 @@
+-- Pairs in ascending order of their keys.
+use Rattle.std.specs.Prelude.{◌≡◌, Bool, false, List, [], ◌∷◌, Option, Some, None}
+use Rattle.std.specs.List.{AllByRecursion}
+use Rattle.std.specs.declared.cmp.Ordering.{Ordering}
+use Rattle.std.specs.declared.cmp.Ordering.TheVariants.{Less, Greater}
+use Rattle.std.specs.Ordering.{is_ge}
+
+-- each key is below all that follow it: so the pairs are sorted, and no key is there twice
+unfoldable pub IsAscending : {K V : Type 0} → (K → K → Ordering) → List (K × V) → Type 0
+IsAscending cmp [] = Unit {0}
+IsAscending cmp (e ∷ es) = AllByRecursion (λ x. cmp e.0 x.0 ≡ Less) es × IsAscending cmp es
+
+-- there is something in the list
+abbrev pub HasAny : {X : Type 0} → List X → Type 0
+HasAny [] = ⊥
+HasAny (x ∷ xs) = Unit {0}
+
+-- the first key is not above this one
+abbrev pub begins_by : {K V : Type 0} → (K → K → Ordering) → List (K × V) → K → Bool
+begins_by cmp [] key = false
+begins_by cmp (e ∷ es) key = is_ge (cmp key e.0)
+
+-- the key is above all of these
+abbrev pub AllGreater : {K V : Type 0} → (K → K → Ordering) → K → List (K × V) → Type 0
+AllGreater cmp key es = AllByRecursion (λ e. cmp key e.0 ≡ Greater) es
+
+-- the key is below all of these
+abbrev pub AllLess : {K V : Type 0} → (K → K → Ordering) → K → List (K × V) → Type 0
+AllLess cmp key es = AllByRecursion (λ e. cmp key e.0 ≡ Less) es
+
+-- what the part shows, where there is one
+abbrev pub option_flat : {P E : Type 0} → (P → List E) → Option P → List E
+option_flat pairs None = []
+option_flat pairs (Some p) = pairs p

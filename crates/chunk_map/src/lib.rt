@@ -1,0 +1,16 @@
+//! Sorted maps as versions that never change. A version shares with the next one all that did not change, and a change
+//! costs about the same whatever the number of pairs.
+#![tactic(auto)]
+
+mod map;
+mod part;
+mod parts;
+mod range;
+mod shared;
+
+pub use map::ChunkMap;
+pub use range::RangeIter;
+pub use shared::Shared;
+
+#[cfg(test)]
+mod tests;

@@ -1,0 +1,272 @@
+//! Lists of parts: the parts of a chunk, of a group and of a map.
+ghost use Rattle.std.specs.Prelude.{◌≡◌, ◌<◌, ◌+◌, List, [], ◌∷◌, ◌++◌, length, take, drop, IfOk, OnOk, IfSome, IfNone, option_map};
+ghost use Rattle.std.specs.List.{All, flat_map};
+ghost use Rattle.std.specs.Map.{lookup, remove_entry};
+ghost use Rattle.std.specs.BTreeMap.{insert_entry, is_at};
+ghost use Rattle.std.specs.BTreeMap.Range.{entries_from};
+ghost use Rattle.chunk_map.specs.Sorted.{IsAscending, AllGreater, AllLess, option_flat};
+
+use crate::part::Part;
+use rd_base::Starved;
+use std::alloc::Global;
+
+/// The greatest number of parts that a list keeps: with one more it is split in two.
+pub(crate) const MOST_PARTS: usize = 64;
+
+/// How many parts the first list keeps when a list is split in two.
+const SPLIT_PARTS: usize = 32;
+
+/// The greatest number of parts together with which two lists that stand side by side are joined.
+pub(crate) const JOINED_PARTS: usize = 48;
+
+/// The index of the part where this key stands, or would stand.
+pub(crate) fn find<K: Ord + Drop, V: Drop, P: Part<K, V>>(parts: &[P], key: &K) -> usize
+    requires any { 0 < length parts.now }
+    requires whole { All P.is_whole parts.now }
+    requires ascends { IsAscending K.cmp (flat_map P.pairs parts.now) }
+    ensures bound { result < length parts.now }
+    ensures front { AllGreater K.cmp key.now (flat_map P.pairs (take result parts.now)) }
+    ensures behind { AllLess K.cmp key.now (flat_map P.pairs (drop (result + 1) parts.now)) }
+{
+    let mut low = 0;
+    let mut high = parts.len();
+    while low < high - 1 {
+        let middle = low + (high - low) / 2;
+        if parts[middle].begins_by(key) {
+            low = middle;
+        } else {
+            high = middle;
+        }
+    }
+    low
+}
+
+/// Appends parts that show the same pairs as these, one for each.
+fn append<K: Ord + Drop, V: Drop, P: Part<K, V>>(
+    parts: &mut Vec<P>,
+    more: &[P],
+) -> Result<(), Starved>
+    requires whole { All P.is_whole parts.old.items }
+    requires more_whole { All P.is_whole more.now }
+    ensures pairs { OnOk result (flat_map P.pairs parts.new.items ≡ flat_map P.pairs parts.old.items ++ flat_map P.pairs more.now) }
+    ensures whole { OnOk result (All P.is_whole parts.new.items) }
+    ensures length { OnOk result (length parts.new.items ≡ length parts.old.items + length more.now) }
+{
+    for part in more {
+        let part = part.again()?;
+        parts.push(part)?;
+    }
+    Ok(())
+}
+
+/// Appends the part, where there is one.
+fn append_some<K: Ord + Drop, V: Drop, P: Part<K, V>>(
+    parts: &mut Vec<P>,
+    part: Option<P>,
+) -> Result<(), Starved>
+    requires whole { All P.is_whole parts.old.items }
+    requires part_whole { IfSome part P.is_whole }
+    ensures pairs { OnOk result (flat_map P.pairs parts.new.items ≡ flat_map P.pairs parts.old.items ++ option_flat P.pairs part) }
+    ensures whole { OnOk result (All P.is_whole parts.new.items) }
+    ensures length { OnOk result (length parts.old.items + length (option_flat (λ p. p ∷ []) part) ≡ length parts.new.items) }
+{
+    match part {
+        None => Ok(()),
+        Some(part) => Ok(parts.push(part)?),
+    }
+}
+
+/// Parts that show the same pairs as these, one for each.
+pub(crate) fn copied<K: Ord + Drop, V: Drop, P: Part<K, V>>(
+    alloc: Global,
+    parts: &[P],
+) -> Result<Vec<P>, Starved>
+    requires whole { All P.is_whole parts.now }
+    ensures pairs { IfOk result (λ copy. flat_map P.pairs copy.items ≡ flat_map P.pairs parts.now) }
+    ensures whole { IfOk result (λ copy. All P.is_whole copy.items) }
+    ensures length { IfOk result (λ copy. length copy.items ≡ length parts.now) }
+{
+    let mut copy = Vec::with_capacity(alloc, parts.len())?;
+    append(&mut copy, parts)?;
+    Ok(copy)
+}
+
+/// Parts that show the same pairs as these and then as those, one for each.
+pub(crate) fn join<K: Ord + Drop, V: Drop, P: Part<K, V>>(
+    alloc: Global,
+    parts: &[P],
+    more: &[P],
+) -> Result<Vec<P>, Starved>
+    requires whole { All P.is_whole parts.now }
+    requires more_whole { All P.is_whole more.now }
+    ensures pairs { IfOk result (λ joined. flat_map P.pairs joined.items ≡ flat_map P.pairs parts.now ++ flat_map P.pairs more.now) }
+    ensures whole { IfOk result (λ joined. All P.is_whole joined.items) }
+    ensures length { IfOk result (λ joined. length joined.items ≡ length parts.now + length more.now) }
+{
+    let mut joined = Vec::with_capacity(alloc, usize::saturating_add(parts.len(), more.len()))?;
+    append(&mut joined, parts)?;
+    append(&mut joined, more)?;
+    Ok(joined)
+}
+
+/// The first part, and those after it.
+pub(crate) fn first<'a, K: Ord + Drop, V: Drop, P: Part<K, V>>(parts: &'a [P]) -> (&'a P, &'a [P])
+    requires any { 0 < length parts.now }
+    requires whole { All P.is_whole parts.now }
+    ensures pairs { flat_map P.pairs parts.now ≡ P.pairs result.0.now ++ flat_map P.pairs result.1.now }
+    ensures whole { P.is_whole result.0.now × All P.is_whole result.1.now }
+{
+    (&parts[0], &parts[1..])
+}
+
+/// The part where this key stands or would stand, and those after it; None if and only if there is no part.
+pub(crate) fn cut<'a, K: Ord + Drop, V: Drop, P: Part<K, V>>(
+    parts: &'a [P],
+    key: &K,
+) -> Option<(&'a P, &'a [P])>
+    requires whole { All P.is_whole parts.now }
+    requires ascends { IsAscending K.cmp (flat_map P.pairs parts.now) }
+    ensures none { IfNone result (flat_map P.pairs parts.now ≡ []) }
+    ensures pairs { IfSome result (λ cut. entries_from (K.cmp key.now) (flat_map P.pairs parts.now) ≡ entries_from (K.cmp key.now) (P.pairs cut.0.now) ++ flat_map P.pairs cut.1.now) }
+    ensures whole { IfSome result (λ cut. P.is_whole cut.0.now × All P.is_whole cut.1.now) }
+    ensures ascends { IfSome result (λ cut. IsAscending K.cmp (P.pairs cut.0.now)) }
+{
+    if parts.is_empty() {
+        return None;
+    }
+    let at = find(parts, key);
+    Some((&parts[at], &parts[at + 1..]))
+}
+
+/// The value at this key, where the key is there.
+pub(crate) fn get<'a, K: Ord + Drop, V: Drop, P: Part<K, V>>(
+    parts: &'a [P],
+    key: &K,
+) -> Option<&'a V>
+    requires whole { All P.is_whole parts.now }
+    requires ascends { IsAscending K.cmp (flat_map P.pairs parts.now) }
+    ensures { option_map (λ v. v.now) result ≡ lookup (is_at (K.cmp key.now)) (flat_map P.pairs parts.now) }
+{
+    if parts.is_empty() {
+        return None;
+    }
+    let at = find(parts, key);
+    parts[at].get(key)
+}
+
+/// Parts that show the pairs of these with this value at this key.
+pub(crate) fn with_key<K: Ord + Drop, V: Drop, P: Part<K, V>>(
+    alloc: Global,
+    parts: &[P],
+    key: K,
+    value: V,
+) -> Result<Vec<P>, Starved>
+    requires whole { All P.is_whole parts.now }
+    requires ascends { IsAscending K.cmp (flat_map P.pairs parts.now) }
+    ensures pairs { IfOk result (λ put. flat_map P.pairs put.items ≡ insert_entry K.cmp (flat_map P.pairs parts.now) key value) }
+    ensures whole { IfOk result (λ put. All P.is_whole put.items) }
+    ensures any { IfOk result (λ put. 0 < length put.items) }
+{
+    let mut put = Vec::with_capacity(alloc, usize::saturating_add(parts.len(), 1))?;
+    if parts.is_empty() {
+        put.push(P::one(alloc, key, value)?)?;
+        return Ok(put);
+    }
+    let at = find(parts, &key);
+    let (first, second) = parts[at].put(alloc, key, value)?;
+    append(&mut put, &parts[..at])?;
+    append_some(&mut put, Some(first))?;
+    append_some(&mut put, second)?;
+    append(&mut put, &parts[at + 1..])?;
+    Ok(put)
+}
+
+/// Joins a part with the last of those before it, where the two are small: what is left before it, and the part.
+fn join_front<'a, K: Ord + Drop, V: Drop, P: Part<K, V>>(
+    alloc: Global,
+    front: &'a [P],
+    part: Option<P>,
+) -> Result<(&'a [P], Option<P>), Starved>
+    requires whole { All P.is_whole front.now }
+    requires part_whole { IfSome part P.is_whole }
+    ensures pairs { IfOk result (λ joined. flat_map P.pairs joined.0.now ++ option_flat P.pairs joined.1 ≡ flat_map P.pairs front.now ++ option_flat P.pairs part) }
+    ensures whole { IfOk result (λ joined. All P.is_whole joined.0.now) }
+    ensures part_whole { IfOk result (λ joined. IfSome joined.1 P.is_whole) }
+{
+    let Some(part) = part else {
+        return Ok((front, None));
+    };
+    let Some((last, before)) = front.split_last() else {
+        return Ok((front, Some(part)));
+    };
+    match last.joined(alloc, &part)? {
+        None => Ok((front, Some(part))),
+        Some(joined) => Ok((before, Some(joined))),
+    }
+}
+
+/// Joins a part with the first of those after it, where the two are small: the part, and what is left after it.
+fn join_behind<'a, K: Ord + Drop, V: Drop, P: Part<K, V>>(
+    alloc: Global,
+    part: Option<P>,
+    behind: &'a [P],
+) -> Result<(Option<P>, &'a [P]), Starved>
+    requires whole { All P.is_whole behind.now }
+    requires part_whole { IfSome part P.is_whole }
+    ensures pairs { IfOk result (λ joined. option_flat P.pairs joined.0 ++ flat_map P.pairs joined.1.now ≡ option_flat P.pairs part ++ flat_map P.pairs behind.now) }
+    ensures whole { IfOk result (λ joined. All P.is_whole joined.1.now) }
+    ensures part_whole { IfOk result (λ joined. IfSome joined.0 P.is_whole) }
+{
+    let Some(part) = part else {
+        return Ok((None, behind));
+    };
+    let Some((next, after)) = behind.split_first() else {
+        return Ok((Some(part), behind));
+    };
+    match part.joined(alloc, next)? {
+        None => Ok((Some(part), behind)),
+        Some(joined) => Ok((Some(joined), after)),
+    }
+}
+
+/// Parts that show the pairs of these without this key.
+pub(crate) fn without_key<K: Ord + Drop, V: Drop, P: Part<K, V>>(
+    alloc: Global,
+    parts: &[P],
+    key: &K,
+) -> Result<Vec<P>, Starved>
+    requires whole { All P.is_whole parts.now }
+    requires ascends { IsAscending K.cmp (flat_map P.pairs parts.now) }
+    ensures pairs { IfOk result (λ left. flat_map P.pairs left.items ≡ remove_entry (is_at (K.cmp key.now)) (flat_map P.pairs parts.now)) }
+    ensures whole { IfOk result (λ left. All P.is_whole left.items) }
+{
+    let mut left = Vec::with_capacity(alloc, parts.len())?;
+    if parts.is_empty() {
+        return Ok(left);
+    }
+    let at = find(parts, key);
+    let kept = parts[at].take(alloc, key)?;
+    let (front, kept) = join_front(alloc, &parts[..at], kept)?;
+    let (kept, behind) = join_behind(alloc, kept, &parts[at + 1..])?;
+    append(&mut left, front)?;
+    append_some(&mut left, kept)?;
+    append(&mut left, behind)?;
+    Ok(left)
+}
+
+/// The parts in one list, or in two where they are too many for one.
+pub(crate) fn split<K: Ord + Drop, V: Drop, P: Part<K, V>>(
+    mut parts: Vec<P>,
+) -> Result<(Vec<P>, Option<Vec<P>>), Starved>
+    requires any { 0 < length parts.items }
+    requires whole { All P.is_whole parts.items }
+    ensures pairs { IfOk result (λ split. flat_map P.pairs split.0.items ++ option_flat (λ back. flat_map P.pairs back.items) split.1 ≡ flat_map P.pairs parts.items) }
+    ensures any { IfOk result (λ split. (0 < length split.0.items) × IfSome split.1 (λ back. 0 < length back.items)) }
+    ensures whole { IfOk result (λ split. All P.is_whole split.0.items × IfSome split.1 (λ back. All P.is_whole back.items)) }
+{
+    if parts.len() <= MOST_PARTS {
+        return Ok((parts, None));
+    }
+    let back = parts.split_off(SPLIT_PARTS)?;
+    Ok((parts, Some(back)))
+}

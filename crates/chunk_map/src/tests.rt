@@ -1,0 +1,149 @@
+//! Maps put, taken and walked.
+
+ghost use Rattle.std.specs.Prelude.{◌≡◌, ◌<◌};
+
+use super::*;
+use rd_base::{Starved, Steps};
+use std::alloc::Global;
+use std::collections::BTreeMap;
+use std::marker::Brand;
+use std::sync::ledger::{Blank, Ledger};
+use std::test::Fail;
+
+/// What is done to the map, a key, and the pairs from that key on.
+const CASES: &str = "\
+take 1|0|
+put 5 50|0|5 50
+put 5 51|5|5 51
+take 4|5|5 51
+take 5|0|
+put 3 30|0|3 30
+put 2 20|0|2 20 3 30
+put 1 10|2|2 20 3 30
+put 18446744073709551615 9|4|18446744073709551615 9
+put 0 8|18446744073709551615|18446744073709551615 9
+take 18446744073709551615|4|
+put 2 21|0|0 8 1 10 2 21 3 30
+take 2|2|3 30";
+
+/// The map after a change that is written as a word and its numbers.
+fn changed(map: &ChunkMap<u64, u64>, change: &str) -> Result<ChunkMap<u64, u64>, Fail> {
+    let (word, rest) = change.split_once(' ').ok_or("no key")?;
+    match rest.split_once(' ') {
+        Some((key, value)) => Ok(map.put(key.parse()?, value.parse()?)?),
+        None => {
+            if word != "take" {
+                return Err(Fail::from("no take"));
+            }
+            let key: u64 = rest.parse()?;
+            Ok(map.take(&key)?)
+        }
+    }
+}
+
+/// The numbers that words write.
+fn numbers_of(alloc: Global, text: &str) -> Result<Vec<u64>, Fail> {
+    let mut numbers = Vec::new(alloc);
+    for word in text.split_whitespace() {
+        let number: u64 = word.parse()?;
+        numbers.push(number)?;
+    }
+    Ok(numbers)
+}
+
+/// The keys and values of the pairs from this key on, one after another.
+fn pairs_from<L: Ledger>(
+    blank: Blank,
+    alloc: Global,
+    map: &ChunkMap<u64, u64>,
+    from: u64,
+) -> Result<Vec<u64>, Starved>
+    requires name { blank.name ≡ L.name }
+    requires parts { blank.parts ≡ L.parts }
+    requires some { 0 < L.parts }
+{
+    let mut steps = Steps::<L>::new(blank);
+    let mut left = map.range(&from);
+    let mut pairs = Vec::new(alloc);
+    while let Some((key, value)) = left.step(&mut steps) {
+        pairs.push(*key)?;
+        pairs.push(*value)?;
+    }
+    Ok(pairs)
+}
+
+/// Pairs stand in the order of their keys.
+#[test]
+fn pairs_in_order(rt: HostRuntime) -> Result<(), Fail> {
+    let mut map = ChunkMap::empty(rt.alloc())?;
+    let mut count = 0;
+    for case in CASES.lines() {
+        let (change, rest) = case.split_once('|').ok_or("no change")?;
+        let (from, numbers) = rest.split_once('|').ok_or("no key")?;
+        map = changed(&map, change)?;
+        let from = from.parse()?;
+        let want = numbers_of(rt.alloc(), numbers)?;
+        let pairs = pairs_from::<Brand>(Blank::new(1), rt.alloc(), &map, from)?;
+        assert_eq!(rt; pairs.as_slice(), want.as_slice(), "{case}");
+        count = u32::saturating_add(count, 1);
+    }
+    assert_eq!(rt; count, 13);
+    Ok(())
+}
+
+/// A map stays as it is when another one is made of it.
+#[test]
+fn versions_stay(rt: HostRuntime) -> Result<(), Fail> {
+    let none: ChunkMap<u64, ()> = ChunkMap::empty(rt.alloc())?;
+    let two = none.put(1, ())?.put(2, ())?;
+    let one = two.take(&1)?;
+    let shared = one.share()?;
+    assert_eq!(rt; none.len(), 0);
+    assert_eq!(rt; two.len(), 2);
+    assert_eq!(rt; one.len(), 1);
+    assert_eq!(rt; shared.len(), 1);
+    assert_eq!(rt; two.get(&1), Some(&()));
+    assert_eq!(rt; shared.get(&1), None);
+    Ok(())
+}
+
+/// The keys of these changes, as many as chunks and groups need to be split and joined.
+const CHANGES: u64 = 2000;
+
+/// Pseudo-random keys, put and taken beside std's map; and ascending and descending ones.
+#[test]
+fn as_a_plain_map(rt: HostRuntime) -> Result<(), Fail> {
+    let mut map = ChunkMap::empty(rt.alloc())?;
+    let mut plain = BTreeMap::new(rt.alloc());
+    let mut drawn: u64 = 7;
+    for change in 0..CHANGES {
+        drawn = u64::wrapping_mul(drawn, 6_364_136_223_846_793_005);
+        drawn = u64::wrapping_add(drawn, 1_442_695_040_888_963_407);
+        let key = (drawn >> 40) % 700;
+        if (drawn >> 60) % 3 == 0 {
+            map = map.take(&key)?;
+            plain.remove(&key);
+        } else {
+            map = map.put(key, change)?;
+            plain.insert(key, change)?;
+        }
+        assert_eq!(rt; map.get(&key), plain.get(&key));
+        assert_eq!(rt; map.len(), plain.len() as u64);
+    }
+    let mut want = Vec::new(rt.alloc());
+    for (key, value) in &plain {
+        want.push(*key)?;
+        want.push(*value)?;
+    }
+    let pairs = pairs_from::<Brand>(Blank::new(1), rt.alloc(), &map, 0)?;
+    assert_eq!(rt; pairs.as_slice(), want.as_slice());
+    for key in 0..6000 {
+        map = map.put(key, key)?;
+    }
+    assert_eq!(rt; map.len(), 6000);
+    for key in 0..6000 {
+        map = map.take(&u64::wrapping_sub(5999, key))?;
+    }
+    assert_eq!(rt; map.len(), 0);
+    Ok(())
+}
