@@ -6,3 +6,4 @@ mod ValueLengths
 mod ValuesLemmas
 mod RefusalLemmas
 mod KeyLemmas
+mod KeysApart

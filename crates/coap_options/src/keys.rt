@@ -43,15 +43,10 @@ fn push_query(octets: &mut Vec<u8>, query: &[u8]) -> Result<(), Starved>
     Ok(())
 }
 
-/// The key of a request (RFC 7959 section 2.4): its code, one octet for the resource with eight for the number of a
-/// registration after it, and each query option as its length and its octets. Two requests have the same key exactly
-/// where they have the same method, path and query options.
-///
-/// `Starved`: out of memory.
-pub fn request_key(alloc: Global, meaning: &Meaning<'_>) -> Result<Key, Starved>
-    ensures parts { IfOk result (λ key. key ≡ keys.key_of meaning.now.view.code meaning.now.path
+/// The octets of the key: the code, the resource, and each query option with its length before it.
+fn spelled_key(alloc: Global, meaning: &Meaning<'_>) -> Result<Key, Starved>
+    ensures { IfOk result (λ key. key ≡ keys.key_of meaning.now.view.code meaning.now.path
         (request.queries_in (message_in meaning.now.view))) }
-    ensures key { (m : Message) → IsMeaning m meaning.now → IfOk result (λ key. key ≡ keys.key_in m) }
 {
     let mut octets = Vec::new(alloc);
     octets.push(meaning.view.code)?;
@@ -60,4 +55,19 @@ pub fn request_key(alloc: Global, meaning: &Meaning<'_>) -> Result<Key, Starved>
         push_query(&mut octets, query)?;
     }
     Ok(Key::of(Bytes::of(octets)))
+}
+
+/// The key of a request (RFC 7959 section 2.4): its code, one octet for the resource with eight for the number of a
+/// registration after it, and each query option as its length and its octets. Two requests have the same key exactly
+/// where they have the same method, path and query options.
+///
+/// `Starved`: out of memory.
+pub fn request_key(alloc: Global, meaning: &Meaning<'_>) -> Result<Key, Starved>
+    ensures parts { IfOk result (λ key. key ≡ keys.key_of meaning.now.view.code meaning.now.path
+        (request.queries_in (message_in meaning.now.view))) }
+    ensures once { (m other : Message) → IsMeaning m meaning.now → IfOk result (λ key. key ≡ keys.key_in other
+        → (m.code ≡ other.code) × (request.path_in m ≡ request.path_in other) × (request.queries_in m ≡ request.queries_in other)) }
+    ensures key { (m : Message) → IsMeaning m meaning.now → IfOk result (λ key. key ≡ keys.key_in m) }
+{
+    spelled_key(alloc, meaning)
 }

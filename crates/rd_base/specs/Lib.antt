@@ -2,3 +2,4 @@ pub mod Outside
 pub mod Peers
 pub mod Bases
 pub mod Prefixes
+pub mod Plans

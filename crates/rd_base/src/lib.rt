@@ -42,4 +42,6 @@ pub use tags::Tag;
 pub use texts::Text;
 
 #[cfg(test)]
+mod copies_tests;
+#[cfg(test)]
 mod ends_tests;

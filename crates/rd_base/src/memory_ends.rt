@@ -1,5 +1,7 @@
 //! A source and a sink in memory, of which chosen calls fail.
-ghost use Rattle.std.specs.Prelude.{◌≡◌, ◌-◌, ◌^◌, ◌<◌, ◌≤◌, Some, [], length, take, drop, min};
+ghost use Rattle.std.specs.Prelude.{◌≡◌, ◌↔◌, ◌-◌, ◌^◌, ◌<◌, ◌≤◌, true, Some, [], length, take, drop, min};
+ghost use Rattle.rd_base.specs.Outside.{IsWithinRoom, Gives, RunsDown, CountsRead, IsWithinPiece, Takes, CountsWritten};
+ghost use Rattle.rd_base.specs.Plans.{is_planned, Advanced};
 
 use crate::{Bytes, Got, Put, Sink, Source};
 use std::alloc::Global;
@@ -13,12 +15,17 @@ struct Plan {
 
 impl Plan {
     /// A plan before the first call.
-    fn of(fail: Bytes) -> Plan {
+    fn of(fail: Bytes) -> Plan
+        ensures { result ≡ record { calls = 0; fail = fail } }
+    {
         Plan { calls: 0, fail }
     }
 
     /// Counts a call: true where it is one of those that fail.
-    fn fails_now(&mut self) -> bool {
+    fn fails_now(&mut self) -> bool
+        ensures value { result ≡ is_planned self.old }
+        ensures advanced { Advanced self.old self.new }
+    {
         let call = self.calls;
         self.calls = call.saturating_add(1);
         self.fail.as_slice().iter().any(|n| u64::from(*n) == call)
@@ -51,6 +58,7 @@ impl MemSource {
     /// A source that gives `bytes`. `fail` lists the numbers, from 0 and up to 255, of the calls that fail.
     pub fn of(bytes: Bytes, fail: Bytes) -> MemSource
         ensures told { ⟦<MemSource as Source>⟧.left result ≡ Some bytes }
+        ensures planned { result.plan ≡ record { calls = 0; fail = fail } }
         ensures unfailed { ⟦<MemSource as Source>⟧.faults result ≡ 0 }
     {
         MemSource {
@@ -69,7 +77,16 @@ impl Source for MemSource {
 
     ghost turns = { λ s. length s.bytes - s.at };
 
-    fn read(&mut self, into: &mut [u8]) -> Got {
+    /// Gives as many octets as are left and fit. The planned calls fail, and no others.
+    fn read(&mut self, into: &mut [u8]) -> Got
+        ensures within { IsWithinRoom result (length into.old) }
+        ensures bytes { Gives (Some (drop self.old.at self.old.bytes)) (Some (drop self.new.at self.new.bytes)) result into.new }
+        ensures counted { length (drop self.old.at self.old.bytes) < 2 ^ 64 }
+        ensures turns { RunsDown (length self.old.bytes - self.old.at) (length self.new.bytes - self.new.at) result }
+        ensures cause { CountsRead self.old.faults self.new.faults result }
+        ensures planned { (is_planned self.old.plan ≡ true) ↔ (result ≡ Got.Failed) }
+        ensures advanced { Advanced self.old.plan self.new.plan }
+    {
         let bytes = self.bytes.as_slice();
         if self.plan.fails_now() {
             self.faults = self.faults.saturating_add(1);
@@ -93,6 +110,7 @@ impl MemSink {
     /// An empty sink. `fail` lists the numbers, from 0 and up to 255, of the calls that fail.
     pub fn of(alloc: Global, fail: Bytes) -> MemSink
         ensures told { ⟦<MemSink as Sink>⟧.holds result ≡ Some [] }
+        ensures planned { result.plan ≡ record { calls = 0; fail = fail } }
         ensures unfailed { ⟦<MemSink as Sink>⟧.faults result ≡ 0 }
     {
         MemSink {
@@ -115,8 +133,14 @@ impl Sink for MemSink {
 
     ghost faults = { λ s. s.faults };
 
-    /// Takes the whole piece. Out of memory, the writing fails.
-    fn write(&mut self, piece: &[u8]) -> Put {
+    /// Takes the whole piece. The planned calls fail, and so does a call that is out of memory.
+    fn write(&mut self, piece: &[u8]) -> Put
+        ensures within { IsWithinPiece result (length piece.now) }
+        ensures bytes { Takes (Some self.old.bytes) (Some self.new.bytes) result piece.now }
+        ensures cause { CountsWritten self.old.faults self.new.faults result }
+        ensures planned { is_planned self.old.plan ≡ true → result ≡ Put.Failed }
+        ensures advanced { Advanced self.old.plan self.new.plan }
+    {
         if !self.plan.fails_now() && self.bytes.append(piece).is_ok() {
             return Put::Took(piece.len());
         }

@@ -1,11 +1,12 @@
 //! What a lookup asks for (RFC 9176 section 6).
-ghost use Rattle.std.specs.Prelude.{◌≡◌};
+ghost use Rattle.std.specs.Prelude.{◌≡◌, ◌↔◌, ◌<◌, ◌^◌, [], ◌∷◌, ◌++◌, length, IsTrue, IfOk, OnOk, OnErr};
 ghost use lib.Pointwise.{pointwise};
 ghost use Rattle.std.proofs.Common.{rules};
 ghost use Rattle.std.specs.Cmp.Rules.{comparing, hashing};
 ghost use Rattle.std.specs.Hash as fed;
 
-use crate::Text;
+use crate::{Starved, Text};
+use std::alloc::Global;
 use std::hash::{Hash, Hasher};
 use std::marker::Model;
 
@@ -27,6 +28,17 @@ pub struct Criterion {
     pub name: Text,
     /// The pattern: a value, or its beginning and `*` (RFC 6690 section 4.1).
     pub pattern: Text,
+}
+
+impl Criterion {
+    /// An equal criterion. `Starved`: out of memory.
+    pub fn copy(&self, alloc: Global) -> Result<Criterion, Starved>
+        ensures { IfOk result (λ copy. copy ≡ self.now) }
+    {
+        let name = self.name.copy(alloc)?;
+        let pattern = self.pattern.copy(alloc)?;
+        Ok(Criterion { name, pattern })
+    }
 }
 
 /// Criteria, in their order.
@@ -52,11 +64,47 @@ impl Criteria {
         Criteria { items }
     }
 
+    /// How many there are.
+    pub fn len(&self) -> usize
+        ensures value { result ≡ length self.now }
+        ensures counted { length self.now < 2 ^ 64 }
+    {
+        self.items.len()
+    }
+
+    /// Whether there are none.
+    pub fn is_empty(&self) -> bool
+        ensures { IsTrue result ↔ (self.now ≡ []) }
+    {
+        self.items.is_empty()
+    }
+
+    /// Appends a criterion. `Starved`: out of memory, and the list is as before.
+    pub fn push(&mut self, criterion: Criterion) -> Result<(), Starved>
+        ensures ok { OnOk result (self.new ≡ self.old ++ criterion ∷ []) }
+        ensures err { OnErr result (self.new ≡ self.old) }
+    {
+        self.items.push(criterion)?;
+        Ok(())
+    }
+
     /// Those that are there, in order.
     pub fn as_slice(&self) -> &[Criterion]
         ensures { result.now ≡ self.now }
     {
         self.items.as_slice()
+    }
+
+    /// An equal list. `Starved`: out of memory.
+    pub fn copy(&self, alloc: Global) -> Result<Criteria, Starved>
+        ensures { IfOk result (λ copy. copy ≡ self.now) }
+    {
+        let list = self.items.as_slice();
+        let mut items = Vec::new(alloc);
+        'criteria: for criterion in list {
+            items.push(criterion.copy(alloc)?)?;
+        }
+        Ok(Criteria { items })
     }
 
     /// Gives the vector back. Takes no memory.
@@ -106,4 +154,19 @@ pub struct Query {
     pub page: Option<u32>,
     /// At most how many lines a page has.
     pub count: Option<u32>,
+}
+
+impl Query {
+    /// An equal query. `Starved`: out of memory.
+    pub fn copy(&self, alloc: Global) -> Result<Query, Starved>
+        ensures { IfOk result (λ copy. copy ≡ self.now) }
+    {
+        let criteria = self.criteria.copy(alloc)?;
+        Ok(Query {
+            kind: self.kind,
+            criteria,
+            page: self.page,
+            count: self.count,
+        })
+    }
 }

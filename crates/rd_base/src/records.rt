@@ -1,11 +1,12 @@
 //! Registrations (RFC 9176 section 5).
-ghost use Rattle.std.specs.Prelude.{◌+◌, ◌*◌, ◌^◌, ◌≤◌};
-ghost use Rattle.std.specs.Prelude.{◌≡◌};
+ghost use Rattle.std.specs.Prelude.{◌≡◌, ◌↔◌, ◌+◌, ◌*◌, ◌^◌, ◌<◌, ◌≤◌, [], ◌∷◌, ◌++◌, length, IsTrue, IfOk, OnOk, OnErr};
 ghost use lib.Pointwise.{pointwise};
 ghost use Rattle.std.proofs.Common.{rules};
 ghost use Rattle.std.specs.Cmp.Rules.{comparing};
 
-use crate::{Moment, Pairs, Text};
+use crate::texts::copy_present;
+use crate::{Moment, Pairs, Starved, Text};
+use std::alloc::Global;
 use std::marker::Model;
 
 /// The name of an endpoint: no two live registrations have the same.
@@ -15,6 +16,17 @@ pub struct Name {
     pub ep: Text,
     /// The sector (RFC 9176 section 5, `d`). None differs from every sector.
     pub sector: Option<Text>,
+}
+
+impl Name {
+    /// An equal name. `Starved`: out of memory.
+    pub fn copy(&self, alloc: Global) -> Result<Name, Starved>
+        ensures { IfOk result (λ copy. copy ≡ self.now) }
+    {
+        let ep = self.ep.copy(alloc)?;
+        let sector = copy_present(alloc, &self.sector)?;
+        Ok(Name { ep, sector })
+    }
 }
 
 /// A link of a registration.
@@ -55,6 +67,30 @@ impl Items {
         ensures { result ≡ items.items }
     {
         Items { items }
+    }
+
+    /// How many there are.
+    pub fn len(&self) -> usize
+        ensures value { result ≡ length self.now }
+        ensures counted { length self.now < 2 ^ 64 }
+    {
+        self.items.len()
+    }
+
+    /// Whether there are none.
+    pub fn is_empty(&self) -> bool
+        ensures { IsTrue result ↔ (self.now ≡ []) }
+    {
+        self.items.is_empty()
+    }
+
+    /// Appends a link. `Starved`: out of memory, and the list is as before.
+    pub fn push(&mut self, item: Item) -> Result<(), Starved>
+        ensures ok { OnOk result (self.new ≡ self.old ++ item ∷ []) }
+        ensures err { OnErr result (self.new ≡ self.old) }
+    {
+        self.items.push(item)?;
+        Ok(())
     }
 
     /// Those that are there, in order.

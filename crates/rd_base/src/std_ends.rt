@@ -21,6 +21,7 @@ impl<R: Read> StdSource<R> {
     pub fn of(reader: R) -> StdSource<R>
         ensures told { ⟦<StdSource<R> as Source>⟧.left result ≡ told_below (2 ^ 64) (R.remaining reader) }
         ensures unfailed { ⟦<StdSource<R> as Source>⟧.faults result ≡ 0 }
+        ensures turns { ⟦<StdSource<R> as Source>⟧.turns result ≡ 2 ^ 40 }
     {
         StdSource {
             reader,

@@ -1,8 +1,10 @@
 //! A source and a sink that never fail.
-ghost use Rattle.std.specs.Prelude.{◌≡◌, ◌≤◌, ◌-◌, Some, None, length, drop};
+ghost use Rattle.std.specs.Prelude.{◌≡◌, ◌+◌, ◌≤◌, ◌-◌, ◌^◌, Some, None, length, drop, min};
+ghost use Rattle.rd_base.specs.Outside.{IsWithinPiece, Takes, CountsWritten};
 
 use crate::memory_ends::copy_at;
 use crate::{Bytes, Got, Put, Sink, Source};
+use std::marker::Model;
 
 /// Octets in memory as a source that never fails.
 #[derive(Debug, Drop)]
@@ -41,19 +43,33 @@ pub struct SureSink {
     taken: u64,
 }
 
+impl Model for SureSink {
+    ghost use Rattle.std.specs.Prelude.{ℕ};
+
+    ghost Value = { ℕ };
+
+    ghost view = { λ s. s.taken };
+}
+
 impl SureSink {
     /// A sink that took nothing yet.
-    pub fn new() -> SureSink {
+    pub fn new() -> SureSink
+        ensures { result ≡ 0 }
+    {
         SureSink { taken: 0 }
     }
 
     /// How many octets were taken so far. The count stands at the last value of 64 bits.
-    pub fn taken(&self) -> u64 {
+    pub fn taken(&self) -> u64
+        ensures { result ≡ self.now }
+    {
         self.taken
     }
 }
 
 impl Default for SureSink {
+    ghost is_default = { λ s. s ≡ 0 };
+
     fn default() -> SureSink {
         SureSink::new()
     }
@@ -64,7 +80,14 @@ impl Sink for SureSink {
 
     ghost faults = { λ _. 0 };
 
-    fn write(&mut self, piece: &[u8]) -> Put {
+    /// Takes the whole piece, and counts it.
+    fn write(&mut self, piece: &[u8]) -> Put
+        ensures within { IsWithinPiece result (length piece.now) }
+        ensures bytes { Takes None None result piece.now }
+        ensures cause { CountsWritten 0 0 result }
+        ensures whole { result ≡ Put.Took (length piece.now) }
+        ensures counted { self.new ≡ min (self.old + length piece.now) (2 ^ 64 - 1) }
+    {
         self.taken = self.taken.saturating_add(piece.len() as u64);
         Put::Took(piece.len())
     }

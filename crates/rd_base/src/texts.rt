@@ -1,5 +1,5 @@
 //! Owned UTF-8 text, seen by contracts as its list of octets.
-ghost use Rattle.std.specs.Prelude.{◌≡◌, ◌↔◌, ◌^◌, ◌<◌, [], ◌++◌, length, IsTrue, IfOk, OnOk, OnErr, nat_eq};
+ghost use Rattle.std.specs.Prelude.{◌≡◌, ◌↔◌, ◌^◌, ◌<◌, [], ◌++◌, length, IsTrue, IfOk, OnOk, OnErr, nat_eq, encode_utf8};
 ghost use Rattle.std.specs.String.{string_bytes};
 ghost use Rattle.std.proofs.Common.{rules};
 ghost use Rattle.std.specs.Cmp.{partial_order_from_own_ties};
@@ -56,6 +56,13 @@ impl Text {
         Ok(Text { text })
     }
 
+    /// An equal text. `Starved`: out of memory.
+    pub fn copy(&self, alloc: Global) -> Result<Text, Starved>
+        ensures { IfOk result (λ t. t ≡ self.now) }
+    {
+        Text::copy_of(alloc, self.as_str())
+    }
+
     /// The text.
     pub fn as_str(&self) -> &str
         ensures { result.now ≡ self.now }
@@ -91,6 +98,15 @@ impl Text {
     {
         let Text { text } = self;
         text
+    }
+
+    /// Appends a character. `Starved`: out of memory, and the text is as before.
+    pub fn push(&mut self, character: char) -> Result<(), Starved>
+        ensures ok { OnOk result (self.new ≡ self.old ++ encode_utf8 character) }
+        ensures err { OnErr result (self.new ≡ self.old) }
+    {
+        self.text.push(character)?;
+        Ok(())
     }
 
     /// Appends a text. `Starved`: out of memory, and this text is as before.
@@ -148,5 +164,15 @@ impl PartialOrd for Text {
 
     fn partial_cmp(&self, other: &Text) -> Option<Ordering> {
         Some(self.cmp(other))
+    }
+}
+
+/// A copy of a text that may be there. `Starved`: out of memory.
+pub(crate) fn copy_present(alloc: Global, text: &Option<Text>) -> Result<Option<Text>, Starved>
+    ensures { IfOk result (λ copy. copy ≡ text.now) }
+{
+    match text {
+        Some(text) => Ok(Some(text.copy(alloc)?)),
+        None => Ok(None),
     }
 }

@@ -1,3 +1,4 @@
 pub mod NumberTexts
 pub mod FieldCuts
 pub mod LineFields
+pub mod ReadLines

@@ -42,16 +42,13 @@ datagram_fits : (text octets : List ℕ) → IsDatagramText text octets → (len
 datagram_fits text octets (inl h) = (subst (λ (xs : List ℕ). length xs ≤ max_datagram) (sym h.1) (omega arith), subst IsBytes (sym h.1) (λ k. omega arith))
 datagram_fits text octets (inr h) = (h.2, (decode_of-ok text octets h.0).3)
 
-spelled_line : (parts : List (List ℕ)) (l : Line) → AreFieldsOf parts l → IsLine l
+-- what fields spell is a line
+pub spelled_line : (parts : List (List ℕ)) (l : Line) → AreFieldsOf parts l → IsLine l
 spelled_line _ _ (comes {w} {m} {p} {d} {worker} {moment} {peer} {octets} hw hm hp hd) =
     let fits = datagram_fits d octets hd in come hw.within hm.within hp.fits fits.0 fits.1
 spelled_line _ _ (goes hw hm) = go hw.within hm.within
 spelled_line _ _ (ticks hw hm hx) = tick hw.within hm.within hx.within
 spelled_line _ _ (ticks_alone hw hm) = tick hw.within hm.within (omega arith)
-
--- what fields say is a line
-pub said_line : (parts : List (List ℕ)) (l : Line) → said_by parts ≡ Some l → IsLine l
-said_line parts l e = spelled_line parts l (said_by-found parts l e)
 
 -- what is printed is read back
 pub read_back : (text : List ℕ) (l : Line) → IsLine l → text ≡ line_text l → line_of text ≡ Ok l

@@ -1,8 +1,9 @@
 -- The result of reading a line or a field, beside what the text says.
-use Rattle.std.specs.Prelude.{◌≡◌, Option, Some, None, Result, Ok, Err}
+use Rattle.std.specs.Prelude.{◌≡◌, ℕ, ◌<◌, ◌≤◌, List, length, Option, Some, None, Result, Ok, Err}
 use Rattle.line_model.specs.declared.lines.Line.{Line}
 use Rattle.line_model.specs.declared.lines.Reason.{Reason}
 use Rattle.line_model.specs.declared.lines.Reason.TheVariants as reason
+use Rattle.line_model.specs.Lines.{max_line, IsLineText}
 use Rattle.trace_text.specs.declared.faults.LineFault.{LineFault}
 use Rattle.trace_text.specs.declared.faults.LineFault.TheVariants as fault
 use Rattle.trace_text.specs.declared.faults.FieldFault.{FieldFault}
@@ -13,6 +14,13 @@ abbrev pub IsSaid : {A : Type 0} → Result A FieldFault → Option A → Type 0
 IsSaid (Ok value) said = said ≡ Some value
 IsSaid (Err field.Form) said = said ≡ None
 IsSaid (Err field.Starved) said = Unit {0}
+
+-- The answer is the line that the text is, by the grammar of a line, or why the text is none: it is too long, or it is not and is no line's text. Nothing is claimed out of memory
+abbrev pub IsAnswered : List ℕ → Result Line LineFault → Type 0
+IsAnswered text (Ok line) = IsLineText text line
+IsAnswered text (Err fault.Long) = max_line < length text
+IsAnswered text (Err fault.Form) = (length text ≤ max_line) × ((line : Line) → ¬ (IsLineText text line))
+IsAnswered text (Err fault.Starved) = Unit {0}
 
 -- a line is answered as it reads, and one that is bad with its reason. Nothing is claimed out of memory
 abbrev pub IsRead : Result Line LineFault → Result Line Reason → Type 0

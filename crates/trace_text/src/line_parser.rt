@@ -2,7 +2,7 @@
 ghost use Rattle.std.specs.Prelude.{◌≡◌, ◌≤◌, [], ◌∷◌, IfOk, IfSome, Some, option_map};
 ghost use Rattle.line_model.specs.Lines as lines;
 ghost use Rattle.line_model.specs.Numbers as numbers;
-ghost use Rattle.trace_text.specs.LineResults.{IsSaid, IsRead};
+ghost use Rattle.trace_text.specs.LineResults.{IsSaid, IsRead, IsAnswered};
 
 use crate::datagrams::datagram_read;
 use crate::faults::{FieldFault, LineFault};
@@ -151,13 +151,10 @@ fn fields_read(alloc: Global, line: &[u8]) -> Result<Line, FieldFault>
     }
 }
 
-/// The line that a text is, without its line feed. `Starved`: out of memory. `Long` comes exactly where it has more than
-/// 8,600 bytes, and `Form` exactly where it has not and is none of the three forms: `in`, a worker, a moment, a peer and
-/// octets; `go`, a worker and a moment; `tick`, a worker, a moment and maybe a word.
+/// The line that a text reads as, or why it is none.
 #[tactic(auto, unfolding(line_model::specs::Lines::line_of))]
-pub fn line_read(alloc: Global, line: &[u8]) -> Result<Line, LineFault>
-    ensures read { IsRead result (lines.line_of line.now) }
-    ensures line { IfOk result lines.IsLine }
+fn read(alloc: Global, line: &[u8]) -> Result<Line, LineFault>
+    ensures { IsRead result (lines.line_of line.now) }
 {
     if line.len() > MAX_LINE {
         return Err(LineFault::Long);
@@ -167,4 +164,15 @@ pub fn line_read(alloc: Global, line: &[u8]) -> Result<Line, LineFault>
         Err(FieldFault::Form) => Err(LineFault::Form),
         Err(FieldFault::Starved) => Err(LineFault::Starved),
     }
+}
+
+/// The line that a text is, without its line feed. `Starved`: out of memory. `Long` comes exactly where it has more than
+/// 8,600 bytes, and `Form` exactly where it has not and is none of the three forms: `in`, a worker, a moment, a peer and
+/// octets; `go`, a worker and a moment; `tick`, a worker, a moment and maybe a word.
+pub fn line_read(alloc: Global, line: &[u8]) -> Result<Line, LineFault>
+    ensures answered { IsAnswered line.now result }
+    ensures read { IsRead result (lines.line_of line.now) }
+    ensures line { IfOk result lines.IsLine }
+{
+    read(alloc, line)
 }

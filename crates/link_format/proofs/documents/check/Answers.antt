@@ -1,20 +1,12 @@
--- A body that the walk found to be a document is text that spells links.
-use Rattle.std.proofs.Common.{List, Some, is_some, sym, ap, ◌∙◌}
-use Rattle.link_model.specs.Documents.{Link}
-use Rattle.link_format.specs.LinksOfText.{links_of, links_in}
-use Rattle.link_format.proofs.CheckLemmas.{checked_where_found}
+-- What was read is the one list of the body's links, and the offset is that of the longest beginning of a document.
+use Rattle.link_format.proofs.CheckLemmas.{links_found, links_only, prefix_found}
 use Rattle.link_format.proofs.documents.check.Goals as goal
 
-pub from_utf8_unchecked-text-requires : goal.from_utf8_unchecked-text-requires
-from_utf8_unchecked-text-requires c =
-    (checked_where_found c.args.body.now c.walk-reach.result.is_document c.walk-reach.ensures.document c.if-not-reach.false).utf8
+pub returns-clause-found : goal.returns-clause-found
+returns-clause-found c = links_found c.args.body.now c.read.result c.read.ensures.ok
 
-pub links_of_text-requires : goal.links_of_text-requires
-links_of_text-requires c =
-    ap (λ text. is_some (links_of text)) c.from_utf8_unchecked-text.ensures
-    ∙ (checked_where_found c.args.body.now c.walk-reach.result.is_document c.walk-reach.ensures.document c.if-not-reach.false).spells
+pub returns-clause-only : goal.returns-clause-only
+returns-clause-only c = links_only c.args.body.now c.read.result c.read.ensures.ok c.read.ensures.refused
 
-pub returns-clause-ok : goal.returns-clause-ok
-returns-clause-ok c =
-    (checked_where_found c.args.body.now c.walk-reach.result.is_document c.walk-reach.ensures.document c.if-not-reach.false).links
-    ∙ ap (λ (links : List Link). Some links) (ap links_in (sym c.from_utf8_unchecked-text.ensures) ∙ sym c.links_of_text.ensures)
+pub returns-clause-longest : goal.returns-clause-longest
+returns-clause-longest c = prefix_found c.args.body.now (λ bad. bad.at) c.read.result c.read.ensures.offset

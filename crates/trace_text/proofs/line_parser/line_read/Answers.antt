@@ -1,5 +1,9 @@
-use Rattle.trace_text.proofs.LineFields.{said_line}
+-- What was read answers by the grammar of a line.
+use Rattle.trace_text.proofs.ReadLines.{answered, answers_line}
 use Rattle.trace_text.proofs.line_parser.line_read.Goals as goal
 
-pub returns-in-Ok-clause-line : goal.returns-in-Ok-clause-line
-returns-in-Ok-clause-line c = said_line _ _ c.in-Ok.ensures
+pub returns-clause-answered : goal.returns-clause-answered
+returns-clause-answered c = answered c.args.line.now c.read.result c.read.ensures
+
+pub returns-clause-line : goal.returns-clause-line
+returns-clause-line c = answers_line c.args.line.now c.read.result c.read.ensures

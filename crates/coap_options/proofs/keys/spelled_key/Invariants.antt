@@ -4,7 +4,7 @@ use Rattle.message_model.specs.RequestKey as keys
 use Rattle.message_model.specs.Request as request
 use Rattle.coap_message.specs.Views.{message_in}
 use Rattle.coap_options.specs.ValuesLeft.{queries_left}
-use Rattle.coap_options.proofs.keys.request_key.Given as goal
+use Rattle.coap_options.proofs.keys.spelled_key.Given as goal
 
 -- the octets that are written and those of the queries that are left are the key
 abbrev pub invariant-queries : goal.invariant-queries
