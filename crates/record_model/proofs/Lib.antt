@@ -1,5 +1,6 @@
--- The laws of records. BodyLaws: faults of bodies. MatchingLaws: patterns. WeightLaws: what records weigh. RecordLiterals and
+-- The laws of records. AllowedLaws: parameters without a fault are allowed. BodyLaws: faults of bodies. MatchingLaws: patterns. WeightLaws: what records weigh. RecordLiterals and
 -- examples/: definitions computed on octets that are written out.
+pub mod AllowedLaws
 pub mod BodyLaws
 pub mod MatchingLaws
 pub mod RecordLiterals
