@@ -109,6 +109,7 @@ impl<'a> Pieces<'a> for QueryIter<'a> {
 
     /// The next query option, where one is left.
     fn next_piece(&mut self) -> Option<&'a [u8]> {
+        let _octets = self.options.octets();
         self.next()
     }
 }

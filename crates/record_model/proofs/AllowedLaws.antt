@@ -151,13 +151,13 @@ each_judged : (kind : Reading) (others queries : List (List ℕ)) → first_faul
 each_judged kind others [] h = tt
 each_judged kind others (query ∷ queries) h =
     by_first (parameter_fault kind others query) refl (each_judged kind (query ∷ others) queries) h
-    where
-      by_first : (o : Option Why) → parameter_fault kind others query ≡ o
-          → (first_fault_after (parameter_fault kind) (missing_fault kind) (query ∷ others) queries ≡ None → AllByRecursion (IsGood kind) queries)
-          → or_else (option_map (λ why. (length others, why)) o) (first_fault_after (parameter_fault kind) (missing_fault kind) (query ∷ others) queries) ≡ None
-          → AllByRecursion (IsGood kind) (query ∷ queries)
-      by_first None e later h = (is_good kind others query e, later h)
-      by_first (Some why) e later h = absurd (none_some (sym h))
+  where
+    by_first : (o : Option Why) → parameter_fault kind others query ≡ o
+        → (first_fault_after (parameter_fault kind) (missing_fault kind) (query ∷ others) queries ≡ None → AllByRecursion (IsGood kind) queries)
+        → or_else (option_map (λ why. (length others, why)) o) (first_fault_after (parameter_fault kind) (missing_fault kind) (query ∷ others) queries) ≡ None
+        → AllByRecursion (IsGood kind) (query ∷ queries)
+    by_first None e later h = (is_good kind others query e, later h)
+    by_first (Some why) e later h = absurd (none_some (sym h))
 
 -- and the endpoint is named, before them or among them
 swapped : (a b c : Bool) → ((a || b) || c) ≡ true → (b || (a || c)) ≡ true
@@ -178,13 +178,13 @@ none_missing kind others [] u h =
     rw before refl
 none_missing kind others (query ∷ queries) u h =
     by_first (parameter_fault kind others query) (none_missing kind (query ∷ others) queries u) h
-    where
-      by_first : (o : Option Why)
-          → (first_fault_after (parameter_fault kind) (missing_fault kind) (query ∷ others) queries ≡ None → (has_named ep (query ∷ others) || has_named ep queries) ≡ true)
-          → or_else (option_map (λ why. (length others, why)) o) (first_fault_after (parameter_fault kind) (missing_fault kind) (query ∷ others) queries) ≡ None
-          → (has_named ep others || has_named ep (query ∷ queries)) ≡ true
-      by_first None later h = swapped (is_named ep query) (has_named ep others) (has_named ep queries) (later h)
-      by_first (Some why) later h = absurd (none_some (sym h))
+  where
+    by_first : (o : Option Why)
+        → (first_fault_after (parameter_fault kind) (missing_fault kind) (query ∷ others) queries ≡ None → (has_named ep (query ∷ others) || has_named ep queries) ≡ true)
+        → or_else (option_map (λ why. (length others, why)) o) (first_fault_after (parameter_fault kind) (missing_fault kind) (query ∷ others) queries) ≡ None
+        → (has_named ep others || has_named ep (query ∷ queries)) ≡ true
+    by_first None later h = swapped (is_named ep query) (has_named ep others) (has_named ep queries) (later h)
+    by_first (Some why) later h = absurd (none_some (sym h))
 
 -- ---- the first value of a name
 
@@ -198,22 +198,22 @@ module _ (name : List ℕ) (P : List ℕ → Type 0) where
   if_given [] each = tt
   if_given (query ∷ queries) each =
       by_test (is_named name query) refl (if_given queries each.1)
-      where
-        by_test : (b : Bool) → is_named name query ≡ b → IfSome (option_map option_value (find (is_named name) queries)) P
-            → IfSome (option_map option_value (if b then Some query else find (is_named name) queries)) P
-        by_test true e later = each.0 e
-        by_test false e later = later
+    where
+      by_test : (b : Bool) → is_named name query ≡ b → IfSome (option_map option_value (find (is_named name) queries)) P
+          → IfSome (option_map option_value (if b then Some query else find (is_named name) queries)) P
+      by_test true e later = each.0 e
+      by_test false e later = later
 
   as_given : (queries : List (List ℕ)) → EachNamed queries → has_named name queries ≡ true → P (unwrap_or (value_named name queries) [])
   unfolding value_named
   as_given [] each h = absurd (true≢false (sym h))
   as_given (query ∷ queries) each h =
       by_test (is_named name query) refl (as_given queries each.1) h
-      where
-        by_test : (b : Bool) → is_named name query ≡ b → (has_named name queries ≡ true → P (unwrap_or (option_map option_value (find (is_named name) queries)) []))
-            → (b || has_named name queries) ≡ true → P (unwrap_or (option_map option_value (if b then Some query else find (is_named name) queries)) [])
-        by_test true e later h = each.0 e
-        by_test false e later h = later h
+    where
+      by_test : (b : Bool) → is_named name query ≡ b → (has_named name queries ≡ true → P (unwrap_or (option_map option_value (find (is_named name) queries)) []))
+          → (b || has_named name queries) ≡ true → P (unwrap_or (option_map option_value (if b then Some query else find (is_named name) queries)) [])
+      by_test true e later h = each.0 e
+      by_test false e later h = later h
 
 -- ---- what they give
 
