@@ -4,8 +4,8 @@ ghost use Rattle.std.specs.Prelude.{◌≡◌, ◌≤◌, ◌<◌, IfSome};
 ghost use Rattle.std.specs.Option.{option_map};
 ghost use Rattle.message_model.specs.Blocks as blocks;
 
-/// The size of a block (RFC 7959 section 2.2).
-fn block_size(szx: u8) -> usize
+/// The size of a block with this exponent, in octets (RFC 7959 section 2.2). The exponent is not 7, which is reserved.
+pub fn block_size(szx: u8) -> usize
     requires { szx < blocks.reserved_szx }
     ensures value { result ≡ blocks.block_size szx }
     ensures most { result ≤ 1024 }

@@ -48,3 +48,19 @@ few_more (suc n) before bytes x size e =
 pub options_at-some : (before : ℕ) (bytes : List ℕ) (x : Opt × List ℕ) → option_at before bytes ≡ Some x → options_at before bytes ≡ x.0 ∷ options_at x.0.0 x.1
 unfolding options_at
 options_at-some before bytes x e = few_more (length bytes) before bytes x refl e
+
+-- ---- how many they are
+
+size_more : (o : Option (Opt × List ℕ)) (rest : Opt × List ℕ → List Opt) (n : ℕ) → ((x : Opt × List ℕ) → length (rest x) ≤ n) → length (option_map_or (λ x. x.0 ∷ rest x) o []) ≤ suc n
+size_more None rest n h = omega arith
+size_more (Some x) rest n h = let few = h x in omega (arith, few)
+
+few_size : (n before : ℕ) (bytes : List ℕ) → length (few_options n before bytes) ≤ n
+unfolding few_options
+few_size zero before bytes = omega arith
+few_size (suc n) before bytes = size_more (option_at before bytes) (λ x. few_options n x.0.0 x.1) n (λ x. few_size n x.0.0 x.1)
+
+-- They are no more than the bytes.
+pub options_at_size : (before : ℕ) (bytes : List ℕ) → length (options_at before bytes) ≤ length bytes
+unfolding options_at
+options_at_size before bytes = few_size (length bytes) before bytes

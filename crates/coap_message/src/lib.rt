@@ -5,13 +5,15 @@ mod datagrams;
 mod headers;
 mod options;
 mod prefixes;
+mod roles;
 mod spellings;
 mod views;
 mod writers;
 
 pub use datagrams::view;
-pub use message_model::{Kind4, Unread};
+pub use message_model::{Kind4, Role, Unread};
 pub use options::{Opt, OptionsIter, options_of};
+pub use roles::role_of;
 pub use views::View;
 pub use writers::{TooLong, Writer};
 

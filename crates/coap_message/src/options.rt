@@ -1,6 +1,6 @@
 //! The options of a message, one after the other.
 
-ghost use Rattle.std.specs.Prelude.{◌≡◌};
+ghost use Rattle.std.specs.Prelude.{◌≡◌, ◌≤◌, ◌<◌, ◌^◌, length};
 ghost use Rattle.coap_message.specs.Views.{message_in};
 ghost use Rattle.coap_message.specs.OptionsLeft.{options_left};
 
@@ -31,6 +31,17 @@ pub fn options_of<'a>(view: &View<'a>) -> OptionsIter<'a>
     OptionsIter {
         before: 0,
         rest: view.options,
+    }
+}
+
+impl OptionsIter<'_> {
+    /// How many octets the options that are left take, which are no fewer than these options.
+    #[tactic(auto, using(crate::proofs::OptionsAtLemmas::options_at_size))]
+    pub fn octets(&self) -> usize
+        ensures few { length (options_left self.now) ≤ result }
+        ensures most { result < 2 ^ 63 }
+    {
+        self.rest.len()
     }
 }
 

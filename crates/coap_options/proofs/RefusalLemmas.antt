@@ -1,16 +1,19 @@
 -- The refusal of a request by the parts of its meaning.
-use Rattle.std.proofs.Common.{◌≡◌, ℕ, Bool, List, length, Option, Some, None, refl, sym, ap, ◌∙◌}
-use Rattle.std.specs.Prelude.{option_map}
+use Rattle.std.proofs.Common.{◌≡◌, ℕ, Bool, true, false, not, ◌||◌, List, length, Option, Some, None, Bor, refl, sym, ap, ◌∙◌}
+use Rattle.std.specs.Prelude.{option_map, IsSome, is_some, is_none, if◌then◌else◌}
+use Rattle.std.specs.Option.{ForSome}
+use Rattle.message_model.specs.declared.blocks.Block.{Block}
+use Rattle.message_model.specs.Blocks.{block_read}
 use Rattle.message_model.specs.declared.requests.Path.{Path}
 use Rattle.message_model.specs.declared.requests.Refusal.{Refusal}
 use Rattle.message_model.specs.declared.requests.Refusal.TheVariants as refusal
 use Rattle.message_model.specs.Message.{Message}
 use Rattle.message_model.specs.OptionTable.{first_bad_option}
-use Rattle.message_model.specs.Request.{path_in, accept_in, format_in, block1_in, block2_in, has_proxy}
-use Rattle.message_model.specs.Refusals.{refusal_after_options, option_refusal_or, refusal_of}
+use Rattle.message_model.specs.Request.{path_in, accept_in, format_in, block1_in, block2_in, has_proxy, allowed}
+use Rattle.message_model.specs.Refusals.{is_nowhere, says_no_block, refusal_after_options, option_refusal_or, refusal_of}
 use Rattle.coap_options.specs.declared.meanings.Meaning.{Meaning}
-use Rattle.coap_options.specs.Meanings.{IsMeaning}
-use Rattle.coap_options.specs.PartRefusals.{refusal_of_parts}
+use Rattle.coap_options.specs.Meanings.{IsMeaning, HasReadableBlocks}
+use Rattle.coap_options.specs.PartRefusals.{registers, has_bad_block, refusal_of_parts}
 
 parts_of_message : (m : Message) → refusal_of_parts m.code (path_in m) (has_proxy m) (block1_in m) (block2_in m) (accept_in m) (format_in m) (length m.payload) ≡ refusal_after_options m
 unfolding refusal_of_parts refusal_after_options
@@ -34,3 +37,35 @@ refused_later m meaning later good is e =
 pub refused_option : (m : Message) (number : ℕ) → first_bad_option m.options ≡ Some number → refusal_of m ≡ Some (refusal.BadOption number)
 unfolding refusal_of
 refused_option m number bad = ap (λ (o : Option ℕ). option_refusal_or o (refusal_after_options m)) bad
+
+-- ---- blocks that are not refused
+
+block_good : (proxy nowhere method block : Bool) (later : Option Refusal)
+    → (if proxy then Some refusal.Proxy else if nowhere then Some refusal.Path else if method then Some refusal.Method else if block then Some refusal.Block else later) ≡ None → block ≡ false
+block_good true nowhere method block later h = cc
+block_good false true method block later h = cc
+block_good false false true block later h = cc
+block_good false false false true later h = cc
+block_good false false false false later h = refl
+
+first_two : (a b c : Bool) → (a || b || c) ≡ false → (a ≡ false) × (b ≡ false)
+first_two true b c h = cc
+first_two false true c h = cc
+first_two false false c h = (refl, refl)
+
+is_readable : (value : Option (Bor (List ℕ))) → says_no_block (option_map (λ v. v.now) value) ≡ false → ForSome value (λ v. IsSome (block_read v.now))
+is_readable None h x e = cc
+is_readable (Some v) h x e = by_read (block_read v.now) refl h
+  where
+    by_read : (o : Option Block) → block_read v.now ≡ o → is_none o ≡ false → is_some (block_read x.now) ≡ true
+    by_read None e' h = cc
+    by_read (Some b) e' h = let same : v ≡ x = cc in rw (← same, e') refl
+
+-- The blocks of a request that is not refused say blocks.
+pub readable_blocks : (meaning : Meaning) (later : Option Refusal) → later ≡ refusal_of_parts meaning.view.code meaning.path meaning.proxy (option_map (λ v. v.now) meaning.block1) (option_map (λ v. v.now) meaning.block2) meaning.accept meaning.format (length meaning.view.payload.now)
+    → later ≡ None → HasReadableBlocks meaning
+unfolding refusal_of_parts
+readable_blocks meaning later e none =
+    let good = block_good meaning.proxy (is_nowhere meaning.path) (not (allowed meaning.path meaning.view.code)) (has_bad_block (registers meaning.view.code meaning.path) (option_map (λ v. v.now) meaning.block1) (option_map (λ v. v.now) meaning.block2) (length meaning.view.payload.now)) _ (sym e ∙ none) in
+    let both = first_two (says_no_block (option_map (λ v. v.now) meaning.block1)) (says_no_block (option_map (λ v. v.now) meaning.block2)) _ good in
+    record { block1 = is_readable meaning.block1 both.0; block2 = is_readable meaning.block2 both.1 }

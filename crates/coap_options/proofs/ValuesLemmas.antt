@@ -1,5 +1,5 @@
 -- The values of a number that may be repeated, from the left.
-use Rattle.std.proofs.Common.{◌≡◌, ℕ, Bool, true, false, ◌&&◌, cond, eqb, List, [], ◌∷◌, ◌++◌, length, refl, sym, ap, ◌∙◌, append_assoc, inl, inr}
+use Rattle.std.proofs.Common.{◌≡◌, ℕ, Bool, true, false, suc, ◌≤◌, ◌&&◌, cond, eqb, List, [], ◌∷◌, ◌++◌, length, refl, sym, ap, ◌∙◌, append_assoc, inl, inr, arith}
 use Rattle.std.specs.Prelude.{◌==◌}
 use Rattle.std.proofs.lemmas.Bool.{cases_Bool, eqb-true}
 use Rattle.std.proofs.lemmas.List.{append-nil}
@@ -79,3 +79,15 @@ queries_all options = values_left-all table.uri_query options queries_repeat
 
 pub etags_all : (options : List Opt) → values_left table.etag options ≡ values table.etag options
 etags_all options = values_left-all table.etag options etags_repeat
+
+-- ---- how many they are
+
+counted_in : (number : ℕ) (option : Opt) (options : List Opt) (b : Bool) → is_value number option ≡ b → length (values_left number options) ≤ length options
+    → length (values_left number (option ∷ options)) ≤ suc (length options)
+counted_in number option options true e few = let more = ap length (values_left-first number option options e) in omega (arith, few, more)
+counted_in number option options false e few = let same = ap length (values_left-passed number option options e) in omega (arith, few, same)
+
+-- They are no more than the options.
+pub values_left-size : (number : ℕ) (options : List Opt) → length (values_left number options) ≤ length options
+values_left-size number [] = omega arith
+values_left-size number (option ∷ options) = counted_in number option options (is_value number option) refl (values_left-size number options)

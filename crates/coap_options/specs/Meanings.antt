@@ -1,5 +1,7 @@
 -- What a message means.
-use Rattle.std.specs.Prelude.{◌≡◌, option_map}
+use Rattle.std.specs.Prelude.{◌≡◌, ◌≤◌, length, option_map, IsSome}
+use Rattle.std.specs.Option.{ForSome}
+use Rattle.message_model.specs.Blocks.{block_read}
 use Rattle.message_model.specs.Message.{Message}
 use Rattle.message_model.specs.Request.{path_in, observe_in, accept_in, format_in, block1_in, block2_in, has_proxy}
 use Rattle.coap_message.specs.Views.{message_in}
@@ -15,3 +17,13 @@ pub record IsMeaning (m : Message) (meaning : Meaning) : Type 0 where
   pub block1 : option_map (λ v. v.now) meaning.block1 ≡ block1_in m
   pub block2 : option_map (λ v. v.now) meaning.block2 ≡ block2_in m
   pub proxy : meaning.proxy ≡ has_proxy m
+
+-- The values of its Block options have at most three octets (RFC 7959 section 2.2).
+pub record HasShortBlocks (meaning : Meaning) : Type 0 where
+  pub block1 : ForSome meaning.block1 (λ value. length value.now ≤ 3)
+  pub block2 : ForSome meaning.block2 (λ value. length value.now ≤ 3)
+
+-- They say blocks: neither has the reserved exponent (RFC 7959 section 2.2).
+pub record HasReadableBlocks (meaning : Meaning) : Type 0 where
+  pub block1 : ForSome meaning.block1 (λ value. IsSome (block_read value.now))
+  pub block2 : ForSome meaning.block2 (λ value. IsSome (block_read value.now))

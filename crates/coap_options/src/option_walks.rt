@@ -6,12 +6,13 @@ ghost use Rattle.message_model.specs.Numbers as numbers;
 ghost use Rattle.message_model.specs.OptionTable.{first_bad_option};
 ghost use Rattle.coap_message.specs.Views.{message_in};
 ghost use Rattle.coap_options.specs.Findings.{IsFound};
-ghost use Rattle.coap_options.specs.Meanings.{IsMeaning};
+ghost use Rattle.coap_options.specs.Meanings.{HasShortBlocks, IsMeaning};
 
 use crate::findings::{BadOption, Found, nothing_found, with_option};
 use crate::meanings::Meaning;
 use crate::segments::path_of;
-use crate::uint_values::{short_uint_of, uint_of};
+use crate::uint_values::short_uint_of;
+use block_wise::uint_of;
 use coap_message::{View, options_of};
 
 /// The number that a value of at most two octets gives.
@@ -39,7 +40,8 @@ fn uint_in(value: Option<&[u8]>) -> Option<u32>
 /// The meaning of a message whose options say this.
 fn meaning_of<'a>(view: &View<'a>, found: &Found<'a>) -> Meaning<'a>
     requires { IsFound (message_in view.now).options found.now }
-    ensures { IsMeaning (message_in view.now) result }
+    ensures meaning { IsMeaning (message_in view.now) result }
+    ensures short { HasShortBlocks result }
 {
     Meaning {
         view: *view,
@@ -60,6 +62,7 @@ fn meaning_of<'a>(view: &View<'a>, found: &Found<'a>) -> Meaning<'a>
 /// `BadOption(n)`: a critical option is not recognized, and `n` is the number of the first one.
 pub fn meaning<'a>(view: &View<'a>) -> Result<Meaning<'a>, BadOption>
     ensures meaning { IfOk result (λ meaning. IsMeaning (message_in view.now) meaning) }
+    ensures short { IfOk result HasShortBlocks }
     ensures good { OnOk result (first_bad_option (message_in view.now).options ≡ None) }
     ensures bad { IfErr result (λ bad. first_bad_option (message_in view.now).options ≡ Some bad.0) }
 {

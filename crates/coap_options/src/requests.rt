@@ -6,16 +6,16 @@ ghost use Rattle.message_model.specs.Blocks as blocks;
 ghost use Rattle.message_model.specs.Refusals as refusals;
 ghost use Rattle.message_model.specs.Refusals.{refusal_of};
 ghost use Rattle.coap_message.specs.Views.{message_in};
-ghost use Rattle.coap_options.specs.Meanings.{IsMeaning};
+ghost use Rattle.coap_options.specs.Meanings.{HasReadableBlocks, HasShortBlocks, IsMeaning};
 ghost use Rattle.coap_options.specs.PartRefusals.{registers, has_bad_block, refusal_of_parts};
 
 use crate::findings::BadOption;
 use crate::meanings::Meaning;
 use crate::methods::{GET, POST, allowed};
 use crate::option_walks::meaning;
-use crate::uint_values::uint_of;
+use block_wise::{Block, block_read, block_size};
 use coap_message::View;
-use message_model::{Block, Path, Refusal};
+use message_model::{Path, Refusal};
 
 /// The format of link documents (RFC 7252 section 12.3).
 const LINK_FORMAT: u16 = 40;
@@ -40,39 +40,13 @@ fn registers(code: u8, path: &Path) -> bool
     }
 }
 
-/// The block that the value of a Block option says (RFC 7959 section 2.2).
-#[tactic(auto, unfolding(message_model::specs::Blocks::block_read))]
-fn block_read(value: &[u8]) -> Option<Block>
-    requires { length value.now ≤ 3 }
-    ensures block { result ≡ blocks.block_read value.now }
-    ensures sized { IfSome result (λ block. block.szx < blocks.reserved_szx) }
-{
-    let bits = uint_of(value);
-    if bits % 8 == 7 {
-        return None;
-    }
-    Some(Block {
-        num: bits / 16,
-        more: bits / 8 % 2 == 1,
-        szx: (bits % 8) as u8,
-    })
-}
-
-/// The size of a block (RFC 7959 section 2.2).
-fn block_size(szx: u8) -> usize
-    requires { szx < blocks.reserved_szx }
-    ensures { result ≡ blocks.block_size szx }
-{
-    1usize << (szx + 4)
-}
-
 /// A Block option with the reserved exponent (RFC 7959 section 2.2).
 fn says_no_block(value: Option<&[u8]>) -> bool
     requires { ForSome value (λ v. length v.now ≤ 3) }
     ensures { result ≡ refusals.says_no_block (option_map (λ v. v.now) value.entry) }
 {
     match value {
-        Some(octets) => block_read(octets).is_none(),
+        Some(octets) => block_read(octets).is_err(),
         None => false,
     }
 }
@@ -97,7 +71,7 @@ fn is_misfit_of(value: Option<&[u8]>, size: usize) -> bool
     let Some(octets) = value else {
         return false;
     };
-    let Some(block) = block_read(octets) else {
+    let Ok(block) = block_read(octets) else {
         return false;
     };
     is_misfit(&block, size)
@@ -176,6 +150,8 @@ fn refusal_after_options(meaning: &Meaning<'_>) -> Option<Refusal>
 /// another format.
 pub fn request<'a>(view: &View<'a>) -> Result<Meaning<'a>, Refusal>
     ensures meaning { IfOk result (λ meaning. IsMeaning (message_in view.now) meaning) }
+    ensures short { IfOk result HasShortBlocks }
+    ensures readable { IfOk result HasReadableBlocks }
     ensures accepted { OnOk result (refusal_of (message_in view.now) ≡ None) }
     ensures refused { IfErr result (λ refusal. refusal_of (message_in view.now) ≡ Some refusal) }
 {

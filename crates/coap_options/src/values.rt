@@ -11,8 +11,10 @@ ghost use Rattle.coap_options.specs.ValuesLeft.{values_left, queries_left, etags
 use crate::meanings::Meaning;
 use crate::table::{ETAG, URI_QUERY, is_recognized};
 use coap_message::{Opt, OptionsIter, options_of};
+use rd_base::Pieces;
 
-/// The query options that are left, in order (RFC 7252 section 5.10.1): a contract sees them by `queries_left`.
+/// The query options that are left, in order (RFC 7252 section 5.10.1): a contract sees them by `queries_left`. The
+/// readers of parameters and criteria take them as [`Pieces`].
 #[derive(Clone, Copy, Debug)]
 pub struct QueryIter<'a> {
     options: OptionsIter<'a>,
@@ -97,5 +99,17 @@ impl<'a> Iterator for EtagIter<'a> {
         let (value, left) = next_value(self.options, ETAG)?;
         self.options = left;
         Some(value)
+    }
+}
+
+impl<'a> Pieces<'a> for QueryIter<'a> {
+    ghost use Rattle.coap_options.specs.ValuesLeft.{queries_left};
+
+    ghost left = { queries_left };
+
+    /// The next query option, where one is left.
+    fn next_piece(&mut self) -> Option<&'a [u8]> {
+        let _octets = self.options.octets();
+        self.next()
     }
 }

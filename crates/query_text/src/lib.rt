@@ -9,14 +9,13 @@ mod lookups;
 mod occurrences;
 mod options;
 mod parameters;
-mod pieces;
 mod rules;
 mod walks;
 
 pub use faults::{QueryBad, fault};
 pub use lookups::lookup_query;
 pub use parameters::{reg_params, update_params};
-pub use pieces::Pieces;
+pub use rd_base::Pieces;
 pub use record_model::{Reading, Why};
 
 #[cfg(test)]

@@ -1,6 +1,7 @@
 //! The parameters of registrations and updates (RFC 9176 sections 5, 5.1 and 5.3.1).
-ghost use Rattle.std.specs.Prelude.{◌≡◌, false};
-ghost use Rattle.record_model.specs.Parameters.{registration_parameters, update_parameters};
+ghost use Rattle.std.specs.Prelude.{◌≡◌, false, IfOk};
+ghost use Rattle.record_model.specs.AllowedParameters.{AreAllowed, IsAllowedChange};
+ghost use Rattle.record_model.specs.Parameters.{registration_parameters, update_parameters, is_update};
 ghost use Rattle.query_text.specs.Outcomes.{Answers, registering};
 ghost use Rattle.query_text.specs.GivenParameters.{values_in, registration_of, update_of};
 ghost use Rattle.query_text.specs.Rules.{is_lookup};
@@ -17,6 +18,7 @@ const DEFAULT_LIFETIME: u32 = 90_000;
 fn registering(simple: bool) -> Reading
     ensures kind { result ≡ registering simple }
     ensures no_lookup { is_lookup result ≡ false }
+    ensures no_update { is_update result ≡ false }
 {
     if simple {
         Reading::Simple
@@ -64,13 +66,14 @@ fn update_of(given: Given) -> UpdateParams
 ///
 /// `At` exactly with the first fault, that of [`fault`](crate::fault): `Starved` may come in its place. Of one parameter
 /// what is no UTF-8 comes first, then a control character in its value, then the rules of its name. An endpoint that is
-/// not named is found after the last parameter.
+/// not named is found after the last parameter. What is answered with Ok is allowed to a registration.
 pub fn reg_params<'a, Q: Pieces<'a> + Drop>(
     alloc: Global,
     queries: Q,
     simple: bool,
 ) -> Result<RegParams, QueryBad>
-    ensures { Answers result (registration_parameters (registering simple) (Q.left queries)) }
+    ensures value { Answers result (registration_parameters (registering simple) (Q.left queries)) }
+    ensures allowed { IfOk result AreAllowed }
 {
     let given = gathered(alloc, registering(simple), queries)?;
     Ok(registration_of(alloc, given))
@@ -81,12 +84,13 @@ pub fn reg_params<'a, Q: Pieces<'a> + Drop>(
 /// # Errors
 ///
 /// `At` exactly with the first fault, that of [`fault`](crate::fault): `Starved` may come in its place. An update names no
-/// endpoint and no sector.
+/// endpoint and no sector. What is answered with Ok is allowed to an update.
 pub fn update_params<'a, Q: Pieces<'a> + Drop>(
     alloc: Global,
     queries: Q,
 ) -> Result<UpdateParams, QueryBad>
-    ensures { Answers result (update_parameters (Q.left queries)) }
+    ensures value { Answers result (update_parameters (Q.left queries)) }
+    ensures allowed { IfOk result IsAllowedChange }
 {
     let given = gathered(alloc, Reading::Update, queries)?;
     Ok(update_of(given))

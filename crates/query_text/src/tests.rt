@@ -17,7 +17,7 @@ impl<'a> Pieces<'a> for Listed<'a> {
     ghost left = { λ listed. map (λ piece. piece.now) (drop listed.at listed.options.now) };
 
     /// The next option of the slice.
-    fn next(&mut self) -> Option<&'a [u8]> {
+    fn next_piece(&mut self) -> Option<&'a [u8]> {
         if self.at >= self.options.len() {
             return None;
         }

@@ -38,7 +38,7 @@ impl Walk {
         ensures room { 0 < self.new.index → self.new.index + length (Q.left queries.new) < 2 ^ 63 }
         ensures step { Stepped self.old (Q.left queries.old) self.new (Q.left queries.new) result }
     {
-        let Some(option) = queries.next() else {
+        let Some(option) = queries.next_piece() else {
             return match missing(self.kind, &self.occurred) {
                 Some(why) => Err((self.index, why)),
                 None => Ok(None),

@@ -119,7 +119,8 @@ pub fn peer_read_ascii(text: &[u8]) -> Result<Peer, PeerBad>
 
 /// An address as a host, an IPv6 address in brackets (RFC 3986 section 3.2.2).
 fn host_text(alloc: Global, host: Host) -> Result<String, Starved>
-    ensures { IfOk result (λ text. string_bytes text ≡ bases.host_text host) }
+    ensures text { IfOk result (λ text. string_bytes text ≡ bases.host_text host) }
+    ensures fits { peers.IsHost host }
 {
     match host {
         Host::V4(octets) => {
@@ -149,7 +150,8 @@ fn port_text(alloc: Global, port: u16) -> Result<String, Starved>
 /// The base of what a peer registers without giving one (RFC 9176 section 5): `coap://` and its address, and its port where that is not 5683. `Starved`: out of memory.
 #[tactic(auto, unfolding(crate::specs::Bases::base_of))]
 pub fn base_of(alloc: Global, peer: &Peer) -> Result<Text, Starved>
-    ensures { IfOk result (λ text. text ≡ bases.base_of peer.now) }
+    ensures text { IfOk result (λ text. text ≡ bases.base_of peer.now) }
+    ensures fits { peers.IsHost peer.now.host }
 {
     let host = host_text(alloc, peer.host)?;
     let port = port_text(alloc, peer.port)?;

@@ -2,6 +2,7 @@ pub mod Bodies
 pub mod Options
 pub mod Faults
 pub mod Parameters
+pub mod AllowedParameters
 pub mod Criteria
 pub mod Bases
 pub mod Matching

@@ -1,5 +1,5 @@
 -- What a text is against a base, and what a base is.
-use Rattle.std.proofs.Common.{◌≡◌, ℕ, true, false, List, Option, Some, None, is_some, option_map, refl, ap, ◌∙◌, inl, inr}
+use Rattle.std.proofs.Common.{◌≡◌, ℕ, true, false, List, Option, Some, None, is_some, option_map, refl, ap}
 use Rattle.rd_base.specs.declared.attributes.Pair.{Pair}
 use Rattle.rd_base.specs.declared.records.Item.{Item}
 use Rattle.record_model.specs.Bodies.{is_reference, is_uri}
@@ -9,9 +9,8 @@ use Rattle.record_model.specs.Parameters.{is_base, is_base_of}
 use Rattle.record_model.specs.Records.{based, rebased}
 use Rattle.ref_resolve.specs.declared.components.Parts.{Parts}
 use Rattle.ref_resolve.specs.ComponentsOfParts.{components_of}
-use Rattle.registration.specs.Drafts.{IsBasis, has_references}
+use Rattle.registration.specs.Drafts.{has_references}
 use Rattle.registration.specs.OtherBases.{IsBased, AreBased, IsRebased}
-use Rattle.registration.proofs.PeerBases.{is_base-base_of}
 use Rattle.reference_model.proofs.ReferenceLaws.{reference_found}
 use Rattle.reference_model.proofs.ReferenceReading.{reference_only}
 
@@ -48,11 +47,6 @@ base_reads text h none = by_read (reference text) refl h
     by_read : (o : Option Components) → reference text ≡ o → is_base_of o ≡ true → ⊥
     by_read None e h = cc
     by_read (Some c) e h = none c (reference_found text c e)
-
--- what references are resolved against is a base
-pub basis_is_base : (base : List ℕ) → IsBasis base → is_base base ≡ true
-basis_is_base base (inl given) = given
-basis_is_base base (inr of_peer) = ap is_base of_peer.1.1 ∙ is_base-base_of of_peer.0 of_peer.1.0
 
 -- ---- links against another base
 

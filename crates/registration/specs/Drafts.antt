@@ -1,6 +1,5 @@
 -- Drafts: what parameters and submitted links make, and the record that a draft becomes (RFC 9176 section 5).
-use Rattle.std.specs.Prelude.{◌≡◌, ◌⊎◌, ⊤, ℕ, Bool, true, ◌&&◌, List, Some, is_some}
-use Rattle.rd_base.specs.Bases.{base_of}
+use Rattle.std.specs.Prelude.{◌≡◌, ⊤, ℕ, Bool, false, ◌&&◌, List, Some, is_some}
 use Rattle.rd_base.specs.Peers.{IsHost}
 use Rattle.rd_base.specs.declared.moments.Moment.{Moment}
 use Rattle.rd_base.specs.declared.parameters.RegParams.{RegParams}
@@ -9,10 +8,11 @@ use Rattle.rd_base.specs.declared.records.Item.{Item}
 use Rattle.rd_base.specs.declared.records.Record.{Record}
 use Rattle.rd_base.specs.declared.submitted_links.SubmittedLink.{SubmittedLink}
 use Rattle.record_model.specs.Bases.{registered_base}
-use Rattle.record_model.specs.Bodies.{is_reference}
+use Rattle.record_model.specs.AllowedParameters.{AreAllowed}
+use Rattle.record_model.specs.Bodies.{is_reference, linked_references}
 use Rattle.record_model.specs.BodyFaults.{no_document, no_reference, not_limited, body_fault}
-use Rattle.record_model.specs.Parameters.{is_base}
 use Rattle.record_model.specs.Records.{items_of}
+use Rattle.record_model.specs.Refusals.{is_refused_as_limited}
 use Rattle.reference_model.specs.References.{where_present}
 use Rattle.registration.specs.declared.drafts.Draft.{Draft}
 use Rattle.registration.specs.declared.drafts.DraftFault.{DraftFault}
@@ -46,9 +46,18 @@ recorded number now draft = record {
 abbrev pub has_references : Item → Bool
 has_references item = is_reference item.target_ref && where_present is_reference item.anchor_ref
 
--- what references are resolved against: a base that may be given, or that of a peer (RFC 9176 section 5)
-abbrev pub IsBasis : List ℕ → Type 0
-IsBasis base = (is_base base ≡ true) ⊎ ((peer : Peer) × (IsHost peer.host × (base ≡ base_of peer)))
+-- a draft that a registration can give: of a peer whose numbers fit, of parameters that are allowed, and of the links of a
+-- body that is not refused (RFC 9176 section 5)
+pub record IsDraft (draft : Draft) : Type 0 where
+  pub peer : Peer
+  pub params : RegParams
+  pub body : List ℕ
+  pub links : List SubmittedLink
+  pub fits : IsHost peer.host
+  pub allowed : AreAllowed params
+  pub read : linked_references body ≡ Some links
+  pub limited : is_refused_as_limited body ≡ false
+  pub made : draft ≡ drafted peer params links
 
 -- the answer is the fault of the body; running out of memory has no cause in it
 abbrev pub IsFaultOf : List ℕ → DraftFault → Type 0

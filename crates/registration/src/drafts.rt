@@ -1,21 +1,21 @@
 //! Drafts of registrations: what one is, how a body makes one, and why a body makes none (RFC 9176 section 5).
-ghost use Rattle.std.specs.Prelude.{◌≡◌, ℕ, true, Some, None, IfOk, IfErr, IfSome, option_map};
+ghost use Rattle.std.specs.Prelude.{◌≡◌, ℕ, true, Some, None, IfOk, IfErr, IfSome, OnOk, false, option_map};
 ghost use Rattle.std.specs.List.{list_all};
 ghost use Rattle.rd_base.specs.declared.moments.Moment.{Moment};
-ghost use Rattle.rd_base.specs.Bases.{base_of};
 ghost use Rattle.rd_base.specs.Peers.{IsHost};
-ghost use Rattle.rd_base.specs.declared.peers.Host.TheVariants as host;
+ghost use Rattle.record_model.specs.AllowedParameters.{AreAllowed};
 ghost use Rattle.record_model.specs.Bases.{registered_base};
 ghost use Rattle.record_model.specs.Bodies.{linked_references};
 ghost use Rattle.record_model.specs.BodyFaults.{body_fault};
 ghost use Rattle.record_model.specs.Parameters.{is_base};
 ghost use Rattle.record_model.specs.Records.{registered};
-ghost use Rattle.registration.specs.Drafts.{IsFaultOf, drafted, has_references, recorded};
+ghost use Rattle.record_model.specs.Refusals.{is_refused_as_limited};
+ghost use Rattle.registration.specs.Drafts.{IsDraft, IsFaultOf, drafted, has_references, recorded};
 ghost use Rattle.registration.specs.Links.{BodyReads};
 
 use crate::links::read_links;
 use link_format::{LinkBad, check};
-use rd_base::{Host, Items, Name, Pairs, Peer, RegParams, Starved, Text, base_of};
+use rd_base::{Items, Name, Pairs, Peer, RegParams, Starved, Text, base_of};
 use ref_resolve::parts;
 use std::alloc::{AllocFailed, Global};
 
@@ -75,44 +75,17 @@ impl<T: Drop> From<AllocFailed<T>> for DraftFault {
     }
 }
 
-/// The octets of an address are octets.
-fn known_octets(octets: [u8; 4])
-    ensures { IsHost (host.V4 octets) }
-{}
-
-/// The groups of an address have 16 bits.
-fn known_groups(groups: [u16; 8])
-    ensures { IsHost (host.V6 groups) }
-{}
-
-/// The numbers of an address fit.
-fn known_host(host: Host)
-    ensures { IsHost host }
-{
-    match host {
-        Host::V4(octets) => known_octets(octets),
-        Host::V6(groups) => known_groups(groups),
-    }
-}
-
-/// The base of a peer is one that may be given.
-fn peer_base(alloc: Global, peer: Peer) -> Result<Text, Starved>
-    ensures value { IfOk result (λ base. base ≡ base_of peer) }
-    ensures base { IfOk result (λ base. is_base base ≡ true) }
-{
-    known_host(peer.host);
-    base_of(alloc, &peer)
-}
-
 /// The base of a registration: the one that is given, else that of the peer (RFC 9176 section 5).
+#[tactic(auto, using(record_model::proofs::PeerBases::peer_base_is_base))]
 fn registered_base(alloc: Global, given: Option<Text>, peer: Peer) -> Result<Text, Starved>
     requires { IfSome given (λ base. is_base base ≡ true) }
+    ensures fits { IsHost peer.host }
     ensures value { IfOk result (λ base. base ≡ registered_base given peer) }
     ensures base { IfOk result (λ base. is_base base ≡ true) }
 {
     match given {
         Some(base) => Ok(base),
-        None => peer_base(alloc, peer),
+        None => base_of(alloc, &peer),
     }
 }
 
@@ -132,7 +105,8 @@ fn items_of(alloc: Global, base: &str, body: &[u8]) -> Result<Items, DraftFault>
 
 /// The draft of a registration (RFC 9176 section 5): its links against its base, which is the one that is given, else that
 /// of the peer. A target or an anchor with a scheme stays as it was written; any other one is resolved (RFC 3986 section
-/// 5.2). The base of the parameters is one that a registration may give.
+/// 5.2). The base of the parameters is one that a registration may give; where all of them are allowed, the draft is one
+/// that a directory takes.
 ///
 /// # Errors
 ///
@@ -144,6 +118,8 @@ pub fn build(alloc: Global, params: RegParams, peer: Peer, body: &[u8]) -> Resul
     ensures draft { IfOk result (λ draft. option_map (drafted peer params) (linked_references body.now) ≡ Some draft) }
     ensures record_of { (number : ℕ) (now : Moment) → IfOk result (λ draft. option_map (registered number now peer params) (linked_references body.now) ≡ Some (recorded number now draft)) }
     ensures good { IfOk result (λ draft. body_fault body.now ≡ None) }
+    ensures limited { OnOk result (is_refused_as_limited body.now ≡ false) }
+    ensures is_draft { AreAllowed params → IfOk result IsDraft }
     ensures base { IfOk result (λ draft. is_base draft.base ≡ true) }
     ensures references { IfOk result (λ draft. list_all has_references draft.items ≡ true) }
     ensures refused { IfErr result (λ fault. IsFaultOf body.now fault) }

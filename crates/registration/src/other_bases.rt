@@ -2,9 +2,10 @@
 ghost use Rattle.std.specs.Prelude.{◌≡◌, true, map, IfOk};
 ghost use Rattle.std.specs.List.{list_all};
 ghost use Rattle.record_model.specs.Bodies.{is_reference};
+ghost use Rattle.record_model.specs.Parameters.{is_base};
 ghost use Rattle.reference_model.specs.References.{where_present};
 ghost use Rattle.record_model.specs.Records as records;
-ghost use Rattle.registration.specs.Drafts.{IsBasis, has_references};
+ghost use Rattle.registration.specs.Drafts.{has_references};
 ghost use Rattle.registration.specs.OtherBases.{AreBased, IsBased, IsRebased};
 
 use crate::references::refer;
@@ -83,11 +84,11 @@ fn rebased_item(alloc: Global, base: &Parts<'_>, item: &Item) -> Result<Item, St
 }
 
 /// The links against another base: each target and anchor as it was submitted, resolved anew where it has no scheme. The
-/// links are such as [`build`](crate::build) gives, and the base is one that may be given, or that of a peer. An error is
-/// running out of memory.
+/// links are such as [`build`](crate::build) gives, and the base is one: any that may be given, and any of a peer, is. An
+/// error is running out of memory.
 pub fn rebased(alloc: Global, items: &Items, base: &Text) -> Result<Items, Starved>
     requires references { list_all has_references items.now ≡ true }
-    requires base { IsBasis base.now }
+    requires base { is_base base.now ≡ true }
     ensures items { IfOk result (λ new. new ≡ map (records.rebased base.now) items.now) }
     ensures references { IfOk result (λ new. list_all has_references new ≡ true) }
 {

@@ -4,12 +4,12 @@ use Rattle.std.proofs.lemmas.Bool.{and_parts}
 use Rattle.rd_base.specs.declared.records.Item.{Item}
 use Rattle.record_model.specs.Records.{rebased}
 use Rattle.registration.specs.Drafts.{has_references}
-use Rattle.registration.proofs.ReferenceLaws.{base_reads, basis_is_base, keeps_references}
+use Rattle.registration.proofs.ReferenceLaws.{base_reads, keeps_references}
 use Rattle.registration.proofs.LinksLaws.{one_more, all_more}
 use Rattle.registration.proofs.other_bases.rebased.Goals as goal
 
 pub unreachable-requires : goal.unreachable-requires
-unreachable-requires c = base_reads c.args.base.now (basis_is_base c.args.base.now c.requires.base) (λ k h. c.in_default.ensures.only k (rw c.as_str.ensures h))
+unreachable-requires c = base_reads c.args.base.now c.requires.base (λ k h. c.in_default.ensures.only k (rw c.as_str.ensures h))
 
 pub items-preserved : goal.items-preserved
 items-preserved c =

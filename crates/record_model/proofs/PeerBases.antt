@@ -15,7 +15,7 @@ use Rattle.record_model.specs.Parameters.{is_base}
 use Rattle.reference_model.proofs.ReferenceCuts.{after_none, before-marked, after-marked, has_octet-append}
 use Rattle.reference_model.proofs.ReferenceMarks.{no_mark_in_run}
 use Rattle.reference_model.proofs.ReferenceReading.{before-append, from_first-append, reference_only}
-use Rattle.registration.proofs.Addresses.{Passes, Filled, text_of_run, decimal_passes, ipv4_passes, ipv4_filled, ipv6_passes, ipv6_filled}
+use Rattle.record_model.proofs.Addresses.{Passes, Filled, text_of_run, decimal_passes, ipv4_passes, ipv4_filled, ipv6_passes, ipv6_filled}
 use Rattle.reference_model.proofs.FaultHosts.{no_at_in_host}
 
 -- ---- what stands after `coap://`
@@ -95,3 +95,7 @@ host_and_port (host.V6 groups) port fits = literal_and_port (ipv6_text groups) (
 pub is_base-base_of : (peer : Peer) → IsHost peer.host → is_base (base_of peer) ≡ true
 unfolding base_of
 is_base-base_of peer fits = coap_is_base (host_text peer.host ++ port_text peer.port) (host_and_port peer.host peer.port fits)
+
+-- and so is a text that is that base
+pub peer_base_is_base : (peer : Peer) (base : List ℕ) → IsHost peer.host → base ≡ base_of peer → is_base base ≡ true
+peer_base_is_base peer base fits e = ap is_base e ∙ is_base-base_of peer fits

@@ -1,0 +1,71 @@
+//! What a message is for.
+
+ghost use Rattle.std.specs.Prelude.{◌≡◌};
+ghost use Rattle.message_model.specs.Codes as codes_of;
+ghost use Rattle.message_model.specs.Message as model;
+
+use crate::views::View;
+use message_model::{Kind4, Role};
+
+/// Whether a code is that of a request: class 0, but not 0.00 (RFC 7252 section 12.1.1).
+fn is_request_code(code: u8) -> bool
+    ensures { result ≡ codes_of.is_request_code code }
+{
+    code > 0 && code / 32 == 0
+}
+
+/// Whether a code is that of a response: classes 2 to 5 (RFC 7252 section 12.1.2).
+fn is_response_code(code: u8) -> bool
+    ensures { result ≡ codes_of.is_response_code code }
+{
+    2 <= code / 32 && code / 32 <= 5
+}
+
+/// What an empty message is for (RFC 7252 section 4).
+fn empty_role(kind: Kind4) -> Role
+    ensures { result ≡ model.empty_role kind }
+{
+    match kind {
+        Kind4::Con => Role::Ping,
+        Kind4::Non => Role::Ignored,
+        Kind4::Ack => Role::Acknowledgement,
+        Kind4::Rst => Role::Reset,
+    }
+}
+
+/// A request comes confirmable or not (RFC 7252 section 4).
+fn request_role(kind: Kind4) -> Role
+    ensures { result ≡ model.request_role kind }
+{
+    match kind {
+        Kind4::Con | Kind4::Non => Role::Request,
+        Kind4::Ack | Kind4::Rst => Role::Ignored,
+    }
+}
+
+/// A response comes in any message but a Reset (RFC 7252 section 4).
+fn response_role(kind: Kind4) -> Role
+    ensures { result ≡ model.response_role kind }
+{
+    match kind {
+        Kind4::Con | Kind4::Non | Kind4::Ack => Role::Response,
+        Kind4::Rst => Role::Ignored,
+    }
+}
+
+/// What a message is for, by its type and code (RFC 7252 sections 4 and 5).
+pub fn role_of(view: &View<'_>) -> Role
+    ensures { result ≡ model.role_of view.now.kind view.now.code }
+{
+    let View { kind, code, .. } = *view;
+    if code == 0 {
+        return empty_role(kind);
+    }
+    if is_request_code(code) {
+        return request_role(kind);
+    }
+    if is_response_code(code) {
+        return response_role(kind);
+    }
+    Role::Ignored
+}
