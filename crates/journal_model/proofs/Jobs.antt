@@ -11,8 +11,7 @@ use Rattle.journal_model.specs.declared.steps.Step.{Step}
 use Rattle.journal_model.specs.declared.steps.StepKind.{StepKind}
 use Rattle.journal_model.specs.declared.steps.StepKind.TheVariants as step
 use Rattle.journal_model.specs.declared.rows.Row.{Row}
-use Rattle.journal_model.specs.Journal.{is_look}
-use Rattle.journal_model.specs.Meantime.{is_heard}
+use Rattle.journal_model.specs.Journal.{is_heard, is_look}
 use Rattle.journal_model.specs.Machine.{is_look_datagram, hearing, Job, write_job, keep_kind, keep_job, job_after, job_of, MayBegin, hears, goes, ticks}
 use Rattle.journal_model.specs.Headline.{Within, Placed, last_row, look_of}
 

@@ -83,7 +83,10 @@ abbrev pub write_done : Path → List Row → ℕ → ℕ → Step → Message �
 write_done path.Rd rows moment place s m = settling place s m (registering rows moment s m)
 write_done (path.Location number) rows moment place s m = settling place s m (on_location (m.code == codes_of.post) rows moment s m number)
 write_done path.SimpleRd rows moment place s m = registering_simply (events rows) place s m
-write_done _ rows moment place s m = nothing
+write_done path.Core rows moment place s m = nothing
+write_done path.Res rows moment place s m = nothing
+write_done path.Ep rows moment place s m = nothing
+write_done path.Other rows moment place s m = nothing
 
 -- the write that was admitted at a place is done
 unfoldable pub commit_effects : List Row → ℕ → ℕ → Step → Message → Effects

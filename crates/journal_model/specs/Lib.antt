@@ -12,7 +12,6 @@ pub mod EmptyMessages
 pub mod Responses
 pub mod Ticks
 pub mod Rows
-pub mod Meantime
 pub mod Machine
 pub mod Desks
 pub mod Headline

@@ -1,5 +1,5 @@
 -- The machine: which jobs workers hold, which steps they may make, and the journals that come of it.
-use Rattle.std.specs.Prelude.{◌≡◌, ℕ, ◌+◌, ◌%◌, ◌^◌, Bool, false, ◌==◌, List, [], ◌∷◌, length, fold, Option, Some, None, Result, Ok, Err, ⊤, if◌then◌else◌}
+use Rattle.std.specs.Prelude.{◌≡◌, ℕ, ◌+◌, ◌%◌, ◌^◌, Bool, false, ◌==◌, List, [], ◌∷◌, length, map, fold, Option, Some, None, Result, Ok, Err, ⊤, if◌then◌else◌}
 use Rattle.rd_base.specs.declared.peers.Peer.{Peer}
 use Rattle.message_model.specs.declared.messages.Role.{Role}
 use Rattle.message_model.specs.declared.messages.Role.TheVariants as role
@@ -19,8 +19,12 @@ use Rattle.journal_model.specs.Rows.{row}
 
 -- a message is a request that is answered by a look
 abbrev pub is_look_message : Role → Message → Bool
+is_look_message role.Ping m = false
+is_look_message role.Acknowledgement m = false
+is_look_message role.Reset m = false
 is_look_message role.Request m = is_look_request m
-is_look_message _ m = false
+is_look_message role.Response m = false
+is_look_message role.Ignored m = false
 
 -- what is read of a datagram is such a request
 abbrev pub is_look_reading : Result Message Unread → Bool
@@ -97,6 +101,10 @@ pub data IsJournal : List Row → Type 0 where
 -- the journal of steps, each with whether memory ran out in it
 unfoldable pub run : List (Step × Bool) → List Row
 run steps = fold (λ rows next. row rows next.0 next.1 ∷ rows) [] steps
+
+-- steps in none of which memory runs out
+abbrev pub unstarved : List Step → List (Step × Bool)
+unstarved steps = map (λ s. (s, false)) steps
 
 -- steps that may be made one after the other, after a journal
 abbrev pub MayRun : List (Step × Bool) → List Row → Type 0

@@ -34,9 +34,13 @@ has_bad_query m = is_some (option_and_then (λ as_what. fault_of as_what (querie
 
 -- an update and a simple registration have no payload (RFC 9176 sections 5.1 and 5.3.1)
 abbrev pub takes_no_payload : Path → ℕ → Bool
+takes_no_payload path.Core code = false
 takes_no_payload path.SimpleRd code = true
+takes_no_payload path.Rd code = false
 takes_no_payload (path.Location number) code = code == codes_of.post
-takes_no_payload _ code = false
+takes_no_payload path.Res code = false
+takes_no_payload path.Ep code = false
+takes_no_payload path.Other code = false
 
 -- the request has a payload, and its path takes none
 abbrev pub has_bad_payload : Message → Bool
@@ -58,22 +62,45 @@ refusal_or_next None m = refusal_of_query_or_payload m
 unfoldable pub refusal_of_request : Message → Option Reply
 refusal_of_request m = refusal_or_next (refusal_of m) m
 
--- a lookup of resources or of endpoints
+-- a lookup of resources or of endpoints (RFC 9176 section 6)
 abbrev pub is_lookup : Path → Bool
+is_lookup path.Core = false
+is_lookup path.SimpleRd = false
+is_lookup path.Rd = false
+is_lookup (path.Location number) = false
 is_lookup path.Res = true
 is_lookup path.Ep = true
-is_lookup _ = false
+is_lookup path.Other = false
 
 -- discovery (RFC 9176 section 4.1)
 abbrev pub is_discovery : Path → Bool
 is_discovery path.Core = true
-is_discovery _ = false
+is_discovery path.SimpleRd = false
+is_discovery path.Rd = false
+is_discovery (path.Location number) = false
+is_discovery path.Res = false
+is_discovery path.Ep = false
+is_discovery path.Other = false
+
+-- the location of a registration (RFC 9176 section 5.3)
+abbrev pub is_location : Path → Bool
+is_location path.Core = false
+is_location path.SimpleRd = false
+is_location path.Rd = false
+is_location (path.Location number) = true
+is_location path.Res = false
+is_location path.Ep = false
+is_location path.Other = false
 
 -- the kind of what is looked up at a path
 abbrev pub kind_of : Path → Kind
+kind_of path.Core = kind.Discovery
+kind_of path.SimpleRd = kind.Discovery
+kind_of path.Rd = kind.Discovery
+kind_of (path.Location number) = kind.Discovery
 kind_of path.Res = kind.Resource
 kind_of path.Ep = kind.Endpoint
-kind_of _ = kind.Discovery
+kind_of path.Other = kind.Discovery
 
 -- what a lookup or a discovery asks for
 abbrev pub query_of : Message → Query

@@ -7,4 +7,3 @@ mod FullTableTraces
 mod StepTraces
 mod DueExamples
 mod BadLineTraces
-mod MeantimeTraces

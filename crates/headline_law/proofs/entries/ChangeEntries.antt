@@ -27,7 +27,7 @@ use Rattle.journal_model.specs.declared.steps.Step.{Step}
 use Rattle.journal_model.specs.declared.rows.Row.{Row}
 use Rattle.journal_model.specs.Journal.{events, entries}
 use Rattle.journal_model.specs.Effects.{answering}
-use Rattle.journal_model.specs.Requests.{sent_block}
+use Rattle.journal_model.specs.Requests.{is_location, sent_block}
 use Rattle.journal_model.specs.Changes.{Outcome, refused_as, entered_unless, change_made, BodyRead, bad_body, good_body, limited_links, links_or_bad, body_read, registered_links, registration, created_at, number_after, entry_of_step}
 use Rattle.journal_model.specs.Registrations.{collected_before, is_one_too_many, block_taken, block_unless, block_after, block_uploaded, registration_outcome, registering}
 use Rattle.journal_model.specs.Commits.{settling, simple_unless, on_location, write_done, commit_effects}
@@ -37,7 +37,6 @@ use Rattle.message_model.specs.declared.messages.Unread.{Unread}
 use Rattle.message_model.specs.Reading.{reading}
 use Rattle.message_model.specs.Spelling.{spelling, header_spelling}
 use Rattle.journal_model.specs.declared.steps.StepKind.TheVariants as step
-use Rattle.journal_model.specs.Meantime.{is_location}
 use Rattle.journal_model.specs.Rows.{done, effects}
 
 -- no entry beside an answer that reports no change, or one that comes next beside an answer that reports one

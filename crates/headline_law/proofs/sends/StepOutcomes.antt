@@ -19,7 +19,7 @@ use Rattle.event_model.specs.declared.notes.Observer.{Observer}
 use Rattle.journal_model.specs.declared.steps.Step.{Step}
 use Rattle.journal_model.specs.declared.steps.StepKind.TheVariants as step
 use Rattle.journal_model.specs.declared.rows.Row.{Row}
-use Rattle.journal_model.specs.Journal.{events, entries}
+use Rattle.journal_model.specs.Journal.{is_heard, events, entries}
 use Rattle.journal_model.specs.Effects.{Effects, Reply, answering}
 use Rattle.journal_model.specs.Requests.{refusal_of_request, is_lookup}
 use Rattle.journal_model.specs.Looks.{look_effects, keep_effects}
@@ -28,7 +28,6 @@ use Rattle.journal_model.specs.Writes.{write_effects}
 use Rattle.journal_model.specs.Commits.{commit_effects}
 use Rattle.journal_model.specs.EmptyMessages.{acknowledged, reset}
 use Rattle.journal_model.specs.Responses.{response_effects}
-use Rattle.journal_model.specs.Meantime.{is_heard}
 use Rattle.journal_model.specs.Rows.{served, request_answered, message_effects, heard, looked, done, kept_body}
 use Rattle.journal_model.proofs.NoteKinds.{of_write, of_empty, of_commit, of_response, are, none_of}
 use Rattle.journal_model.proofs.StepNotes.{write_effects-notes, acknowledged-notes, reset-notes}
