@@ -2,6 +2,7 @@ pub mod Journal
 pub mod Effects
 pub mod Requests
 pub mod Bodies
+pub mod Sought
 pub mod Looks
 pub mod Lookups
 pub mod Writes

@@ -18,12 +18,37 @@ use Rattle.link_model.specs.Characters.{is_empty}
 use Rattle.record_model.specs.Criteria.{fault_of, lookup_values}
 use Rattle.journal_model.specs.Effects.{Reply, diagnostic}
 
--- as what the query options of a request are read; those of a removal are not read
+-- the methods that a resource may have (RFC 7252 section 5.8)
+pub data Method : Type 0 where
+  get : Method
+  post : Method
+  put : Method
+  delete : Method
+  other_method : Method
+
+-- the method of a request
+abbrev pub method_of : ℕ → Method
+method_of code =
+    if code == codes_of.get then get
+    else if code == codes_of.post then post
+    else if code == codes_of.put then put
+    else if code == codes_of.delete then delete
+    else other_method
+
+-- as what the query options of a request on a registration are read: those of an update alone are read
+abbrev pub reading_on_location : Method → Option Reading
+reading_on_location get = None
+reading_on_location post = Some reading.Update
+reading_on_location put = None
+reading_on_location delete = None
+reading_on_location other_method = None
+
+-- as what the query options of a request are read
 abbrev pub reading_of : Path → ℕ → Option Reading
 reading_of path.Core code = Some reading.Lookup
 reading_of path.SimpleRd code = Some reading.Simple
 reading_of path.Rd code = Some reading.Register
-reading_of (path.Location number) code = if code == codes_of.post then Some reading.Update else None
+reading_of (path.Location number) code = reading_on_location (method_of code)
 reading_of path.Res code = Some reading.Lookup
 reading_of path.Ep code = Some reading.Lookup
 reading_of path.Other code = None
@@ -32,12 +57,20 @@ reading_of path.Other code = None
 abbrev pub has_bad_query : Message → Bool
 has_bad_query m = is_some (option_and_then (λ as_what. fault_of as_what (queries_in m)) (reading_of (path_in m) m.code))
 
+-- an update has no payload (RFC 9176 section 5.3.1)
+abbrev pub is_update : Method → Bool
+is_update get = false
+is_update post = true
+is_update put = false
+is_update delete = false
+is_update other_method = false
+
 -- an update and a simple registration have no payload (RFC 9176 sections 5.1 and 5.3.1)
 abbrev pub takes_no_payload : Path → ℕ → Bool
 takes_no_payload path.Core code = false
 takes_no_payload path.SimpleRd code = true
 takes_no_payload path.Rd code = false
-takes_no_payload (path.Location number) code = code == codes_of.post
+takes_no_payload (path.Location number) code = is_update (method_of code)
 takes_no_payload path.Res code = false
 takes_no_payload path.Ep code = false
 takes_no_payload path.Other code = false
