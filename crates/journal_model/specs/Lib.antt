@@ -14,5 +14,6 @@ pub mod Responses
 pub mod Ticks
 pub mod Rows
 pub mod Machine
+pub mod Seats
 pub mod Desks
 pub mod Headline

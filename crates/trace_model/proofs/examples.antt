@@ -7,3 +7,4 @@ mod FullTableTraces
 mod StepTraces
 mod DueExamples
 mod BadLineTraces
+mod GeneratedTraces
