@@ -1,7 +1,7 @@
 -- Seats: a worker's share in a desk that many drive. Its desk steps are rows of one journal, each made at a turn of the seat;
 -- its looks take no turn: each is answered from a front of the history that holds all that the seat had seen.
 use Rattle.std.specs.Prelude.{◌≡◌, ◌⊎◌, ℕ, ◌+◌, ◌%◌, ◌^◌, ◌≤◌, Bool, false, ◌==◌, max, List, [], ◌∷◌, ◌++◌, filter, Option, None}
-use Rattle.std.specs.List.{IsAmong}
+use Rattle.std.specs.List.{All}
 use Rattle.rd_base.specs.declared.peers.Peer.{Peer}
 use Rattle.message_model.specs.Reading.{reading}
 use Rattle.history_model.specs.declared.entries.Entry.{Entry}
@@ -84,7 +84,7 @@ pub record MakesRow (before : Seat) (s : Step) (starved : Bool) (sent : List (Pe
   pub found : List Row
   pub goes_on : GoesOn before.seen found
   pub by_others : rows_of before.worker found ≡ rows_of before.worker before.seen
-  pub agrees : (front : List Entry) → IsAmong before.shown front → Agree front (entries found)
+  pub agrees : All (λ front. Agree front (entries found)) before.shown
   pub desk : is_look s.kind ≡ false
   pub own : IsStepOf before s
   pub sends : sent ≡ (row found s starved).sent
@@ -133,5 +133,5 @@ pub record LooksFrom (before : Seat) (s : Step) (starved : Bool) (sent : List (P
 -- and each front that it showed since its last turn is a front of that of its last look.
 pub record IsSeat (seat : Seat) : Type 0 where
   pub mine : seat.mine ≡ rows_of seat.worker seat.seen
-  pub moments : (r : Row) → IsAmong seat.mine r → r.moment.0 ≤ seat.last
-  pub shown : (front : List Entry) → IsAmong seat.shown front → IsFront front seat.front
+  pub moments : All (λ r. r.moment.0 ≤ seat.last) seat.mine
+  pub shown : All (λ front. IsFront front seat.front) seat.shown
