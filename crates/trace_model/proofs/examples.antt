@@ -8,3 +8,4 @@ mod StepTraces
 mod DueExamples
 mod BadLineTraces
 mod GeneratedTraces
+mod SeatExamples
