@@ -69,22 +69,24 @@ own_row r worker rows e =
 pub makes_row-IsSeat : (before after : Seat) (s : Step) (starved : Bool) (sent : List (Peer × List ℕ)) → IsSeat before → MakesRow before s starved sent after → IsSeat after
 unfolding row
 makes_row-IsSeat before after s starved sent was makes = subst IsSeat (sym makes.seat) (record {
-    mine = ap (λ mine. row makes.found s starved ∷ mine) (was.mine ∙ sym makes.by_others) ∙ sym (own_row (row makes.found s starved) before.worker makes.found makes.own.worker);
-    moments = All-from_recursion (λ (r : Row). r.moment.0 ≤ max before.last (row makes.found s starved).moment.0) (row makes.found s starved ∷ before.mine)
-        (omega arith, not_later before.mine before.last (max before.last (row makes.found s starved).moment.0) (omega arith) was.moments);
-    shown = All-nil (λ (front : List Entry). IsFront front before.front);
-  })
+  mine = ap (λ mine. row makes.found s starved ∷ mine) (was.mine ∙ sym makes.by_others) ∙ sym (own_row (row makes.found s starved) before.worker makes.found makes.own.worker);
+  moments = All-from_recursion (λ (r : Row). r.moment.0 ≤ max before.last (row makes.found s starved).moment.0) (row makes.found s starved ∷ before.mine)
+      (omega arith, not_later before.mine before.last (max before.last (row makes.found s starved).moment.0) (omega arith) was.moments);
+  shown = All-nil (λ (front : List Entry). IsFront front before.front);
+})
 
 -- and after a look
 pub looks_from-IsSeat : (before after : Seat) (s : Step) (starved : Bool) (sent : List (Peer × List ℕ)) (held : Option Answer) → IsSeat before → LooksFrom before s starved sent held after → IsSeat after
 looks_from-IsSeat before after s starved sent held was looks = subst IsSeat (sym looks.seat) (record {
-    mine = was.mine;
-    moments = All-from_recursion (λ (r : Row). r.moment.0 ≤ look_moment before s looks.front) before.mine
-        (not_later before.mine before.last (look_moment before s looks.front) (look_moment-last before s looks.front) was.moments);
-    shown = All-from_recursion (λ (front : List Entry). IsFront front looks.front) (looks.front ∷ before.shown)
-        (IsFront-refl looks.front, each_weaker (λ (front : List Entry). IsFront front before.front) (λ (front : List Entry). IsFront front looks.front)
-        (λ front begins. IsFront-trans front before.front looks.front begins looks.holds_shown) before.shown (recursion_from_All (λ (front : List Entry). IsFront front before.front) before.shown was.shown));
-  })
+  mine = was.mine;
+  moments = All-from_recursion (λ (r : Row). r.moment.0 ≤ look_moment before s looks.front) before.mine
+      (not_later before.mine before.last (look_moment before s looks.front) (look_moment-last before s looks.front) was.moments);
+  shown = All-from_recursion (λ (front : List Entry). IsFront front looks.front) (looks.front ∷ before.shown) (
+    IsFront-refl looks.front,
+    each_weaker (λ (front : List Entry). IsFront front before.front) (λ (front : List Entry). IsFront front looks.front)
+        (λ front begins. IsFront-trans front before.front looks.front begins looks.holds_shown) before.shown (recursion_from_All (λ (front : List Entry). IsFront front before.front) before.shown was.shown),
+  );
+})
 
 -- ---- what a seat has seen only grows
 

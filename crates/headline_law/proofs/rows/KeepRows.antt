@@ -157,7 +157,7 @@ keep_of rows s m body current journal may kind read = record {
     parts =
         let kept = same_keep body current held.keeps.found.body held.keeps.found.tag (sym kind ∙ held.keeps.kind) in
         let left = left_listing held.look.row.starved (entries held.look.before) held.look.row.moment.0 m held.keeps.found
-            (ap (held_after held.look.row.starved (entries held.look.before) held.look.row.moment.0) (sym same_read) ∙ held.keeps.held) in
+        (ap (held_after held.look.row.starved (entries held.look.before) held.look.row.moment.0) (sym same_read) ∙ held.keeps.held) in
         (kept.0 ∙ left.0, kept.1 ∙ left.1)
 
     looks_at : LooksAt (reading held.look.row.step.datagram)

@@ -1,5 +1,5 @@
 -- Make runs, computed: the trace of one device, and that of ten.
-use Rattle.std.proofs.Common.{◌≡◌, List, ℕ, [], ◌∷◌, ◌++◌, codes, refl}
+use Rattle.std.proofs.Common.{◌≡◌, [], ◌∷◌, codes, refl}
 use Rattle.line_model.specs.Generator.{generated}
 use Rattle.trace_model.specs.Output.{output}
 use Rattle.trace_model.specs.Made.{made_output}

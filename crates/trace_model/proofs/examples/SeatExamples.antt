@@ -1,7 +1,7 @@
 -- Seats, computed: a desk step at a turn, the moment of a look, and what a look gives from a front.
 -- Beside each the datagrams are shown: type, code, Message ID, token, options, payload.
-use Rattle.std.proofs.Common.{◌≡◌, inl, inr, ℕ, Bool, true, false, List, [], ◌∷◌, ◌++◌, length, map, codes, Option, Some, None, option_map, refl}
-use Rattle.std.proofs.lemmas.List.Elements.{All-nil, All-from_recursion}
+use Rattle.std.proofs.Common.{◌≡◌, ℕ, true, false, List, [], ◌∷◌, ◌++◌, length, map, codes, Some, None, option_map, refl}
+use Rattle.std.proofs.lemmas.List.Elements.{All-nil}
 use Rattle.rd_base.specs.declared.peers.Host.TheVariants as host
 use Rattle.rd_base.specs.declared.peers.Peer.{Peer}
 use Rattle.message_model.proofs.Notation.{hex}
@@ -15,7 +15,7 @@ use Rattle.journal_model.specs.declared.rows.Row.{Row}
 use Rattle.journal_model.specs.Journal.{entries}
 use Rattle.journal_model.specs.Rows.{row}
 use Rattle.journal_model.specs.Machine.{Job}
-use Rattle.journal_model.specs.Seats.{Seat, new_seat, GoesOn, Agree, job_left, after_row, MakesRow, look_moment, seat_looked, seat_held, after_look, LooksFrom}
+use Rattle.journal_model.specs.Seats.{Seat, new_seat, Agree, job_left, after_row, MakesRow, look_moment, seat_looked, seat_held, after_look, LooksFrom}
 use Rattle.trace_model.specs.Steps.{journal}
 use Rattle.trace_model.proofs.OnLiterals.{output_on_literals}
 use Rattle.trace_model.proofs.OutputLines.{lines, many}
