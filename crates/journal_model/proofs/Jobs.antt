@@ -1,9 +1,6 @@
 -- The jobs that workers hold: none is of a datagram that is yet to be heard, and a keep is of the body that the worker's last look formed.
-use Rattle.std.proofs.Common.{◌≡◌, ℕ, ◌==◌, ◌&&◌, Bool, true, false, cond, List, [], ◌∷◌, length, Option, Some, None, Result, Ok, Err, refl, sym, ap, subst, ◌∙◌}
+use Rattle.std.proofs.Common.{◌≡◌, ℕ, ◌==◌, ◌&&◌, Bool, true, false, cond, List, [], ◌∷◌, length, Option, Some, None, refl, sym, ap, subst, ◌∙◌}
 use Rattle.std.proofs.lemmas.Bool.{false≢true}
-use Rattle.rd_base.specs.declared.peers.Peer.{Peer}
-use Rattle.message_model.specs.declared.messages.Unread.{Unread}
-use Rattle.message_model.specs.Message.{Message}
 use Rattle.message_model.specs.Reading.{reading}
 use Rattle.event_model.specs.declared.notes.Note.{Note}
 use Rattle.event_model.specs.declared.notes.Note.TheVariants as note
@@ -11,9 +8,10 @@ use Rattle.journal_model.specs.declared.steps.Step.{Step}
 use Rattle.journal_model.specs.declared.steps.StepKind.{StepKind}
 use Rattle.journal_model.specs.declared.steps.StepKind.TheVariants as step
 use Rattle.journal_model.specs.declared.rows.Row.{Row}
-use Rattle.journal_model.specs.Journal.{is_look}
-use Rattle.journal_model.specs.Meantime.{is_heard}
-use Rattle.journal_model.specs.Machine.{is_look_datagram, hearing, Job, write_job, keep_kind, keep_job, job_after, job_of, MayBegin, hears, goes, ticks}
+use Rattle.journal_model.specs.Journal.{is_look, is_heard, entries}
+use Rattle.journal_model.specs.Looks.{held_after}
+use Rattle.event_model.specs.KeptAnswers.{Answer}
+use Rattle.journal_model.specs.Machine.{is_look_datagram, hearing, Job, write_job, keep_job, job_after, job_of, MayBegin, hears, goes, ticks}
 use Rattle.journal_model.specs.Headline.{Within, Placed, last_row, look_of}
 
 -- the job of an admission is its commit
@@ -27,20 +25,17 @@ write_commits _ r before job e = absurd (let h : None ≡ Some job = e in cc)
 
 -- the job of a look is its keep
 pub record Keeping (r : Row) (before : List Row) (job : Job) : Type 0 where
-  pub kind : job.kind ≡ keep_kind (reading r.step.datagram) before r.moment.0
+  pub found : Answer
+  pub held : held_after r.starved (entries before) r.moment.0 (reading r.step.datagram) ≡ Some found
+  pub kind : job.kind ≡ step.Keep found.body found.tag
   pub datagram : job.datagram ≡ r.step.datagram
 
 -- so it is of the job that a look leaves
-keep_keeps : (sent : List (Peer × List ℕ)) (r : Row) (before : List Row) (job : Job) → keep_job sent r before ≡ Some job → Keeping r before job
-keep_keeps [] r before job e =
-    let same : record { kind = keep_kind (reading r.step.datagram) before r.moment.0; peer = r.step.peer; datagram = r.step.datagram } ≡ job = cc in
-    subst (λ (j : Job). Keeping r before j) same (record { kind = refl; datagram = refl })
-keep_keeps (d ∷ sent) r before job e = absurd (let h : None ≡ Some job = e in cc)
-
--- it is of no datagram that is yet to be heard
-keep_not_heard : (read : Result Message Unread) (before : List Row) (moment : ℕ) → is_heard (keep_kind read before moment) ≡ false
-keep_not_heard (Err fault) before moment = refl
-keep_not_heard (Ok m) before moment = refl
+keep_keeps : (held : Option Answer) (r : Row) (before : List Row) (job : Job) → held_after r.starved (entries before) r.moment.0 (reading r.step.datagram) ≡ held → keep_job held r ≡ Some job → Keeping r before job
+keep_keeps (Some found) r before job holds e =
+    let same : record { kind = step.Keep found.body found.tag; peer = r.step.peer; datagram = r.step.datagram } ≡ job = cc in
+    subst (λ (j : Job). Keeping r before j) same (record { found = found; held = holds; kind = refl; datagram = refl })
+keep_keeps None r before job holds e = absurd (let h : None ≡ Some job = e in cc)
 
 -- no job is of a datagram that is yet to be heard
 pub job_not_heard : (worker : ℕ) (rows : List Row) (job : Job) → job_of worker rows ≡ Some job → is_heard job.kind ≡ false
@@ -50,7 +45,7 @@ job_not_heard worker (r ∷ before) job e = by (r.step.worker == worker) e (λ h
   where
     own : (kind : StepKind) → job_after kind r before (job_of worker before) ≡ Some job → (job_of worker before ≡ Some job → is_heard job.kind ≡ false) → is_heard job.kind ≡ false
     own step.Admit h more = ap is_heard (write_commits r.notes r before job h)
-    own step.Look h more = ap is_heard (keep_keeps r.sent r before job h).kind ∙ keep_not_heard (reading r.step.datagram) before r.moment.0
+    own step.Look h more = ap is_heard (keep_keeps (held_after r.starved (entries before) r.moment.0 (reading r.step.datagram)) r before job refl h).kind
     own (step.Commit place) h more = absurd (let no : None ≡ Some job = h in cc)
     own (step.Keep body tag) h more = absurd (let no : None ≡ Some job = h in cc)
     own step.Tick h more = more h
@@ -119,7 +114,7 @@ keeps_of worker (r ∷ before) job body tag e keep = by (r.step.worker == worker
       found = rw (is, same) refl;
       within = record { later = []; whole = refl };
       is_one = is;
-      keeps = keep_keeps r.sent r before job h;
+      keeps = keep_keeps (held_after r.starved (entries before) r.moment.0 (reading r.step.datagram)) r before job refl h;
     }
     own (step.Commit place) is same h more = absurd (let no : None ≡ Some job = h in cc)
     own (step.Keep others current) is same h more = absurd (let no : None ≡ Some job = h in cc)

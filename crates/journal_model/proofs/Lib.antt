@@ -1,5 +1,5 @@
 -- What notes hold and steps note: EntriesNoted, NoteKinds, StepNotes.
--- Rows: RowEquations (their parts), EventRows (the row of an event), Jobs (the jobs of workers), FlightKeys (notices in flight).
+-- Rows: RowEquations (their parts), EventRows (the row of an event), Jobs (the jobs of workers), SeatLaws (seats), FlightKeys (notices in flight).
 -- OnLiterals unfolds the definitions, so that examples compute.
 pub mod OnLiterals
 pub mod EntriesNoted
@@ -8,5 +8,6 @@ pub mod StepNotes
 pub mod RowEquations
 pub mod EventRows
 pub mod Jobs
+pub mod SeatLaws
 pub mod FlightKeys
 mod examples

@@ -6,9 +6,10 @@ use Rattle.event_model.specs.Events.{noted}
 use Rattle.journal_model.specs.declared.steps.Step.{Step}
 use Rattle.journal_model.specs.declared.steps.StepKind.TheVariants as step
 use Rattle.journal_model.specs.declared.rows.Row.{Row}
-use Rattle.journal_model.specs.Journal.{is_desk_row, events, now, latest, transition_of, transitions}
+use Rattle.journal_model.specs.Journal.{is_desk_row, events, entries, now, latest, transition_of, transitions}
 use Rattle.journal_model.specs.Ticks.{tick_effects}
-use Rattle.journal_model.specs.Rows.{heard, looked, done, kept_body, effects, row_moment, row}
+use Rattle.journal_model.specs.Looks.{looked}
+use Rattle.journal_model.specs.Rows.{heard, done, kept_body, effects, row_moment, row}
 use Rattle.journal_model.specs.Machine.{MayRun, IsJournal, begun, made, run}
 
 -- a row has its step, whether memory ran out, and what the step does at its moment
@@ -41,7 +42,7 @@ pub effects-Admit : (starved : Bool) (rows : List Row) (moment : ℕ) (s : Step)
 unfolding effects
 effects-Admit starved rows moment s = refl
 
-pub effects-Look : (starved : Bool) (rows : List Row) (moment : ℕ) (s : Step) → effects step.Look starved rows moment s ≡ looked starved rows moment s (reading s.datagram)
+pub effects-Look : (starved : Bool) (rows : List Row) (moment : ℕ) (s : Step) → effects step.Look starved rows moment s ≡ looked starved (entries rows) moment s (reading s.datagram)
 unfolding effects
 effects-Look starved rows moment s = refl
 

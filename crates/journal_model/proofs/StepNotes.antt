@@ -22,7 +22,7 @@ use Rattle.event_model.specs.Fetches.{last_request, fetches}
 use Rattle.journal_model.specs.Journal.{events, entries}
 use Rattle.journal_model.specs.Requests.{asked_block, query_of, register, deregister}
 use Rattle.journal_model.specs.Bodies.{is_long}
-use Rattle.journal_model.specs.Looks.{unless_held, unless_valid, looked_at, look_effects, keep_effects}
+use Rattle.journal_model.specs.Looks.{Look, answered, held, look, look_sent, look_effects, keep_effects}
 use Rattle.journal_model.specs.Lookups.{without, listing_now, addition, observer_of, block_now, block_of_kept, later_block, removal, keeping, observed_if, observed, unobserved, observation_effects, first_block_effects, block_effects, lookup_effects}
 use Rattle.journal_model.specs.Writes.{again_answered, admitted_unless, write_unless, write_effects}
 use Rattle.journal_model.specs.EmptyMessages.{waited_for, is_last_request, acknowledged, reset}
@@ -33,19 +33,12 @@ use Rattle.journal_model.proofs.NoteKinds.{of_lookup, of_write, of_empty, of_aga
 -- a look
 pub look_effects-notes : (history : List Entry) (moment : ℕ) (s : Step) (m : Message) → (look_effects history moment s m).notes ≡ []
 unfolding look_effects answering
-look_effects-notes history moment s m = by _
+look_effects-notes history moment s m = by (look history moment m)
   where
-    held : (b : Bool) (current body : List ℕ) → (unless_held b s m current body).notes ≡ []
-    held true current body = refl
-    held false current body = refl
-
-    valid : (b : Bool) (current body : List ℕ) → (unless_valid b s m current body).notes ≡ []
-    valid true current body = refl
-    valid false current body = held _ current body
-
-    by : (b : Bool) → (looked_at b history moment s m).notes ≡ []
-    by true = refl
-    by false = valid _ _ _
+    by : (given : Option Look) → (look_sent s m given).notes ≡ []
+    by None = refl
+    by (Some (answered reply)) = refl
+    by (Some (held found)) = refl
 
 -- a keep
 pub keep_effects-notes : (s : Step) (m : Message) (body current : List ℕ) → (keep_effects s m body current).notes ≡ note.Kept s.peer (key_in m) body current ∷ []

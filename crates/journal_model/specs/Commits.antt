@@ -1,5 +1,5 @@
 -- Writes as they are done: the change and its answer, or the refusal; in both cases the answer is kept for repeats.
-use Rattle.std.specs.Prelude.{ℕ, ◌+◌, Bool, true, false, ◌==◌, nat_le, List, [], ◌∷◌, ◌++◌, length, codes, Option, Some, None}
+use Rattle.std.specs.Prelude.{ℕ, ◌+◌, Bool, true, false, nat_le, List, [], ◌∷◌, ◌++◌, length, codes, Option, Some, None}
 use Rattle.rd_base.specs.declared.parameters.RegParams.{RegParams}
 use Rattle.message_model.specs.declared.blocks.Block.{Block}
 use Rattle.message_model.specs.declared.messages.Kind4.TheVariants.{Con}
@@ -20,6 +20,7 @@ use Rattle.journal_model.specs.declared.steps.Step.{Step}
 use Rattle.journal_model.specs.declared.rows.Row.{Row}
 use Rattle.journal_model.specs.Journal.{events, entries}
 use Rattle.journal_model.specs.Effects.{Effects, nothing, joined, bare, mid_of, drawn_for, answer, answering}
+use Rattle.journal_model.specs.Requests.{Method, get, post, put, delete, other_method, method_of}
 use Rattle.journal_model.specs.Changes.{Outcome, refused, entry_of_step, change_made}
 use Rattle.journal_model.specs.Registrations.{registering}
 
@@ -74,16 +75,22 @@ abbrev pub registering_simply : List Event → ℕ → Step → Message → Effe
 registering_simply events place s m = simple_unless (is_fetching s.peer events) (nat_le max_fetches (length (fetches events))) events place s m
 
 -- a write on a registration: an update or a removal, by its method
-abbrev pub on_location : Bool → List Row → ℕ → Step → Message → ℕ → Outcome
-on_location true rows moment s m number = updating rows moment s m number
-on_location false rows moment s m number = removing rows moment s number
+abbrev pub on_location : Method → List Row → ℕ → ℕ → Step → Message → ℕ → Effects
+on_location get rows moment place s m number = nothing
+on_location post rows moment place s m number = settling place s m (updating rows moment s m number)
+on_location put rows moment place s m number = nothing
+on_location delete rows moment place s m number = settling place s m (removing rows moment s number)
+on_location other_method rows moment place s m number = nothing
 
 -- what a write does, by its path
 abbrev pub write_done : Path → List Row → ℕ → ℕ → Step → Message → Effects
 write_done path.Rd rows moment place s m = settling place s m (registering rows moment s m)
-write_done (path.Location number) rows moment place s m = settling place s m (on_location (m.code == codes_of.post) rows moment s m number)
+write_done (path.Location number) rows moment place s m = on_location (method_of m.code) rows moment place s m number
 write_done path.SimpleRd rows moment place s m = registering_simply (events rows) place s m
-write_done _ rows moment place s m = nothing
+write_done path.Core rows moment place s m = nothing
+write_done path.Res rows moment place s m = nothing
+write_done path.Ep rows moment place s m = nothing
+write_done path.Other rows moment place s m = nothing
 
 -- the write that was admitted at a place is done
 unfoldable pub commit_effects : List Row → ℕ → ℕ → Step → Message → Effects

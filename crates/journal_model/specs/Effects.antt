@@ -83,6 +83,10 @@ answer s m reply = record {
 unfoldable pub answering : Step → Message → Reply → List Note → Effects
 answering s m reply notes = record { sent = (s.peer, spelling (answer s m reply)) ∷ []; notes = notes; drew = drawn_for m.kind }
 
+-- out of memory: a request is answered 5.00 (RFC 7252 section 5.9.3.1)
+abbrev pub without_memory : Step → Message → Effects
+without_memory s m = answering s m (bare codes_of.internal_server_error) []
+
 -- a message without code, token, options and payload (RFC 7252 section 4.1)
 abbrev pub empty_message : Kind4 → ℕ → Message
 empty_message kind mid = record { kind = kind; code = codes_of.empty; mid = mid; token = []; options = []; payload = [] }

@@ -26,9 +26,8 @@ use Rattle.journal_model.specs.declared.steps.StepKind.{StepKind}
 use Rattle.journal_model.specs.declared.steps.StepKind.TheVariants as step
 use Rattle.journal_model.specs.declared.rows.Row.{Row}
 use Rattle.journal_model.specs.Journal.{is_look, events, entries, entries_of, now, transitions}
-use Rattle.journal_model.specs.Requests.{is_lookup, is_look_request, query_of}
+use Rattle.journal_model.specs.Requests.{is_location, is_lookup, is_look_request, query_of}
 use Rattle.journal_model.specs.Looks.{names_tag}
-use Rattle.journal_model.specs.Meantime.{is_location}
 
 -- a row stands in a journal after the rows before it
 pub record Within (rows before : List Row) (r : Row) : Type 0 where

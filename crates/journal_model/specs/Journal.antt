@@ -11,8 +11,19 @@ use Rattle.journal_model.specs.declared.rows.Row.{Row}
 
 -- the step only looks at the registrations
 abbrev pub is_look : StepKind → Bool
+is_look step.Admit = false
 is_look step.Look = true
-is_look _ = false
+is_look (step.Commit place) = false
+is_look (step.Keep body tag) = false
+is_look step.Tick = false
+
+-- the step hears a datagram
+abbrev pub is_heard : StepKind → Bool
+is_heard step.Admit = true
+is_heard step.Look = true
+is_heard (step.Commit place) = false
+is_heard (step.Keep body tag) = false
+is_heard step.Tick = false
 
 -- the step of the row is no look
 abbrev pub is_desk_row : Row → Bool

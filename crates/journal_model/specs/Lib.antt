@@ -2,6 +2,7 @@ pub mod Journal
 pub mod Effects
 pub mod Requests
 pub mod Bodies
+pub mod Sought
 pub mod Looks
 pub mod Lookups
 pub mod Writes
@@ -12,7 +13,7 @@ pub mod EmptyMessages
 pub mod Responses
 pub mod Ticks
 pub mod Rows
-pub mod Meantime
 pub mod Machine
+pub mod Seats
 pub mod Desks
 pub mod Headline

@@ -1,18 +1,24 @@
 -- Lookups and discovery that are answered from the registrations alone (RFC 9176 sections 4.1 and 6, RFC 7252 section 5.10.6.2).
-use Rattle.std.specs.Prelude.{ℕ, Bool, true, false, List, [], ◌∷◌, Some, None, bytes_eq}
+use Rattle.std.specs.Prelude.{ℕ, Bool, true, false, List, [], ◌∷◌, Option, Some, None, Result, Ok, Err, option_map, bytes_eq}
 use Rattle.std.specs.List.{list_any}
+use Rattle.message_model.specs.declared.messages.Unread.{Unread}
 use Rattle.message_model.specs.Message.{Message}
 use Rattle.message_model.specs.Codes as codes_of
-use Rattle.message_model.specs.Request.{path_in, etags_in}
+use Rattle.message_model.specs.Request.{etags_in}
 use Rattle.message_model.specs.RequestKey.{key_in}
-use Rattle.record_model.specs.Discovery.{discovery}
 use Rattle.history_model.specs.declared.entries.Entry.{Entry}
-use Rattle.history_model.specs.Listing.{listing, tag}
 use Rattle.event_model.specs.declared.notes.Note.TheVariants as note
+use Rattle.event_model.specs.KeptAnswers.{Answer}
 use Rattle.journal_model.specs.declared.steps.Step.{Step}
-use Rattle.journal_model.specs.Effects.{Effects, Reply, nothing, answering}
-use Rattle.journal_model.specs.Requests.{query_of, asked_block, is_discovery}
+use Rattle.journal_model.specs.Effects.{Effects, Reply, nothing, answering, without_memory}
+use Rattle.journal_model.specs.Requests.{asked_block}
 use Rattle.journal_model.specs.Bodies.{tag_option, body_reply, is_long}
+use Rattle.journal_model.specs.Sought.{Sought, sought_in, body, body_tag}
+
+-- what a look gives: an answer, or a body under its tag, which the worker then holds the job to keep
+pub data Look : Type 0 where
+  answered : Reply → Look
+  held : Answer → Look
 
 -- a tag is among those that the request names
 abbrev pub names_tag : List ℕ → Message → Bool
@@ -22,32 +28,56 @@ names_tag current m = list_any (bytes_eq current) (etags_in m)
 abbrev pub still_valid : List ℕ → Reply
 still_valid current = record { code = codes_of.valid; options = tag_option (Some current); payload = [] }
 
--- the answer to discovery, which has no tag
-abbrev pub discovered : Step → Message → Effects
-discovered s m = answering s m (body_reply None None (asked_block m) (discovery (query_of m))) []
+-- a body that is longer than the block size is not sent: it is held, to be kept first
+abbrev pub unless_long : Bool → Message → Answer → Look
+unless_long true m found = held found
+unless_long false m found = answered (body_reply (Some found.tag) None (asked_block m) found.body)
 
--- a body that is longer than the block size is not sent: the worker holds the job to keep it first
-abbrev pub unless_held : Bool → Step → Message → List ℕ → List ℕ → Effects
-unless_held true s m current body = nothing
-unless_held false s m current body = answering s m (body_reply (Some current) None (asked_block m) body) []
+-- 2.03 where the client has what is found, and else the body
+abbrev pub unless_valid : Bool → Message → Answer → Look
+unless_valid true m found = answered (still_valid found.tag)
+unless_valid false m found = unless_long (is_long (asked_block m) found.body) m found
 
--- 2.03 where the client has the listing, and else the listing
-abbrev pub unless_valid : Bool → Step → Message → List ℕ → List ℕ → Effects
-unless_valid true s m current body = answering s m (still_valid current) []
-unless_valid false s m current body = unless_held (is_long (asked_block m) body) s m current body
+-- what is found under a tag, or under none
+abbrev pub found_under : Option (List ℕ) → Message → List ℕ → Look
+found_under None m what = answered (body_reply None None (asked_block m) what)
+found_under (Some current) m what = unless_valid (names_tag current m) m (record { body = what; tag = current })
 
--- the answer to a lookup from a history at a moment
-abbrev pub looked_up : List Entry → ℕ → Step → Message → Effects
-looked_up history moment s m = unless_valid (names_tag (tag history moment) m) s m (tag history moment) (listing (query_of m) history moment)
+-- what a look for this gives, from a history at a moment
+abbrev pub look_for : List Entry → ℕ → Message → Sought → Look
+look_for history moment m sought = found_under (body_tag sought history moment) m (body sought history moment)
 
--- discovery, or a lookup
-abbrev pub looked_at : Bool → List Entry → ℕ → Step → Message → Effects
-looked_at true history moment s m = discovered s m
-looked_at false history moment s m = looked_up history moment s m
+-- what a look gives from a front at a moment: nothing where nothing is sought
+unfoldable pub look : List Entry → ℕ → Message → Option Look
+look history moment m = option_map (look_for history moment m) (sought_in m)
 
--- what a look does, from a history at a moment
+-- the request is answered, where the look gives an answer
+abbrev pub look_sent : Step → Message → Option Look → Effects
+look_sent s m None = nothing
+look_sent s m (Some (answered reply)) = answering s m reply []
+look_sent s m (Some (held found)) = nothing
+
+-- what a look does, from a front at a moment
 unfoldable pub look_effects : List Entry → ℕ → Step → Message → Effects
-look_effects history moment s m = looked_at (is_discovery (path_in m)) history moment s m
+look_effects history moment s m = look_sent s m (look history moment m)
+
+-- a datagram that is looked at, from a front at a moment; out of memory, it is answered 5.00
+abbrev pub looked : Bool → List Entry → ℕ → Step → Result Message Unread → Effects
+looked starved history moment s (Err fault) = nothing
+looked true history moment s (Ok m) = without_memory s m
+looked false history moment s (Ok m) = look_effects history moment s m
+
+-- the body that a look holds
+abbrev pub body_held : Option Look → Option Answer
+body_held None = None
+body_held (Some (answered reply)) = None
+body_held (Some (held found)) = Some found
+
+-- the body that a look at a datagram leaves its worker with the job to keep
+abbrev pub held_after : Bool → List Entry → ℕ → Result Message Unread → Option Answer
+held_after starved history moment (Err fault) = None
+held_after true history moment (Ok m) = None
+held_after false history moment (Ok m) = body_held (look history moment m)
 
 -- the body of a look is kept under its tag, and its first block is sent
 unfoldable pub keep_effects : Step → Message → List ℕ → List ℕ → Effects

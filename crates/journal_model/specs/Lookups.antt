@@ -4,7 +4,7 @@ use Rattle.message_model.specs.Message.{Message}
 use Rattle.message_model.specs.Request.{observe_in}
 use Rattle.message_model.specs.RequestKey.{key_in}
 use Rattle.message_model.specs.Blocks.{block_of}
-use Rattle.history_model.specs.Listing.{listing, tag}
+use Rattle.history_model.specs.Listing.{tag}
 use Rattle.event_model.specs.declared.notes.Note.{Note}
 use Rattle.event_model.specs.declared.notes.Note.TheVariants as note
 use Rattle.event_model.specs.declared.notes.Observer.{Observer}
@@ -17,11 +17,12 @@ use Rattle.journal_model.specs.Journal.{events, entries}
 use Rattle.journal_model.specs.Effects.{Effects, answering}
 use Rattle.journal_model.specs.Requests.{query_of, asked_block, number_of, szx_of, is_later_block, register, deregister}
 use Rattle.journal_model.specs.Bodies.{body_reply, part_reply, is_long}
+use Rattle.journal_model.specs.Sought.{listing_of, body}
 use Rattle.journal_model.specs.Looks.{look_effects}
 
 -- the listing of a lookup now, and its tag
 abbrev pub listing_now : List Row → ℕ → Message → Answer
-listing_now rows moment m = record { body = listing (query_of m) (entries rows) moment; tag = tag (entries rows) moment }
+listing_now rows moment m = record { body = body (listing_of (query_of m)) (entries rows) moment; tag = tag (entries rows) moment }
 
 -- a block of the listing now, which is kept where it has that block
 abbrev pub block_now : Step → Message → Answer → Option (List ℕ × Bool) → Effects

@@ -1,26 +1,31 @@
 -- The machine: which jobs workers hold, which steps they may make, and the journals that come of it.
-use Rattle.std.specs.Prelude.{◌≡◌, ℕ, ◌+◌, ◌%◌, ◌^◌, Bool, false, ◌==◌, List, [], ◌∷◌, length, fold, Option, Some, None, Result, Ok, Err, ⊤, if◌then◌else◌}
+use Rattle.std.specs.Prelude.{◌≡◌, ℕ, ◌+◌, ◌%◌, ◌^◌, Bool, false, ◌==◌, List, [], ◌∷◌, length, map, fold, Option, Some, None, Result, Ok, Err, ⊤, if◌then◌else◌}
 use Rattle.rd_base.specs.declared.peers.Peer.{Peer}
 use Rattle.message_model.specs.declared.messages.Role.{Role}
 use Rattle.message_model.specs.declared.messages.Role.TheVariants as role
 use Rattle.message_model.specs.declared.messages.Unread.{Unread}
 use Rattle.message_model.specs.Message.{Message, role_of}
 use Rattle.message_model.specs.Reading.{reading}
-use Rattle.history_model.specs.Listing.{listing, tag}
 use Rattle.event_model.specs.declared.notes.Note.{Note}
 use Rattle.event_model.specs.declared.notes.Note.TheVariants as note
+use Rattle.event_model.specs.KeptAnswers.{Answer}
 use Rattle.journal_model.specs.declared.steps.Step.{Step}
 use Rattle.journal_model.specs.declared.steps.StepKind.{StepKind}
 use Rattle.journal_model.specs.declared.steps.StepKind.TheVariants as step
 use Rattle.journal_model.specs.declared.rows.Row.{Row}
 use Rattle.journal_model.specs.Journal.{entries}
-use Rattle.journal_model.specs.Requests.{is_look_request, query_of}
+use Rattle.journal_model.specs.Requests.{is_look_request}
+use Rattle.journal_model.specs.Looks.{held_after}
 use Rattle.journal_model.specs.Rows.{row}
 
 -- a message is a request that is answered by a look
 abbrev pub is_look_message : Role → Message → Bool
+is_look_message role.Ping m = false
+is_look_message role.Acknowledgement m = false
+is_look_message role.Reset m = false
 is_look_message role.Request m = is_look_request m
-is_look_message _ m = false
+is_look_message role.Response m = false
+is_look_message role.Ignored m = false
 
 -- what is read of a datagram is such a request
 abbrev pub is_look_reading : Result Message Unread → Bool
@@ -50,20 +55,15 @@ abbrev pub write_job : List Note → Row → List Row → Option Job
 write_job (note.Admitted peer mid ∷ notes) r before = job_from_row (step.Commit (length before)) r
 write_job _ r before = None
 
--- the body that a look formed, under its tag
-abbrev pub keep_kind : Result Message Unread → List Row → ℕ → StepKind
-keep_kind (Err fault) before moment = step.Keep [] []
-keep_kind (Ok m) before moment = step.Keep (listing (query_of m) (entries before) moment) (tag (entries before) moment)
-
--- a look that sent nothing leaves the job to keep its body
-abbrev pub keep_job : List (Peer × List ℕ) → Row → List Row → Option Job
-keep_job [] r before = job_from_row (keep_kind (reading r.step.datagram) before r.moment.0) r
-keep_job (d ∷ sent) r before = None
+-- a body that a look holds is to be kept
+abbrev pub keep_job : Option Answer → Row → Option Job
+keep_job None r = None
+keep_job (Some found) r = job_from_row (step.Keep found.body found.tag) r
 
 -- the job that a row of a worker leaves it with, where it had another before
 abbrev pub job_after : StepKind → Row → List Row → Option Job → Option Job
 job_after step.Admit r before held = write_job r.notes r before
-job_after step.Look r before held = keep_job r.sent r before
+job_after step.Look r before held = keep_job (held_after r.starved (entries before) r.moment.0 (reading r.step.datagram)) r
 job_after (step.Commit place) r before held = None
 job_after (step.Keep body tag) r before held = None
 job_after step.Tick r before held = held
@@ -97,6 +97,10 @@ pub data IsJournal : List Row → Type 0 where
 -- the journal of steps, each with whether memory ran out in it
 unfoldable pub run : List (Step × Bool) → List Row
 run steps = fold (λ rows next. row rows next.0 next.1 ∷ rows) [] steps
+
+-- steps in none of which memory runs out
+abbrev pub unstarved : List Step → List (Step × Bool)
+unstarved steps = map (λ s. (s, false)) steps
 
 -- steps that may be made one after the other, after a journal
 abbrev pub MayRun : List (Step × Bool) → List Row → Type 0

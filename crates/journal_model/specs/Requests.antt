@@ -18,12 +18,37 @@ use Rattle.link_model.specs.Characters.{is_empty}
 use Rattle.record_model.specs.Criteria.{fault_of, lookup_values}
 use Rattle.journal_model.specs.Effects.{Reply, diagnostic}
 
--- as what the query options of a request are read; those of a removal are not read
+-- the methods that a resource may have (RFC 7252 section 5.8)
+pub data Method : Type 0 where
+  get : Method
+  post : Method
+  put : Method
+  delete : Method
+  other_method : Method
+
+-- the method of a request
+abbrev pub method_of : ℕ → Method
+method_of code =
+    if code == codes_of.get then get
+    else if code == codes_of.post then post
+    else if code == codes_of.put then put
+    else if code == codes_of.delete then delete
+    else other_method
+
+-- as what the query options of a request on a registration are read: those of an update alone are read
+abbrev pub reading_on_location : Method → Option Reading
+reading_on_location get = None
+reading_on_location post = Some reading.Update
+reading_on_location put = None
+reading_on_location delete = None
+reading_on_location other_method = None
+
+-- as what the query options of a request are read
 abbrev pub reading_of : Path → ℕ → Option Reading
 reading_of path.Core code = Some reading.Lookup
 reading_of path.SimpleRd code = Some reading.Simple
 reading_of path.Rd code = Some reading.Register
-reading_of (path.Location number) code = if code == codes_of.post then Some reading.Update else None
+reading_of (path.Location number) code = reading_on_location (method_of code)
 reading_of path.Res code = Some reading.Lookup
 reading_of path.Ep code = Some reading.Lookup
 reading_of path.Other code = None
@@ -32,11 +57,23 @@ reading_of path.Other code = None
 abbrev pub has_bad_query : Message → Bool
 has_bad_query m = is_some (option_and_then (λ as_what. fault_of as_what (queries_in m)) (reading_of (path_in m) m.code))
 
+-- an update has no payload (RFC 9176 section 5.3.1)
+abbrev pub is_update : Method → Bool
+is_update get = false
+is_update post = true
+is_update put = false
+is_update delete = false
+is_update other_method = false
+
 -- an update and a simple registration have no payload (RFC 9176 sections 5.1 and 5.3.1)
 abbrev pub takes_no_payload : Path → ℕ → Bool
+takes_no_payload path.Core code = false
 takes_no_payload path.SimpleRd code = true
-takes_no_payload (path.Location number) code = code == codes_of.post
-takes_no_payload _ code = false
+takes_no_payload path.Rd code = false
+takes_no_payload (path.Location number) code = is_update (method_of code)
+takes_no_payload path.Res code = false
+takes_no_payload path.Ep code = false
+takes_no_payload path.Other code = false
 
 -- the request has a payload, and its path takes none
 abbrev pub has_bad_payload : Message → Bool
@@ -58,22 +95,45 @@ refusal_or_next None m = refusal_of_query_or_payload m
 unfoldable pub refusal_of_request : Message → Option Reply
 refusal_of_request m = refusal_or_next (refusal_of m) m
 
--- a lookup of resources or of endpoints
+-- a lookup of resources or of endpoints (RFC 9176 section 6)
 abbrev pub is_lookup : Path → Bool
+is_lookup path.Core = false
+is_lookup path.SimpleRd = false
+is_lookup path.Rd = false
+is_lookup (path.Location number) = false
 is_lookup path.Res = true
 is_lookup path.Ep = true
-is_lookup _ = false
+is_lookup path.Other = false
 
 -- discovery (RFC 9176 section 4.1)
 abbrev pub is_discovery : Path → Bool
 is_discovery path.Core = true
-is_discovery _ = false
+is_discovery path.SimpleRd = false
+is_discovery path.Rd = false
+is_discovery (path.Location number) = false
+is_discovery path.Res = false
+is_discovery path.Ep = false
+is_discovery path.Other = false
+
+-- the location of a registration (RFC 9176 section 5.3)
+abbrev pub is_location : Path → Bool
+is_location path.Core = false
+is_location path.SimpleRd = false
+is_location path.Rd = false
+is_location (path.Location number) = true
+is_location path.Res = false
+is_location path.Ep = false
+is_location path.Other = false
 
 -- the kind of what is looked up at a path
 abbrev pub kind_of : Path → Kind
+kind_of path.Core = kind.Discovery
+kind_of path.SimpleRd = kind.Discovery
+kind_of path.Rd = kind.Discovery
+kind_of (path.Location number) = kind.Discovery
 kind_of path.Res = kind.Resource
 kind_of path.Ep = kind.Endpoint
-kind_of _ = kind.Discovery
+kind_of path.Other = kind.Discovery
 
 -- what a lookup or a discovery asks for
 abbrev pub query_of : Message → Query

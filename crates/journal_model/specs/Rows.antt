@@ -19,9 +19,9 @@ use Rattle.journal_model.specs.declared.steps.StepKind.{StepKind}
 use Rattle.journal_model.specs.declared.steps.StepKind.TheVariants as step
 use Rattle.journal_model.specs.declared.rows.Row.{Row}
 use Rattle.journal_model.specs.Journal.{events, entries, latest}
-use Rattle.journal_model.specs.Effects.{Effects, Reply, nothing, bare, answering, resetting}
+use Rattle.journal_model.specs.Effects.{Effects, Reply, nothing, bare, answering, without_memory, resetting}
 use Rattle.journal_model.specs.Requests.{refusal_of_request}
-use Rattle.journal_model.specs.Looks.{look_effects, keep_effects}
+use Rattle.journal_model.specs.Looks.{look_effects, looked, keep_effects}
 use Rattle.journal_model.specs.Lookups.{lookup_effects}
 use Rattle.journal_model.specs.Writes.{write_effects}
 use Rattle.journal_model.specs.Commits.{commit_effects}
@@ -49,10 +49,6 @@ abbrev pub request_answered : Option Reply → List Row → ℕ → Step → Mes
 request_answered (Some refusal) rows moment s m = refusal_answered m.kind (first_bad_option m.options) s m refusal
 request_answered None rows moment s m = served (path_in m) rows moment s m
 
--- out of memory: a request is answered 5.00, and a response by nothing
-abbrev pub without_memory : Step → Message → Effects
-without_memory s m = answering s m (bare codes_of.internal_server_error) []
-
 -- what a message does, by what it is for (RFC 7252 section 4)
 abbrev pub message_effects : Role → Bool → List Row → ℕ → Step → Message → Effects
 message_effects role.Ping starved rows moment s m = resetting s m.mid
@@ -74,12 +70,6 @@ abbrev pub heard : Bool → List Row → ℕ → Step → Result Message Unread 
 heard starved rows moment s (Err fault) = unread_answered s fault
 heard starved rows moment s (Ok m) = message_effects (role_of m.kind m.code) starved rows moment s m
 
--- a request that is looked up
-abbrev pub looked : Bool → List Row → ℕ → Step → Result Message Unread → Effects
-looked starved rows moment s (Err fault) = nothing
-looked true rows moment s (Ok m) = without_memory s m
-looked false rows moment s (Ok m) = look_effects (entries rows) moment s m
-
 -- a write that is done; where memory ran out it ends in 5.00, and its admission with it
 abbrev pub done : Bool → List Row → ℕ → ℕ → Step → Result Message Unread → Effects
 done starved rows moment place s (Err fault) = nothing
@@ -95,7 +85,7 @@ kept_body false s (Ok m) body tag = keep_effects s m body tag
 -- what a step does, by its kind, after a journal at a moment
 unfoldable pub effects : StepKind → Bool → List Row → ℕ → Step → Effects
 effects step.Admit starved rows moment s = heard starved rows moment s (reading s.datagram)
-effects step.Look starved rows moment s = looked starved rows moment s (reading s.datagram)
+effects step.Look starved rows moment s = looked starved (entries rows) moment s (reading s.datagram)
 effects (step.Commit place) starved rows moment s = done starved rows moment place s (reading s.datagram)
 effects (step.Keep body tag) starved rows moment s = kept_body starved s (reading s.datagram) body tag
 effects step.Tick starved rows moment s = tick_effects starved rows moment s

@@ -6,4 +6,5 @@ pub mod Lengths
 pub mod Fields
 pub mod PrintedLines
 pub mod LineTexts
+pub mod GeneratedLines
 mod examples

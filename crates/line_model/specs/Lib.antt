@@ -2,3 +2,4 @@ pub mod Numbers
 pub mod Datagrams
 pub mod Lines
 pub mod Texts
+pub mod Generator

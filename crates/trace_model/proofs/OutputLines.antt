@@ -2,9 +2,8 @@
 use Rattle.std.specs.Prelude.{ℕ, Bool, List, [], ◌∷◌, ◌++◌, map, reverse, flat_map, replicate, Some, None}
 use Rattle.line_model.specs.declared.lines.Reason.{Reason}
 use Rattle.journal_model.specs.declared.rows.Row.{Row}
-use Rattle.journal_model.specs.Meantime.{is_never}
 use Rattle.journal_model.specs.Desks.{observers_of}
-use Rattle.trace_model.specs.Steps.{traced}
+use Rattle.trace_model.specs.Steps.{journal}
 use Rattle.trace_model.specs.Output.{Output, ended, out_lines, last_line}
 
 -- lines, each with its line feed
@@ -29,8 +28,8 @@ row_by_row rows = map out_lines (reverse rows) ++ last_line rows ∷ []
 
 -- what each step of a trace writes, and after them the last line
 abbrev pub step_by_step : ℕ → List (List ℕ) → List (List ℕ)
-step_by_step workers trace = row_by_row (traced is_never workers (lines trace)).journal
+step_by_step workers trace = row_by_row (journal workers (lines trace))
 
 -- which of the observers are due after a trace of one worker
 abbrev pub due_after : List (List ℕ) → List Bool
-due_after trace = map (λ w. w.due) (observers_of (traced is_never 1 (lines trace)).journal)
+due_after trace = map (λ w. w.due) (observers_of (journal 1 (lines trace)))

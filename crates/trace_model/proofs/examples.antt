@@ -7,4 +7,5 @@ mod FullTableTraces
 mod StepTraces
 mod DueExamples
 mod BadLineTraces
-mod MeantimeTraces
+mod GeneratedTraces
+mod SeatExamples

@@ -7,8 +7,7 @@ use Rattle.history_model.specs.Live.{live}
 use Rattle.event_model.specs.Observers.{observers}
 use Rattle.journal_model.specs.declared.rows.Row.{Row}
 use Rattle.journal_model.specs.Journal.{events, entries, latest}
-use Rattle.journal_model.specs.Meantime.{is_not_served, is_never}
-use Rattle.trace_model.specs.Steps.{NotServed, Traced, traced}
+use Rattle.trace_model.specs.Steps.{first_bad, journal}
 
 -- a line with its end
 abbrev pub ended : List ℕ → List ℕ
@@ -35,19 +34,11 @@ pub record Output : Type 0 where
   pub text : List ℕ
   pub bad : Option LineBad
 
--- the last line is written where no line is bad
-abbrev pub written : Traced → Option LineBad → Output
-written t (Some bad) = record { text = text t.journal; bad = Some bad }
-written t None = record { text = text t.journal ++ last_line t.journal; bad = None }
-
--- what a trace gives where some requests are not served
-unfoldable pub output_where : NotServed → ℕ → List ℕ → Output
-output_where not_served workers bytes = written (traced not_served workers bytes) (traced not_served workers bytes).bad
+-- the lines of a journal, and its last line where no line of the trace is bad
+abbrev pub written : List Row → Option LineBad → Output
+written rows (Some bad) = record { text = text rows; bad = Some bad }
+written rows None = record { text = text rows ++ last_line rows; bad = None }
 
 -- what a trace gives for a number of workers
-abbrev pub output : ℕ → List ℕ → Output
-output workers bytes = output_where is_never workers bytes
-
--- what it gives in the meantime
-abbrev pub output_in_the_meantime : ℕ → List ℕ → Output
-output_in_the_meantime workers bytes = output_where is_not_served workers bytes
+unfoldable pub output : ℕ → List ℕ → Output
+output workers bytes = written (journal workers bytes) (first_bad workers bytes)

@@ -1,5 +1,5 @@
--- The steps of a trace: what each line makes a worker do, up to the first bad line.
-use Rattle.std.specs.Prelude.{ℕ, ◌+◌, Bool, true, false, not, ◌&&◌, max, nat_lt, List, [], ◌∷◌, fold, Option, Some, None, Result, Ok, Err, if◌then◌else◌}
+-- The steps of a trace: what each line makes a worker do, up to the first bad line; and the journal that runs them.
+use Rattle.std.specs.Prelude.{ℕ, ◌+◌, Bool, true, false, max, nat_lt, List, [], ◌∷◌, Option, Some, None, Result, Ok, Err}
 use Rattle.rd_base.specs.declared.peers.Host.TheVariants as host
 use Rattle.rd_base.specs.declared.peers.Peer.{Peer}
 use Rattle.line_model.specs.declared.lines.Line.{Line}
@@ -9,28 +9,17 @@ use Rattle.line_model.specs.declared.lines.Reason.{Reason}
 use Rattle.line_model.specs.declared.lines.Reason.TheVariants as reason
 use Rattle.line_model.specs.Lines.{line_of}
 use Rattle.line_model.specs.Texts.{lines_of}
-use Rattle.message_model.specs.Message.{Message}
-use Rattle.message_model.specs.Reading.{reading}
 use Rattle.journal_model.specs.declared.steps.Step.{Step}
 use Rattle.journal_model.specs.declared.steps.StepKind.{StepKind}
 use Rattle.journal_model.specs.declared.steps.StepKind.TheVariants as step
 use Rattle.journal_model.specs.declared.rows.Row.{Row}
 use Rattle.journal_model.specs.Journal.{latest}
-use Rattle.journal_model.specs.Meantime.{is_left_out_of, row_where}
-use Rattle.journal_model.specs.Machine.{Job, is_look_datagram, job_of, mids_drawn}
-
--- which requests are not served yet, by the request and the length of its listing
-abbrev pub NotServed : Type 0
-NotServed = Message → ℕ → Bool
+use Rattle.journal_model.specs.Rows.{row}
+use Rattle.journal_model.specs.Machine.{Job, hearing, job_of, mids_drawn, run, unstarved}
 
 -- the peer of a tick, which has none
 abbrev pub nobody : Peer
 nobody = record { host = host.V4 (0 ∷ 0 ∷ 0 ∷ 0 ∷ []); port = 0 }
-
--- a datagram is heard by a look or by an admission; a request that is not served is no look
-abbrev pub hearing_where : NotServed → List ℕ → StepKind
-hearing_where not_served datagram =
-    if is_look_datagram datagram && not (is_left_out_of not_served (reading datagram)) then step.Look else step.Admit
 
 -- a step of a worker after a journal: the moment handed in is the greatest of that of its line and of those handed in before
 abbrev pub step_after : List Row → StepKind → ℕ → ℕ → ℕ → Peer → List ℕ → Step
@@ -45,10 +34,9 @@ step_after rows kind worker moment word peer datagram = record {
 }
 
 -- a worker that holds a job can hear nothing
-abbrev pub come_step : Option Job → NotServed → List Row → ℕ → ℕ → Peer → List ℕ → Result (Option Step) Reason
-come_step (Some job) not_served rows worker moment peer datagram = Err reason.Busy
-come_step None not_served rows worker moment peer datagram =
-    Ok (Some (step_after rows (hearing_where not_served datagram) worker moment 0 peer datagram))
+abbrev pub come_step : Option Job → List Row → ℕ → ℕ → Peer → List ℕ → Result (Option Step) Reason
+come_step (Some job) rows worker moment peer datagram = Err reason.Busy
+come_step None rows worker moment peer datagram = Ok (Some (step_after rows (hearing datagram) worker moment 0 peer datagram))
 
 -- a worker ends the job that it holds, and makes no step where it holds none
 abbrev pub go_step : Option Job → List Row → ℕ → ℕ → Result (Option Step) Reason
@@ -56,11 +44,10 @@ go_step (Some job) rows worker moment = Ok (Some (step_after rows job.kind worke
 go_step None rows worker moment = Ok None
 
 -- the step of a line for a worker that there is
-abbrev pub step_of_worker : NotServed → List Row → Line → Result (Option Step) Reason
-step_of_worker not_served rows (line.Come worker moment peer datagram) =
-    come_step (job_of worker rows) not_served rows worker moment.0 peer datagram
-step_of_worker not_served rows (line.Go worker moment) = go_step (job_of worker rows) rows worker moment.0
-step_of_worker not_served rows (line.Tick worker moment word) = Ok (Some (step_after rows step.Tick worker moment.0 word nobody []))
+abbrev pub step_of_worker : List Row → Line → Result (Option Step) Reason
+step_of_worker rows (line.Come worker moment peer datagram) = come_step (job_of worker rows) rows worker moment.0 peer datagram
+step_of_worker rows (line.Go worker moment) = go_step (job_of worker rows) rows worker moment.0
+step_of_worker rows (line.Tick worker moment word) = Ok (Some (step_after rows step.Tick worker moment.0 word nobody []))
 
 -- the worker of a line
 abbrev pub worker_of : Line → ℕ
@@ -69,40 +56,57 @@ worker_of (line.Go worker moment) = worker
 worker_of (line.Tick worker moment word) = worker
 
 -- the step of a line, where there is its worker
-abbrev pub if_worker : Bool → NotServed → List Row → Line → Result (Option Step) Reason
-if_worker true not_served rows l = step_of_worker not_served rows l
-if_worker false not_served rows l = Err reason.Worker
+abbrev pub if_worker : Bool → List Row → Line → Result (Option Step) Reason
+if_worker true rows l = step_of_worker rows l
+if_worker false rows l = Err reason.Worker
 
 -- the step of what a line says, or why the line is bad
-abbrev pub step_of_line : NotServed → ℕ → List Row → Result Line Reason → Result (Option Step) Reason
-step_of_line not_served workers rows (Err why) = Err why
-step_of_line not_served workers rows (Ok l) = if_worker (nat_lt (worker_of l) workers) not_served rows l
+abbrev pub step_of_line : ℕ → List Row → Result Line Reason → Result (Option Step) Reason
+step_of_line workers rows (Err why) = Err why
+step_of_line workers rows (Ok l) = if_worker (nat_lt (worker_of l) workers) rows l
 
--- what lines of a trace give: the journal, the number of the last line, and the first bad line
-pub record Traced : Type 0 where
-  pub journal : List Row
-  pub number : ℕ
+-- what lines say: the steps that they make, up to the first bad line, and that line
+pub record Trace : Type 0 where
+  pub steps : List Step
   pub bad : Option LineBad
 
--- before the first line
-abbrev pub nothing_traced : Traced
-nothing_traced = record { journal = []; number = 0; bad = None }
-
--- a step adds its row
-abbrev pub traced_step : NotServed → Traced → Result (Option Step) Reason → Traced
-traced_step not_served t (Err why) = record t { bad = Some (record { line = t.number + 1; why = why }) }
-traced_step not_served t (Ok None) = record t { number = t.number + 1 }
-traced_step not_served t (Ok (Some s)) = record t { journal = row_where not_served t.journal s false ∷ t.journal; number = t.number + 1 }
+-- no line follows
+abbrev pub no_line : Trace
+no_line = record { steps = []; bad = None }
 
 -- nothing comes after a bad line
-abbrev pub traced_unless : Option LineBad → NotServed → ℕ → Traced → List ℕ → Traced
-traced_unless (Some bad) not_served workers t text = t
-traced_unless None not_served workers t text = traced_step not_served t (step_of_line not_served workers t.journal (line_of text))
+abbrev pub stopped : ℕ → Reason → Trace
+stopped number why = record { steps = []; bad = Some (record { line = number; why = why }) }
 
--- one line more
-abbrev pub traced_line : NotServed → ℕ → Traced → List ℕ → Traced
-traced_line not_served workers t text = traced_unless t.bad not_served workers t text
+-- a step, and what comes after it
+abbrev pub onto_step : Step → Trace → Trace
+onto_step s later = record { steps = s ∷ later.steps; bad = later.bad }
 
--- what a trace gives for a number of workers
-unfoldable pub traced : NotServed → ℕ → List ℕ → Traced
-traced not_served workers bytes = fold (traced_line not_served workers) nothing_traced (lines_of bytes)
+-- a line by its number and its step: later lines come after the journal that has its row
+abbrev pub trace_line : ℕ → List Row → (List Row → Trace) → Result (Option Step) Reason → Trace
+trace_line number rows later (Err why) = stopped number why
+trace_line number rows later (Ok None) = later rows
+trace_line number rows later (Ok (Some s)) = onto_step s (later (row rows s false ∷ rows))
+
+-- what lines say from the one of a number on, where those before it made a journal: from it is known who holds which job,
+-- how many Message IDs each worker drew, and the greatest moment
+unfoldable pub trace_from : ℕ → ℕ → List Row → List (List ℕ) → Trace
+trace_from workers number rows [] = no_line
+trace_from workers number rows (text ∷ texts) =
+    trace_line number rows (λ more. trace_from workers (number + 1) more texts) (step_of_line workers rows (line_of text))
+
+-- what a trace says for a number of workers
+abbrev pub trace_of : ℕ → List ℕ → Trace
+trace_of workers bytes = trace_from workers 1 [] (lines_of bytes)
+
+-- the steps of a trace for a number of workers, up to its first bad line
+abbrev pub steps : ℕ → List ℕ → List Step
+steps workers bytes = (trace_of workers bytes).steps
+
+-- the first bad line of a trace, where there is one
+abbrev pub first_bad : ℕ → List ℕ → Option LineBad
+first_bad workers bytes = (trace_of workers bytes).bad
+
+-- the journal of a trace: its steps are run, and memory runs out in none
+abbrev pub journal : ℕ → List ℕ → List Row
+journal workers bytes = run (unstarved (steps workers bytes))

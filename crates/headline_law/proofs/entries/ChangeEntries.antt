@@ -1,5 +1,5 @@
 -- Steps that change the registrations: commits. A commit has an entry exactly where its answer reports a change; the entry comes next after the history, and is the only one.
-use Rattle.std.proofs.Common.{◌≡◌, ℕ, ◌+◌, ◌==◌, Bool, true, false, List, [], ◌∷◌, ◌++◌, length, Option, Some, None, is_some, codes, refl, ap, ◌∙◌, nat_lt, nat_le, Result, Ok, Err, sym}
+use Rattle.std.proofs.Common.{◌≡◌, ℕ, ◌+◌, Bool, true, false, List, [], ◌∷◌, ◌++◌, length, Option, Some, None, is_some, codes, refl, ap, ◌∙◌, nat_lt, nat_le, Result, Ok, Err, sym}
 use Rattle.std.proofs.lemmas.Bool.{false≢true}
 use Rattle.rd_base.specs.declared.parameters.RegParams.{RegParams}
 use Rattle.rd_base.specs.declared.submitted_links.SubmittedLink.{SubmittedLink}
@@ -7,7 +7,6 @@ use Rattle.message_model.specs.declared.blocks.Block.{Block}
 use Rattle.message_model.specs.declared.requests.Path.{Path}
 use Rattle.message_model.specs.declared.requests.Path.TheVariants as path
 use Rattle.message_model.specs.Message.{Message, Opt}
-use Rattle.message_model.specs.Codes as codes_of
 use Rattle.message_model.specs.Request.{path_in, queries_in}
 use Rattle.message_model.specs.RequestKey.{key_in}
 use Rattle.record_model.specs.Bodies.{linked_references}
@@ -27,17 +26,16 @@ use Rattle.journal_model.specs.declared.steps.Step.{Step}
 use Rattle.journal_model.specs.declared.rows.Row.{Row}
 use Rattle.journal_model.specs.Journal.{events, entries}
 use Rattle.journal_model.specs.Effects.{answering}
-use Rattle.journal_model.specs.Requests.{sent_block}
+use Rattle.journal_model.specs.Requests.{Method, get, post, put, delete, other_method, method_of, is_location, sent_block}
 use Rattle.journal_model.specs.Changes.{Outcome, refused_as, entered_unless, change_made, BodyRead, bad_body, good_body, limited_links, links_or_bad, body_read, registered_links, registration, created_at, number_after, entry_of_step}
 use Rattle.journal_model.specs.Registrations.{collected_before, is_one_too_many, block_taken, block_unless, block_after, block_uploaded, registration_outcome, registering}
-use Rattle.journal_model.specs.Commits.{settling, simple_unless, on_location, write_done, commit_effects}
+use Rattle.journal_model.specs.Commits.{settling, updating, removing, simple_unless, on_location, write_done, commit_effects}
 use Rattle.journal_model.specs.Headline.{code_sent, names_location, is_code_of_change}
 use Rattle.journal_model.proofs.EntriesNoted.{entries_in, NotesNext, none, one, entries_in-append}
 use Rattle.message_model.specs.declared.messages.Unread.{Unread}
 use Rattle.message_model.specs.Reading.{reading}
 use Rattle.message_model.specs.Spelling.{spelling, header_spelling}
 use Rattle.journal_model.specs.declared.steps.StepKind.TheVariants as step
-use Rattle.journal_model.specs.Meantime.{is_location}
 use Rattle.journal_model.specs.Rows.{done, effects}
 
 -- no entry beside an answer that reports no change, or one that comes next beside an answer that reports one
@@ -157,16 +155,18 @@ commit_effects-ChangeEntry rows moment place s m = by (path_in m)
     simple false true = no_change refl refl
     simple false false = no_change refl refl
 
-    location : (b : Bool) (number : ℕ) → OutcomeEntry (entries rows) moment (on_location b rows moment s m number) true
-    location true number = change_made-OutcomeEntry (entries rows) moment _ _ true refl tt refl refl
-    location false number = change_made-OutcomeEntry (entries rows) moment _ _ true refl tt refl refl
+    location : (w : Method) (number : ℕ) → ChangeEntry (entries rows) moment (on_location w rows moment place s m number).notes (is_code_of_change (code_sent (on_location w rows moment place s m number).sent) true)
+    location get number = no_change refl refl
+    location post number = settling-ChangeEntry (entries rows) moment place s m (updating rows moment s m number) true (change_made-OutcomeEntry (entries rows) moment _ _ true refl tt refl refl)
+    location put number = no_change refl refl
+    location delete number = settling-ChangeEntry (entries rows) moment place s m (removing rows moment s number) true (change_made-OutcomeEntry (entries rows) moment _ _ true refl tt refl refl)
+    location other_method number = no_change refl refl
 
     by : (p : Path) → ChangeEntry (entries rows) moment (write_done p rows moment place s m).notes (is_code_of_change (code_sent (write_done p rows moment place s m).sent) (is_location p))
     by path.Core = no_change refl refl
     by path.SimpleRd = simple (is_fetching s.peer (events rows)) (nat_le max_fetches (length (fetches (events rows))))
     by path.Rd = settling-ChangeEntry (entries rows) moment place s m (registering rows moment s m) false (registering-OutcomeEntry rows moment s m false)
-    by (path.Location number) =
-        settling-ChangeEntry (entries rows) moment place s m (on_location (m.code == codes_of.post) rows moment s m number) true (location (m.code == codes_of.post) number)
+    by (path.Location number) = location (method_of m.code) number
     by path.Res = no_change refl refl
     by path.Ep = no_change refl refl
     by path.Other = no_change refl refl

@@ -1,10 +1,7 @@
 -- Each admission is committed at most once.
-use Rattle.std.proofs.Common.{◌≡◌, ℕ, ◌<◌, ◌≤◌, ◌==◌, Bool, true, false, cond, List, [], ◌∷◌, ◌++◌, length, Option, Some, None, option_map, Result, Ok, Err, refl, sym, ap, subst, ◌∙◌, eqb-true, arith}
+use Rattle.std.proofs.Common.{◌≡◌, ℕ, ◌<◌, ◌≤◌, ◌==◌, Bool, true, false, cond, List, [], ◌∷◌, ◌++◌, length, Option, Some, None, option_map, refl, sym, ap, subst, ◌∙◌, eqb-true, arith}
 use Rattle.std.specs.Prelude.{⊤}
 use Rattle.std.proofs.lemmas.Bool.{false≢true}
-use Rattle.rd_base.specs.declared.peers.Peer.{Peer}
-use Rattle.message_model.specs.declared.messages.Unread.{Unread}
-use Rattle.message_model.specs.Message.{Message}
 use Rattle.message_model.specs.Reading.{reading}
 use Rattle.event_model.specs.declared.notes.Note.{Note}
 use Rattle.event_model.specs.declared.notes.Note.TheVariants as note
@@ -12,9 +9,11 @@ use Rattle.journal_model.specs.declared.steps.Step.{Step}
 use Rattle.journal_model.specs.declared.steps.StepKind.{StepKind}
 use Rattle.journal_model.specs.declared.steps.StepKind.TheVariants as step
 use Rattle.journal_model.specs.declared.rows.Row.{Row}
-use Rattle.journal_model.specs.Journal.{row_at}
-use Rattle.journal_model.specs.Rows.{row}
-use Rattle.journal_model.specs.Machine.{is_look_datagram, Job, write_job, keep_kind, keep_job, job_after, job_of, MayBegin, hears, goes, ticks, IsJournal, begun, made}
+use Rattle.journal_model.specs.Journal.{entries, row_at}
+use Rattle.journal_model.specs.Rows.{row_moment, row}
+use Rattle.event_model.specs.KeptAnswers.{Answer}
+use Rattle.journal_model.specs.Looks.{held_after}
+use Rattle.journal_model.specs.Machine.{is_look_datagram, Job, write_job, keep_job, job_after, job_of, MayBegin, hears, goes, ticks, IsJournal, begun, made}
 use Rattle.journal_model.specs.Headline.{Within, Commits}
 use Rattle.headline_law.proofs.entries.JournalLaws.{Made, each_row}
 use Rattle.rd_base.proofs.lemmas.Numbers.{eqb-refl}
@@ -91,17 +90,13 @@ after_admission rows r place (note.Admitted peer mid ∷ notes) job below kind e
 after_admission rows r place _ job below kind e commits = absurd (let h : None ≡ Some job = e in cc)
 
 -- a look leaves no such job
-after_look : (rows : List Row) (r : Row) (place : ℕ) (sent : List (Peer × List ℕ)) (job : Job) → keep_job sent r rows ≡ Some job → job.kind ≡ step.Commit place → ⊥
-after_look rows r place [] job e commits = kept (reading r.step.datagram) (ap kind_of e ∙ commits)
+after_look : (r : Row) (place : ℕ) (held : Option Answer) (job : Job) → keep_job held r ≡ Some job → job.kind ≡ step.Commit place → ⊥
+after_look r place (Some found) job e commits = let h : step.Keep found.body found.tag ≡ step.Commit place = ap kind_of e ∙ commits in cc
   where
     kind_of : Option Job → StepKind
     kind_of None = step.Tick
     kind_of (Some j) = j.kind
-
-    kept : (read : Result Message Unread) → keep_kind read rows r.moment.0 ≡ step.Commit place → ⊥
-    kept (Err fault) h = absurd cc
-    kept (Ok m) h = absurd cc
-after_look rows r place (d ∷ sent) job e commits = absurd (let h : None ≡ Some job = e in cc)
+after_look r place None job e commits = absurd (let h : None ≡ Some job = e in cc)
 
 -- the jobs with one row more
 jobs_step : (rows : List Row) (s : Step) (starved : Bool) → CommitsBelow rows → JobsMayCommit rows → MayBegin rows s → JobsMayCommit (row rows s starved ∷ rows)
@@ -113,7 +108,7 @@ jobs_step rows s starved below jobs may worker place job held commits = by (s.wo
 
     own : (kind : StepKind) → s.kind ≡ kind → job_after kind (row rows s starved) rows (job_of worker rows) ≡ Some job → s.worker ≡ worker → MayCommit (row rows s starved ∷ rows) worker place
     own step.Admit kind e same = subst (λ w. MayCommit (row rows s starved ∷ rows) w place) same (after_admission rows (row rows s starved) place (row rows s starved).notes job below kind e commits)
-    own step.Look kind e same = absurd (after_look rows (row rows s starved) place (row rows s starved).sent job e commits)
+    own step.Look kind e same = absurd (after_look (row rows s starved) place (held_after starved (entries rows) (row_moment rows s) (reading s.datagram)) job e commits)
     own (step.Commit q) kind e same = absurd (let h : None ≡ Some job = e in cc)
     own (step.Keep body tag) kind e same = absurd (let h : None ≡ Some job = e in cc)
     own step.Tick kind e same =

@@ -1,5 +1,5 @@
 -- What commits and responses note.
-use Rattle.std.proofs.Common.{◌≡◌, ℕ, ◌+◌, ◌==◌, Bool, true, false, List, [], ◌∷◌, ◌++◌, length, Option, Some, None, refl, nat_lt, nat_le}
+use Rattle.std.proofs.Common.{◌≡◌, ℕ, ◌+◌, Bool, true, false, List, [], ◌∷◌, ◌++◌, length, Option, Some, None, refl, nat_lt, nat_le}
 use Rattle.std.proofs.lemmas.Bool.{and_from}
 use Rattle.rd_base.specs.declared.parameters.RegParams.{RegParams}
 use Rattle.rd_base.specs.declared.peers.Peer.{Peer}
@@ -9,7 +9,6 @@ use Rattle.message_model.specs.declared.messages.Kind4.TheVariants.{Con, Non, Ac
 use Rattle.message_model.specs.declared.requests.Path.{Path}
 use Rattle.message_model.specs.declared.requests.Path.TheVariants as path
 use Rattle.message_model.specs.Message.{Message, Opt}
-use Rattle.message_model.specs.Codes as codes_of
 use Rattle.message_model.specs.Request.{path_in, queries_in}
 use Rattle.message_model.specs.RequestKey.{key_in}
 use Rattle.record_model.specs.Parameters.{registration_values}
@@ -26,10 +25,10 @@ use Rattle.journal_model.specs.declared.steps.Step.{Step}
 use Rattle.journal_model.specs.declared.rows.Row.{Row}
 use Rattle.journal_model.specs.Journal.{events, entries}
 use Rattle.journal_model.specs.Effects.{answering}
-use Rattle.journal_model.specs.Requests.{sent_block}
+use Rattle.journal_model.specs.Requests.{Method, get, post, put, delete, other_method, method_of, sent_block}
 use Rattle.journal_model.specs.Changes.{Outcome, refused_as, entered_unless, change_made, BodyRead, bad_body, good_body, body_read, registered_links, registration, created_at, number_after, entry_of_step}
 use Rattle.journal_model.specs.Registrations.{collected_before, is_one_too_many, block_taken, block_unless, block_after, block_uploaded, registration_outcome, registering}
-use Rattle.journal_model.specs.Commits.{settling, simple_unless, on_location, write_done, commit_effects}
+use Rattle.journal_model.specs.Commits.{settling, updating, removing, simple_unless, on_location, write_done, commit_effects}
 use Rattle.journal_model.specs.Responses.{fetch_of, strange, acknowledgement, more_follow, block_in, is_elsewhere, ends_fetch, completed, gathering, response_taken, response_to, response_to_request, response_effects}
 use Rattle.journal_model.proofs.NoteKinds.{of_commit, of_response, are, are-append}
 
@@ -101,15 +100,18 @@ commit_effects-notes rows moment place s m = by (path_in m)
     simple false true = refl
     simple false false = refl
 
-    location : (b : Bool) (number : ℕ) → are of_commit (on_location b rows moment s m number).notes ≡ true
-    location true number = change_made-notes of_commit (λ entry. refl) (entries rows) _ _ refl
-    location false number = change_made-notes of_commit (λ entry. refl) (entries rows) _ _ refl
+    location : (w : Method) (number : ℕ) → are of_commit (on_location w rows moment place s m number).notes ≡ true
+    location get number = refl
+    location post number = settled (updating rows moment s m number) (change_made-notes of_commit (λ entry. refl) (entries rows) _ _ refl)
+    location put number = refl
+    location delete number = settled (removing rows moment s number) (change_made-notes of_commit (λ entry. refl) (entries rows) _ _ refl)
+    location other_method number = refl
 
     by : (p : Path) → are of_commit (write_done p rows moment place s m).notes ≡ true
     by path.Core = refl
     by path.SimpleRd = simple (is_fetching s.peer (events rows)) (nat_le max_fetches (length (fetches (events rows))))
     by path.Rd = settled (registering rows moment s m) (registering-notes of_commit (λ entry. refl) (λ peer key number octets. refl) (λ peer key. refl) rows moment s m)
-    by (path.Location number) = settled (on_location (m.code == codes_of.post) rows moment s m number) (location (m.code == codes_of.post) number)
+    by (path.Location number) = location (method_of m.code) number
     by path.Res = refl
     by path.Ep = refl
     by path.Other = refl

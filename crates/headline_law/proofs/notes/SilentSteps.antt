@@ -6,10 +6,10 @@ use Rattle.message_model.specs.declared.messages.Unread.{Unread}
 use Rattle.message_model.specs.declared.messages.Unread.TheVariants as unread
 use Rattle.message_model.specs.Message.{Message}
 use Rattle.journal_model.specs.declared.steps.Step.{Step}
-use Rattle.journal_model.specs.declared.rows.Row.{Row}
-use Rattle.journal_model.specs.Journal.{entries}
+use Rattle.history_model.specs.declared.entries.Entry.{Entry}
 use Rattle.journal_model.specs.Effects.{Reply, answering}
-use Rattle.journal_model.specs.Rows.{refusal_answered, unread_answered, looked}
+use Rattle.journal_model.specs.Rows.{refusal_answered, unread_answered}
+use Rattle.journal_model.specs.Looks.{looked}
 use Rattle.journal_model.proofs.StepNotes.{look_effects-notes}
 
 -- a request that is refused
@@ -31,8 +31,8 @@ unread_notes s (unread.Format Ack mid) = refl
 unread_notes s (unread.Format Rst mid) = refl
 
 -- a look
-pub looked_notes : (starved : Bool) (rows : List Row) (moment : ℕ) (s : Step) (read : Result Message Unread) → (looked starved rows moment s read).notes ≡ []
+pub looked_notes : (starved : Bool) (history : List Entry) (moment : ℕ) (s : Step) (read : Result Message Unread) → (looked starved history moment s read).notes ≡ []
 unfolding answering
-looked_notes starved rows moment s (Err fault) = refl
-looked_notes true rows moment s (Ok m) = refl
-looked_notes false rows moment s (Ok m) = look_effects-notes (entries rows) moment s m
+looked_notes starved history moment s (Err fault) = refl
+looked_notes true history moment s (Ok m) = refl
+looked_notes false history moment s (Ok m) = look_effects-notes history moment s m

@@ -77,7 +77,7 @@ effects-StepNoted step.Admit starved rows moment s = by (reading s.datagram)
     by : (read : Result Message Unread) → StepNoted step.Admit starved rows moment s (heard starved rows moment s read).notes
     by (Err fault) = nothing (unread_notes s fault)
     by (Ok m) = role-StepNoted (role_of m.kind m.code) starved rows moment s m
-effects-StepNoted step.Look starved rows moment s = nothing (looked_notes starved rows moment s (reading s.datagram))
+effects-StepNoted step.Look starved rows moment s = nothing (looked_notes starved (entries rows) moment s (reading s.datagram))
 effects-StepNoted (step.Commit place) starved rows moment s = by starved (reading s.datagram)
   where
     by : (b : Bool) (read : Result Message Unread) → StepNoted (step.Commit place) starved rows moment s (done b rows moment place s read).notes

@@ -168,7 +168,7 @@ row-AllKnown rows s starved all = by s.kind refl
     by : (k : StepKind) → s.kind ≡ k → AllKnown (row rows s starved ∷ rows)
     by step.Admit e = no_tick step.Admit e refl tt
     by step.Look e =
-        look_row rows (row rows s starved) (ap (λ x. not (is_look x)) e) (notes_of step.Look e ∙ looked_notes starved rows (row_moment rows s) s (reading s.datagram)) all
+        look_row rows (row rows s starved) (ap (λ x. not (is_look x)) e) (notes_of step.Look e ∙ looked_notes starved (entries rows) (row_moment rows s) s (reading s.datagram)) all
     by (step.Commit place) e = no_tick (step.Commit place) e refl tt
     by (step.Keep body tag) e = no_tick (step.Keep body tag) e refl tt
     by step.Tick e = tick_row rows (row rows s starved) starved (desk step.Tick e refl) (notes_of step.Tick e) all

@@ -1,10 +1,9 @@
 -- Rows of keeps: what they send and keep was formed by the look whose job they end.
-use Rattle.std.proofs.Common.{◌≡◌, ℕ, ◌≤◌, Bool, true, false, cond, List, [], ◌∷◌, length, Some, Result, Ok, refl, sym, ap, subst, ◌∙◌}
-use Rattle.std.specs.Prelude.{is_none}
+use Rattle.std.proofs.Common.{◌≡◌, ℕ, ◌≤◌, Bool, true, false, cond, List, [], ◌∷◌, length, Some, None, Ok, refl, sym, ap, subst, ◌∙◌}
+use Rattle.std.specs.Prelude.{is_none, option_map}
 use Rattle.std.specs.List.{AllByRecursion}
 use Rattle.std.proofs.lemmas.Bool.{and_parts}
 use Rattle.rd_base.specs.declared.peers.Peer.{Peer}
-use Rattle.message_model.specs.declared.messages.Unread.{Unread}
 use Rattle.message_model.specs.Message.{Message}
 use Rattle.message_model.specs.Reading.{reading}
 use Rattle.message_model.specs.RequestKey.{key_in}
@@ -14,10 +13,18 @@ use Rattle.journal_model.specs.declared.steps.StepKind.{StepKind}
 use Rattle.journal_model.specs.declared.steps.StepKind.TheVariants as step
 use Rattle.journal_model.specs.declared.rows.Row.{Row}
 use Rattle.journal_model.specs.Journal.{entries}
-use Rattle.journal_model.specs.Requests.{refusal_of_request, query_of, only_looks, is_look_request}
-use Rattle.journal_model.specs.Looks.{keep_effects}
+use Rattle.journal_model.specs.Requests.{refusal_of_request, query_of, asked_block, only_looks, is_look_request}
+use Rattle.journal_model.specs.Bodies.{is_long}
+use Rattle.message_model.specs.declared.requests.Path.{Path}
+use Rattle.message_model.specs.declared.requests.Path.TheVariants as path
+use Rattle.message_model.specs.Request.{path_in}
+use Rattle.history_model.specs.declared.entries.Entry.{Entry}
+use Rattle.event_model.specs.KeptAnswers.{Answer}
+use Rattle.std.proofs.lemmas.Option.{same_Some}
+use Rattle.journal_model.specs.Sought.{sought_at}
+use Rattle.journal_model.specs.Looks.{names_tag, unless_long, unless_valid, look_for, look, body_held, held_after, keep_effects}
 use Rattle.journal_model.specs.Rows.{effects, row_moment, row}
-use Rattle.journal_model.specs.Machine.{keep_kind, Job, job_of, MayBegin, hears, goes, ticks, is_look_datagram, is_look_reading, IsJournal}
+use Rattle.journal_model.specs.Machine.{Job, job_of, MayBegin, hears, goes, ticks, is_look_datagram, is_look_reading, IsJournal}
 use Rattle.journal_model.specs.Headline.{Placed, look_of, former_of_body, former_at, query_read, query_answered, Carries}
 use Rattle.journal_model.proofs.EntriesNoted.{entries_in}
 use Rattle.journal_model.proofs.StepNotes.{keep_effects-notes}
@@ -34,6 +41,39 @@ use Rattle.headline_law.proofs.rows.RowCarries.{NoteAsFormed, RowCarries}
 use Rattle.rd_base.proofs.lemmas.Each.{each_weaker}
 
 -- ---- a row of a keep
+
+-- what a look holds is the listing of its request, under its tag
+held_listing : (history : List Entry) (moment : ℕ) (m : Message) (found : Answer) → body_held (look history moment m) ≡ Some found → (found.body ≡ listing (query_of m) history moment) × (found.tag ≡ tag history moment)
+unfolding look
+held_listing history moment m found e = by (path_in m) e
+  where
+    now : Answer
+    now = record { body = listing (query_of m) history moment; tag = tag history moment }
+
+    none : None ≡ Some found → (found.body ≡ listing (query_of m) history moment) × (found.tag ≡ tag history moment)
+    none h = absurd cc
+
+    long : (b : Bool) → body_held (Some (unless_long b m now)) ≡ Some found → (found.body ≡ listing (query_of m) history moment) × (found.tag ≡ tag history moment)
+    long true h = let same : found ≡ now = sym (same_Some now found h) in (ap (λ (a : Answer). a.body) same, ap (λ (a : Answer). a.tag) same)
+    long false h = none h
+
+    valid : (b : Bool) → body_held (Some (unless_valid b m now)) ≡ Some found → (found.body ≡ listing (query_of m) history moment) × (found.tag ≡ tag history moment)
+    valid true h = none h
+    valid false h = long (is_long (asked_block m) (listing (query_of m) history moment)) h
+
+    by : (p : Path) → body_held (option_map (look_for history moment m) (sought_at p (query_of m))) ≡ Some found → (found.body ≡ listing (query_of m) history moment) × (found.tag ≡ tag history moment)
+    by path.Core h = none h
+    by path.SimpleRd h = none h
+    by path.Rd h = none h
+    by (path.Location number) h = none h
+    by path.Res h = valid (names_tag (tag history moment) m) h
+    by path.Ep h = valid (names_tag (tag history moment) m) h
+    by path.Other h = none h
+
+-- so it is of what a look at its datagram leaves
+left_listing : (starved : Bool) (history : List Entry) (moment : ℕ) (m : Message) (found : Answer) → held_after starved history moment (Ok m) ≡ Some found → (found.body ≡ listing (query_of m) history moment) × (found.tag ≡ tag history moment)
+left_listing true history moment m found e = absurd (let h : None ≡ Some found = e in cc)
+left_listing false history moment m found e = held_listing history moment m found e
 
 -- two keeps of one body are equal in both parts
 same_keep : (body current others other : List ℕ) → step.Keep body current ≡ step.Keep others other → (body ≡ others) × (current ≡ other)
@@ -70,7 +110,7 @@ unfolding row effects
 row_of_look before r it is =
     let kind : it.step.kind ≡ step.Look = sym (ap (λ (x : Row). x.step.kind) it.is) ∙ is in
     subst (λ (x : Row). LookRow before x) (sym it.is) (record {
-      silent = ap (λ k. (effects k it.starved before (row_moment before it.step) it.step).notes) kind ∙ looked_notes it.starved before (row_moment before it.step) it.step (reading it.step.datagram);
+      silent = ap (λ k. (effects k it.starved before (row_moment before it.step) it.step).notes) kind ∙ looked_notes it.starved (entries before) (row_moment before it.step) it.step (reading it.step.datagram);
       looks = looked_a_look before it.step it.may kind;
     })
 
@@ -114,8 +154,11 @@ keep_of rows s m body current journal may kind read = record {
     same_entries = entries-none_noted held.look.before held.look.row (ap entries_in its.silent)
 
     parts : (body ≡ listing (query_of m) (entries held.look.before) held.look.row.moment.0) × (current ≡ tag (entries held.look.before) held.look.row.moment.0)
-    parts = same_keep body current (listing (query_of m) (entries held.look.before) held.look.row.moment.0) (tag (entries held.look.before) held.look.row.moment.0)
-        (sym kind ∙ (held.keeps.kind ∙ ap (λ (x : Result Message Unread). keep_kind x held.look.before held.look.row.moment.0) same_read))
+    parts =
+        let kept = same_keep body current held.keeps.found.body held.keeps.found.tag (sym kind ∙ held.keeps.kind) in
+        let left = left_listing held.look.row.starved (entries held.look.before) held.look.row.moment.0 m held.keeps.found
+        (ap (held_after held.look.row.starved (entries held.look.before) held.look.row.moment.0) (sym same_read) ∙ held.keeps.held) in
+        (kept.0 ∙ left.0, kept.1 ∙ left.1)
 
     looks_at : LooksAt (reading held.look.row.step.datagram)
     looks_at = a_look_reads (reading held.look.row.step.datagram) its.looks

@@ -12,10 +12,9 @@ use Rattle.event_model.specs.Same.{RequestName}
 use Rattle.journal_model.specs.declared.steps.StepKind.{StepKind}
 use Rattle.journal_model.specs.declared.steps.StepKind.TheVariants as step
 use Rattle.journal_model.specs.declared.rows.Row.{Row}
-use Rattle.journal_model.specs.Journal.{entries}
+use Rattle.journal_model.specs.Journal.{is_heard, entries}
 use Rattle.journal_model.specs.Requests.{query_of}
 use Rattle.journal_model.specs.Looks.{look_effects}
-use Rattle.journal_model.specs.Meantime.{is_heard}
 use Rattle.journal_model.specs.Headline.{Placed, former_of_body, former_noted, former_at, query_read, query_answered}
 use Rattle.journal_model.proofs.EntriesNoted.{entries_in}
 use Rattle.journal_model.proofs.StepNotes.{look_effects-notes}

@@ -1,5 +1,5 @@
 -- What looks and lookups send: blocks of the listing now, or of the kept answer.
-use Rattle.std.proofs.Common.{◌≡◌, ℕ, ◌≤◌, ◌==◌, Bool, true, false, cond, List, [], ◌∷◌, length, Option, Some, None, refl, ap, ◌∙◌}
+use Rattle.std.proofs.Common.{option_map, ◌≡◌, ℕ, ◌≤◌, ◌==◌, Bool, true, false, cond, List, [], ◌∷◌, length, Option, Some, None, refl, ap, ◌∙◌}
 use Rattle.std.specs.List.{list_any, AllByRecursion}
 use Rattle.std.proofs.lemmas.List.Folds.{list_any-append}
 use Rattle.rd_base.specs.declared.peers.Peer.{Peer}
@@ -20,8 +20,12 @@ use Rattle.journal_model.specs.declared.rows.Row.{Row}
 use Rattle.journal_model.specs.Journal.{events, entries}
 use Rattle.journal_model.specs.Effects.{Effects, answer_kind, answer_mid, answering}
 use Rattle.journal_model.specs.Bodies.{is_long}
-use Rattle.journal_model.specs.Requests.{query_of, asked_block, number_of, szx_of, is_discovery, is_later_block, register, deregister}
-use Rattle.journal_model.specs.Looks.{names_tag, unless_held, unless_valid, looked_at, look_effects, keep_effects}
+use Rattle.journal_model.specs.Requests.{query_of, asked_block, number_of, szx_of, is_later_block, register, deregister}
+use Rattle.journal_model.specs.Sought.{sought_at}
+use Rattle.message_model.specs.declared.requests.Path.{Path}
+use Rattle.message_model.specs.declared.requests.Path.TheVariants as path
+use Rattle.message_model.specs.Request.{path_in}
+use Rattle.journal_model.specs.Looks.{names_tag, unless_long, unless_valid, look_for, look, look_sent, look_effects, keep_effects}
 use Rattle.journal_model.specs.Lookups.{listing_now, block_now, block_of_kept, later_block, removal, without, keeping, observed_if, observed, unobserved, observation_effects, first_block_effects, block_effects, lookup_effects}
 use Rattle.headline_law.proofs.sends.BodyAnswers.{IsBodyOf, other_code, none_of_any, tag-length, part_bears, body_bears, body_untagged}
 use Rattle.journal_model.proofs.StepNotes.{look_effects-notes}
@@ -36,20 +40,28 @@ AreListings m history moment sent = AreBodiesOf m.token (listing (query_of m) hi
 
 -- a look
 pub look_lists : (history : List Entry) (moment : ℕ) (s : Step) (m : Message) → length m.token ≤ longest_token → AreListings m history moment (look_effects history moment s m).sent
-unfolding look_effects answering spelling header_spelling
-look_lists history moment s m small = by (is_discovery (path_in m))
+unfolding look_effects look answering spelling header_spelling
+look_lists history moment s m small = by (path_in m)
   where
-    held : (b : Bool) → AreListings m history moment (unless_held b s m (tag history moment) (listing (query_of m) history moment)).sent
-    held true = tt
-    held false = (body_bears (answer_kind m.kind) (answer_mid s m m.kind) m.token (tag history moment) None (asked_block m) (listing (query_of m) history moment) small (tag-length history moment), tt)
+    fresh : Answer
+    fresh = record { body = listing (query_of m) history moment; tag = tag history moment }
 
-    valid : (b : Bool) → AreListings m history moment (unless_valid b s m (tag history moment) (listing (query_of m) history moment)).sent
+    long : (b : Bool) → AreListings m history moment (look_sent s m (Some (unless_long b m fresh))).sent
+    long true = tt
+    long false = (body_bears (answer_kind m.kind) (answer_mid s m m.kind) m.token (tag history moment) None (asked_block m) (listing (query_of m) history moment) small (tag-length history moment), tt)
+
+    valid : (b : Bool) → AreListings m history moment (look_sent s m (Some (unless_valid b m fresh))).sent
     valid true = (none_of_any m.token (listing (query_of m) history moment) (tag history moment) _ (other_code _ refl), tt)
-    valid false = held (is_long (asked_block m) (listing (query_of m) history moment))
+    valid false = long (is_long (asked_block m) (listing (query_of m) history moment))
 
-    by : (b : Bool) → AreListings m history moment (looked_at b history moment s m).sent
-    by true = (none_of_any m.token (listing (query_of m) history moment) (tag history moment) _ (body_untagged (answer_kind m.kind) (answer_mid s m m.kind) m.token None (asked_block m) (discovery (query_of m)) small), tt)
-    by false = valid (names_tag (tag history moment) m)
+    by : (p : Path) → AreListings m history moment (look_sent s m (option_map (look_for history moment m) (sought_at p (query_of m)))).sent
+    by path.SimpleRd = tt
+    by path.Rd = tt
+    by (path.Location number) = tt
+    by path.Other = tt
+    by path.Res = valid (names_tag (tag history moment) m)
+    by path.Ep = valid (names_tag (tag history moment) m)
+    by path.Core = (none_of_any m.token (listing (query_of m) history moment) (tag history moment) _ (body_untagged (answer_kind m.kind) (answer_mid s m m.kind) m.token None (asked_block m) (discovery (query_of m)) small), tt)
 
 -- a keep
 pub keep_bears : (s : Step) (m : Message) (body tag : List ℕ) → length m.token ≤ longest_token → length tag ≡ 8 → AreBodiesOf m.token body tag (keep_effects s m body tag).sent

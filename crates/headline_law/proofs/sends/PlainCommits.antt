@@ -1,5 +1,5 @@
 -- What commits and responses send is neither 2.05 nor 2.03, and so is what commits settle.
-use Rattle.std.proofs.Common.{◌≡◌, ℕ, ◌==◌, Bool, true, false, List, [], length, Option, Some, None, refl, nat_le}
+use Rattle.std.proofs.Common.{◌≡◌, ℕ, Bool, true, false, List, [], length, Option, Some, None, refl, nat_le}
 use Rattle.std.specs.List.{AllByRecursion}
 use Rattle.rd_base.specs.declared.peers.Peer.{Peer}
 use Rattle.message_model.specs.declared.blocks.Block.{Block}
@@ -7,7 +7,6 @@ use Rattle.message_model.specs.declared.messages.Kind4.{Kind4}
 use Rattle.message_model.specs.declared.messages.Kind4.TheVariants.{Con, Non, Ack, Rst}
 use Rattle.message_model.specs.declared.requests.Path.{Path}
 use Rattle.message_model.specs.declared.requests.Path.TheVariants as path
-use Rattle.message_model.specs.Codes as codes_of
 use Rattle.message_model.specs.Message.{Message}
 use Rattle.message_model.specs.Spelling.{header_spelling, spelling}
 use Rattle.message_model.specs.Request.{path_in}
@@ -20,7 +19,8 @@ use Rattle.journal_model.specs.Journal.{events, entries}
 use Rattle.journal_model.specs.Effects.{answer, answering}
 use Rattle.journal_model.specs.Changes.{Outcome}
 use Rattle.journal_model.specs.Registrations.{registering}
-use Rattle.journal_model.specs.Commits.{settling, simple_unless, on_location, write_done, commit_effects}
+use Rattle.journal_model.specs.Requests.{Method, get, post, put, delete, other_method, method_of}
+use Rattle.journal_model.specs.Commits.{settling, updating, removing, simple_unless, on_location, write_done, commit_effects}
 use Rattle.journal_model.specs.Responses.{fetch_of, strange, acknowledgement, more_follow, block_in, is_elsewhere, ends_fetch, gathering, response_taken, response_to, response_to_request, response_effects}
 use Rattle.journal_model.proofs.NoteKinds.{are}
 use Rattle.headline_law.proofs.notes.ChangeNotes.{change_made-notes, registering-notes}
@@ -58,9 +58,12 @@ commit_plain rows moment place s m = by (path_in m)
       settles = (record { no_content = refl; no_valid = refl }, (tt, tt));
     }
 
-    location : (b : Bool) (number : ℕ) → IsPlainCode (on_location b rows moment s m number).reply.code × (are of_change (on_location b rows moment s m number).notes ≡ true)
-    location true number = (change_plain (entries rows) _ _ (record { no_content = refl; no_valid = refl }), change_made-notes of_change (λ entry. refl) (entries rows) _ _ refl)
-    location false number = (change_plain (entries rows) _ _ (record { no_content = refl; no_valid = refl }), change_made-notes of_change (λ entry. refl) (entries rows) _ _ refl)
+    location : (w : Method) (number : ℕ) → CommitsPlainly (on_location w rows moment place s m number).sent (on_location w rows moment place s m number).notes
+    location get number = record { sends = tt; settles = tt }
+    location post number = settled (updating rows moment s m number) (change_plain (entries rows) _ _ (record { no_content = refl; no_valid = refl })) (change_made-notes of_change (λ entry. refl) (entries rows) _ _ refl)
+    location put number = record { sends = tt; settles = tt }
+    location delete number = settled (removing rows moment s number) (change_plain (entries rows) _ _ (record { no_content = refl; no_valid = refl })) (change_made-notes of_change (λ entry. refl) (entries rows) _ _ refl)
+    location other_method number = record { sends = tt; settles = tt }
 
     by : (p : Path) → CommitsPlainly (write_done p rows moment place s m).sent (write_done p rows moment place s m).notes
     by path.Core = record { sends = tt; settles = tt }
@@ -68,9 +71,7 @@ commit_plain rows moment place s m = by (path_in m)
     by path.Rd =
         settled (registering rows moment s m) (registering_plain rows moment s m)
         (registering-notes of_change (λ entry. refl) (λ peer key number octets. refl) (λ peer key. refl) rows moment s m)
-    by (path.Location number) =
-        let both = location (m.code == codes_of.post) number in
-        settled (on_location (m.code == codes_of.post) rows moment s m number) both.0 both.1
+    by (path.Location number) = location (method_of m.code) number
     by path.Res = record { sends = tt; settles = tt }
     by path.Ep = record { sends = tt; settles = tt }
     by path.Other = record { sends = tt; settles = tt }

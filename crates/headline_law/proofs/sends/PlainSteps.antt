@@ -31,12 +31,12 @@ use Rattle.event_model.specs.Uploads.{max_body, live_upload, live_uploads}
 use Rattle.journal_model.specs.declared.steps.Step.{Step}
 use Rattle.journal_model.specs.declared.rows.Row.{Row}
 use Rattle.journal_model.specs.Journal.{events, entries}
-use Rattle.journal_model.specs.Effects.{Reply, bare, diagnostic, answer, answering}
+use Rattle.journal_model.specs.Effects.{Reply, bare, diagnostic, answer, answering, without_memory}
 use Rattle.journal_model.specs.Requests.{sent_block, has_bad_query, has_bad_payload, refusal_or_next, refusal_of_request}
 use Rattle.journal_model.specs.Changes.{Outcome, refused_as, entered_unless, change_made, BodyRead, bad_body, good_body, body_read, registered_links, registration, created_at, number_after, entry_of_step}
 use Rattle.journal_model.specs.Registrations.{collected_before, is_one_too_many, block_taken, block_unless, block_after, block_uploaded, registration_outcome, registering}
 use Rattle.journal_model.specs.Writes.{again_answered, admitted_unless, write_unless, write_effects}
-use Rattle.journal_model.specs.Rows.{refusal_answered, without_memory, unread_answered}
+use Rattle.journal_model.specs.Rows.{refusal_answered, unread_answered}
 use Rattle.journal_model.specs.Headline.{code_at}
 use Rattle.journal_model.proofs.NoteKinds.{are}
 

@@ -23,16 +23,16 @@ use Rattle.journal_model.specs.declared.steps.StepKind.{StepKind}
 use Rattle.journal_model.specs.declared.steps.StepKind.TheVariants as step
 use Rattle.journal_model.specs.declared.rows.Row.{Row}
 use Rattle.journal_model.specs.Journal.{is_look, events, entries}
-use Rattle.journal_model.specs.Effects.{Reply, answering}
+use Rattle.journal_model.specs.Effects.{Reply, answering, without_memory}
 use Rattle.journal_model.specs.Requests.{refusal_of_request, is_lookup, only_looks, is_look_request}
-use Rattle.journal_model.specs.Looks.{look_effects, keep_effects}
+use Rattle.journal_model.specs.Looks.{look_effects, looked, keep_effects}
 use Rattle.journal_model.specs.Commits.{commit_effects}
 use Rattle.journal_model.specs.Ticks.{tick_effects}
 use Rattle.journal_model.specs.Lookups.{lookup_effects}
 use Rattle.journal_model.specs.Writes.{write_effects}
 use Rattle.journal_model.specs.EmptyMessages.{acknowledged, reset}
 use Rattle.journal_model.specs.Responses.{response_effects}
-use Rattle.journal_model.specs.Rows.{served, request_answered, without_memory, message_effects, heard, looked, done, kept_body, effects}
+use Rattle.journal_model.specs.Rows.{served, request_answered, message_effects, heard, done, kept_body, effects}
 use Rattle.journal_model.specs.Machine.{is_look_message, is_look_reading}
 use Rattle.journal_model.proofs.NoteKinds.{of_lookup, of_write, of_empty, of_tick, of_response, are}
 use Rattle.journal_model.proofs.StepNotes.{look_effects-notes, keep_effects-notes, lookup_effects-notes, write_effects-notes, acknowledged-notes, reset-notes, tick_effects-notes}
@@ -178,7 +178,7 @@ effects_send step.Admit starved rows moment s past admits =
     of_sends step.Admit (heard starved rows moment s (reading s.datagram)).sent (heard starved rows moment s (reading s.datagram)).notes (heard_sends starved rows moment s (reading s.datagram) past (admits refl))
 effects_send step.Look starved rows moment s past admits = by starved (reading s.datagram)
   where
-    by : (b : Bool) (read : Result Message Unread) → StepSends step.Look (looked b rows moment s read).sent (looked b rows moment s read).notes
+    by : (b : Bool) (read : Result Message Unread) → StepSends step.Look (looked b (entries rows) moment s read).sent (looked b (entries rows) moment s read).notes
     by b (Err fault) = record { confirmables = tt; others = λ e. absurd (false≢true (sym e)); facts = tt }
     by true (Ok m) = record { confirmables = no_confirmable_valid (without_memory s m).sent (plain_not_valid (without_memory s m).sent (starved_plain s m)); others = λ e. absurd (false≢true (sym e)); facts = tt }
     by false (Ok m) = record {

@@ -19,17 +19,16 @@ use Rattle.event_model.specs.declared.notes.Observer.{Observer}
 use Rattle.journal_model.specs.declared.steps.Step.{Step}
 use Rattle.journal_model.specs.declared.steps.StepKind.TheVariants as step
 use Rattle.journal_model.specs.declared.rows.Row.{Row}
-use Rattle.journal_model.specs.Journal.{events, entries}
+use Rattle.journal_model.specs.Journal.{is_heard, events, entries}
 use Rattle.journal_model.specs.Effects.{Effects, Reply, answering}
 use Rattle.journal_model.specs.Requests.{refusal_of_request, is_lookup}
-use Rattle.journal_model.specs.Looks.{look_effects, keep_effects}
+use Rattle.journal_model.specs.Looks.{look_effects, looked, keep_effects}
 use Rattle.journal_model.specs.Lookups.{lookup_effects}
 use Rattle.journal_model.specs.Writes.{write_effects}
 use Rattle.journal_model.specs.Commits.{commit_effects}
 use Rattle.journal_model.specs.EmptyMessages.{acknowledged, reset}
 use Rattle.journal_model.specs.Responses.{response_effects}
-use Rattle.journal_model.specs.Meantime.{is_heard}
-use Rattle.journal_model.specs.Rows.{served, request_answered, message_effects, heard, looked, done, kept_body}
+use Rattle.journal_model.specs.Rows.{served, request_answered, message_effects, heard, done, kept_body}
 use Rattle.journal_model.proofs.NoteKinds.{of_write, of_empty, of_commit, of_response, are, none_of}
 use Rattle.journal_model.proofs.StepNotes.{write_effects-notes, acknowledged-notes, reset-notes}
 use Rattle.headline_law.proofs.notes.ChangeNotes.{commit_effects-notes, response_effects-notes}
@@ -106,7 +105,7 @@ heard_outcome starved rows moment s (Err fault) settled hears read = plain (unre
 heard_outcome starved rows moment s (Ok m) settled hears read = role_outcome (role_of m.kind m.code) starved rows moment s m settled hears read
 
 -- a datagram that is looked at
-pub looked_outcome : (starved : Bool) (rows : List Row) (moment : ℕ) (s : Step) (read : Result Message Unread) → is_heard s.kind ≡ true → reading s.datagram ≡ read → StepOutcome rows moment s (looked starved rows moment s read)
+pub looked_outcome : (starved : Bool) (rows : List Row) (moment : ℕ) (s : Step) (read : Result Message Unread) → is_heard s.kind ≡ true → reading s.datagram ≡ read → StepOutcome rows moment s (looked starved (entries rows) moment s read)
 unfolding answering
 looked_outcome starved rows moment s (Err fault) hears read = plain tt refl
 looked_outcome true rows moment s (Ok m) hears read = plain (starved_plain s m) refl

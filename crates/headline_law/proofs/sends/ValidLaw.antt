@@ -1,7 +1,7 @@
 -- 2.03 is sent exactly where a look names the tag at its own row.
 use Rattle.std.proofs.Common.{◌≡◌, ℕ, ◌==◌, ◌&&◌, Bool, true, false, cond, List, [], ◌∷◌, length, Some, None, Result, Ok, Err, refl, sym, ap, subst, ◌∙◌}
-use Rattle.std.specs.Prelude.{is_none, is_some}
-use Rattle.std.proofs.lemmas.Bool.{false≢true, and_parts}
+use Rattle.std.specs.Prelude.{is_some}
+use Rattle.std.proofs.lemmas.Bool.{false≢true}
 use Rattle.std.proofs.lemmas.Option.{same_Some}
 use Rattle.rd_base.specs.declared.peers.Peer.{Peer}
 use Rattle.message_model.specs.declared.messages.Role.{Role}
@@ -21,14 +21,15 @@ use Rattle.journal_model.specs.declared.steps.StepKind.{StepKind}
 use Rattle.journal_model.specs.declared.steps.StepKind.TheVariants as step
 use Rattle.journal_model.specs.declared.rows.Row.{Row}
 use Rattle.journal_model.specs.Journal.{is_look, events, entries, row_at}
-use Rattle.journal_model.specs.Requests.{refusal_of_request, only_looks, is_look_request}
-use Rattle.journal_model.specs.Rows.{looked, effects, row_moment, row}
+use Rattle.journal_model.specs.Requests.{is_look_request}
+use Rattle.journal_model.specs.Looks.{looked}
+use Rattle.journal_model.specs.Rows.{effects, row_moment, row}
 use Rattle.journal_model.specs.Machine.{is_look_message, is_look_reading, is_look_datagram, MayMake, IsJournal, begun, made}
 use Rattle.journal_model.specs.Headline.{Within, code_sent, looks_with_tag}
 use Rattle.headline_law.proofs.entries.JournalLaws.{Made, each_row}
 use Rattle.journal_model.proofs.Jobs.{heard_as_hearing, heard_no_look, heard_a_look}
 use Rattle.headline_law.proofs.sends.PlainSteps.{IsPlain, ArePlain, SettledPlain}
-use Rattle.headline_law.proofs.sends.ValidSends.{NoneValid, NoConfirmableValid, look_valid, looks_either}
+use Rattle.headline_law.proofs.sends.ValidSends.{NoneValid, NoConfirmableValid, look_valid}
 use Rattle.journal_model.proofs.EventRows.{AllRows, RowOf, row_of, row_within, said_by}
 use Rattle.headline_law.proofs.sends.TickSends.{AskedPlain}
 use Rattle.headline_law.proofs.sends.RowSends.{NoteFact, Before, StepSends, effects_send}
@@ -123,12 +124,10 @@ a_look_reads (Ok m) h = by (role_of m.kind m.code) h
 
 -- what a look sends first is 2.03 exactly where it names the tag
 look_is_valid : (rows : List Row) (moment : ℕ) (s : Step) → is_look_reading (reading s.datagram) ≡ true
-    → (code_sent (looked false rows moment s (reading s.datagram)).sent == codes_of.valid) ≡ looks_with_tag (tag (entries rows) moment) (reading s.datagram)
-unfolding is_look_request
+    → (code_sent (looked false (entries rows) moment s (reading s.datagram)).sent == codes_of.valid) ≡ looks_with_tag (tag (entries rows) moment) (reading s.datagram)
 look_is_valid rows moment s h =
     let it = a_look_reads (reading s.datagram) h in
-    let parts = and_parts (is_none (refusal_of_request it.message)) (only_looks it.message) it.looks in
-    rw it.read_is (look_valid (entries rows) moment s it.message ∙ rw (it.looks, looks_either it.message parts.1) refl)
+    rw it.read_is (look_valid (entries rows) moment s it.message ∙ rw it.looks refl)
 
 -- no message is sent that is 2.03, so the first is not
 first_not_valid : (sent : List (Peer × List ℕ)) → NoneValid sent → (code_sent sent == codes_of.valid) ≡ false

@@ -1,5 +1,5 @@
 -- Where 2.03 is sent: looks send it where the request names the tag; no other step sends it, and no confirmable message has it.
-use Rattle.std.proofs.Common.{◌≡◌, ℕ, ◌+◌, ◌*◌, ◌/◌, ◌==◌, ◌||◌, ◌&&◌, Bool, true, false, not, List, [], ◌∷◌, length, Option, Some, None, refl, sym, ap, ◌∙◌, arith}
+use Rattle.std.proofs.Common.{option_map, ◌≡◌, ℕ, ◌+◌, ◌*◌, ◌/◌, ◌==◌, ◌||◌, ◌&&◌, Bool, true, false, not, List, [], ◌∷◌, length, Option, Some, None, refl, sym, ap, ◌∙◌, arith}
 use Rattle.std.specs.List.{AllByRecursion}
 use Rattle.std.proofs.lemmas.Bool.{false≢true, ne_eqb}
 use Rattle.rd_base.specs.declared.peers.Peer.{Peer}
@@ -25,7 +25,8 @@ use Rattle.journal_model.specs.Journal.{events, entries}
 use Rattle.journal_model.specs.Effects.{Reply, answer_kind, answer, answering}
 use Rattle.journal_model.specs.Bodies.{part_reply, body_reply, is_long}
 use Rattle.journal_model.specs.Requests.{query_of, asked_block, number_of, szx_of, is_lookup, is_discovery, is_later_block, register, deregister, is_heeded, only_looks}
-use Rattle.journal_model.specs.Looks.{names_tag, unless_held, unless_valid, looked_at, look_effects, keep_effects}
+use Rattle.journal_model.specs.Sought.{sought_at}
+use Rattle.journal_model.specs.Looks.{Look, answered, held, names_tag, unless_long, unless_valid, look_for, look, look_sent, look_effects, keep_effects}
 use Rattle.journal_model.specs.Lookups.{listing_now, block_now, block_of_kept, later_block, without, observed_if, observed, unobserved, observation_effects, first_block_effects, block_effects, lookup_effects}
 use Rattle.journal_model.specs.Headline.{code_at, code_sent}
 
@@ -68,22 +69,15 @@ answers_apart s m reply = answer_apart m.kind (length m.token)
 -- so no look sends a confirmable 2.03
 pub look_no_confirmable_valid : (history : List Entry) (moment : ℕ) (s : Step) (m : Message) → NoConfirmableValid (look_effects history moment s m).sent
 unfolding look_effects answering
-look_no_confirmable_valid history moment s m = by (is_discovery (path_in m))
+look_no_confirmable_valid history moment s m = by (look history moment m)
   where
     one : (reply : Reply) → NoConfirmableValid ((s.peer, spelling (answer s m reply)) ∷ [])
     one reply = ((λ e. absurd (false≢true (sym (answers_apart s m reply) ∙ e))), tt)
 
-    held : (b : Bool) → NoConfirmableValid (unless_held b s m (tag history moment) (listing (query_of m) history moment)).sent
-    held true = tt
-    held false = one _
-
-    valid : (b : Bool) → NoConfirmableValid (unless_valid b s m (tag history moment) (listing (query_of m) history moment)).sent
-    valid true = one _
-    valid false = held (is_long (asked_block m) (listing (query_of m) history moment))
-
-    by : (b : Bool) → NoConfirmableValid (looked_at b history moment s m).sent
-    by true = one _
-    by false = valid (names_tag (tag history moment) m)
+    by : (given : Option Look) → NoConfirmableValid (look_sent s m given).sent
+    by None = tt
+    by (Some (answered reply)) = one reply
+    by (Some (held found)) = tt
 
 -- a body is answered by 2.05 or 4.00
 part_code : (tag : Option (List ℕ)) (observe : Option ℕ) (asked : Option Block) (part : Option (List ℕ × Bool)) → ((part_reply tag observe asked part).code == codes_of.valid) ≡ false
@@ -97,34 +91,29 @@ body_code tag observe asked body = part_code tag observe asked (block_of body (n
 
 -- a look of a listing answers 2.03 exactly where the request names the tag
 pub look_valid : (history : List Entry) (moment : ℕ) (s : Step) (m : Message)
-    → (code_sent (look_effects history moment s m).sent == codes_of.valid) ≡ (not (is_discovery (path_in m)) && names_tag (tag history moment) m)
-unfolding look_effects answering spelling header_spelling
-look_valid history moment s m = by (is_discovery (path_in m))
+    → (code_sent (look_effects history moment s m).sent == codes_of.valid) ≡ (is_lookup (path_in m) && names_tag (tag history moment) m)
+unfolding look_effects look answering spelling header_spelling
+look_valid history moment s m = by (path_in m)
   where
-    held : (b : Bool) → (code_sent (unless_held b s m (tag history moment) (listing (query_of m) history moment)).sent == codes_of.valid) ≡ false
-    held true = refl
-    held false = body_code (Some (tag history moment)) None (asked_block m) (listing (query_of m) history moment)
+    now : Answer
+    now = record { body = listing (query_of m) history moment; tag = tag history moment }
 
-    valid : (b : Bool) → (code_sent (unless_valid b s m (tag history moment) (listing (query_of m) history moment)).sent == codes_of.valid) ≡ b
+    long : (b : Bool) → (code_sent (look_sent s m (Some (unless_long b m now))).sent == codes_of.valid) ≡ false
+    long true = refl
+    long false = body_code (Some (tag history moment)) None (asked_block m) (listing (query_of m) history moment)
+
+    valid : (b : Bool) → (code_sent (look_sent s m (Some (unless_valid b m now))).sent == codes_of.valid) ≡ b
     valid true = refl
-    valid false = held (is_long (asked_block m) (listing (query_of m) history moment))
+    valid false = long (is_long (asked_block m) (listing (query_of m) history moment))
 
-    by : (b : Bool) → (code_sent (looked_at b history moment s m).sent == codes_of.valid) ≡ (not b && names_tag (tag history moment) m)
-    by true = body_code None None (asked_block m) (discovery (query_of m))
-    by false = valid (names_tag (tag history moment) m)
-
--- a request that is looked at asks for a listing or for discovery
-pub looks_either : (m : Message) → only_looks m ≡ true → is_lookup (path_in m) ≡ not (is_discovery (path_in m))
-looks_either m h = by (path_in m) h
-  where
-    by : (p : Path) → (is_discovery p || (is_lookup p && not (is_later_block m) && not (is_heeded (observe_in m)))) ≡ true → is_lookup p ≡ not (is_discovery p)
-    by path.Core e = refl
-    by path.Res e = refl
-    by path.Ep e = refl
-    by path.SimpleRd e = absurd (false≢true e)
-    by path.Rd e = absurd (false≢true e)
-    by (path.Location number) e = absurd (false≢true e)
-    by path.Other e = absurd (false≢true e)
+    by : (p : Path) → (code_sent (look_sent s m (option_map (look_for history moment m) (sought_at p (query_of m)))).sent == codes_of.valid) ≡ (is_lookup p && names_tag (tag history moment) m)
+    by path.Core = body_code None None (asked_block m) (discovery (query_of m))
+    by path.SimpleRd = refl
+    by path.Rd = refl
+    by (path.Location number) = refl
+    by path.Res = valid (names_tag (tag history moment) m)
+    by path.Ep = valid (names_tag (tag history moment) m)
+    by path.Other = refl
 
 -- ---- keeps and lookups
 
