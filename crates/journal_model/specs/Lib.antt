@@ -14,5 +14,4 @@ pub mod Ticks
 pub mod Rows
 pub mod Meantime
 pub mod Machine
-pub mod Desks
 pub mod Headline
