@@ -11,4 +11,5 @@ pub mod ObserverLaws
 pub mod AddedObservers
 pub mod ManyObservers
 pub mod OrderLaws
+pub mod AsideLaws
 mod examples

@@ -6,7 +6,7 @@ use Rattle.event_model.specs.declared.notes.Note.{Note}
 use Rattle.event_model.specs.declared.notes.Note.TheVariants as note
 use Rattle.event_model.specs.Events.{Event}
 use Rattle.event_model.specs.AdmissionOrder.{AdmitsNew, AdmitsInOrder, IsOrderly}
-use Rattle.event_model.proofs.AddedObservers.{is_admitting}
+use Rattle.event_model.specs.Repeats.{is_admitting}
 
 -- none
 pub IsOrderly-none : IsOrderly []

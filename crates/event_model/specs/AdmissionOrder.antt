@@ -39,6 +39,11 @@ is_admitted_event place peer mid moment a = a.place == place && is_admission_of 
 abbrev pub HasAdmission : ℕ → Peer → ℕ → ℕ → List Event → Type 0
 HasAdmission place peer mid moment events = list_any (is_admitted_event place peer mid moment) (admissions events) ≡ true
 
+-- where admissions are in order, a write that was admitted at a place and a moment and has not failed: what a table asks of the write that it answers
+pub record IsOpen (place : ℕ) (peer : Peer) (mid moment : ℕ) (events : List Event) : Type 0 where
+  pub orderly : IsOrderly events
+  pub admission : HasAdmission place peer mid moment events
+
 -- the note says nothing of exchanges
 abbrev pub is_aside : Note → Bool
 is_aside (note.Admitted peer mid) = false

@@ -1,5 +1,5 @@
 -- Writes that come again (RFC 7252 section 4.5): which admissions are kept, and what a repeat finds.
-use Rattle.std.specs.Prelude.{ℕ, Bool, false, not, ◌&&◌, ◌==◌, nat_le, List, [], ◌∷◌, ◌++◌, length, filter, Option, Some, None, option_and_then, if◌then◌else◌}
+use Rattle.std.specs.Prelude.{ℕ, Bool, true, false, not, ◌&&◌, ◌==◌, nat_le, List, [], ◌∷◌, ◌++◌, length, filter, Option, Some, None, option_and_then, if◌then◌else◌}
 use Rattle.std.specs.List.{filter_map, list_any}
 use Rattle.rd_base.specs.declared.peers.Peer.{Peer}
 use Rattle.event_model.specs.declared.notes.Note.{Note}
@@ -15,6 +15,11 @@ max_exchanges = 4_096
 abbrev pub is_admission_of : Peer → ℕ → Note → Bool
 is_admission_of peer mid (note.Admitted p m) = is_same_peer p peer && m == mid
 is_admission_of peer mid _ = false
+
+-- an admission
+abbrev pub is_admitting : Note → Bool
+is_admitting (note.Admitted peer mid) = true
+is_admitting _ = false
 
 -- the event, where its note is an admission
 abbrev pub admission_noted : Note → Event → List Event
@@ -51,6 +56,12 @@ answer_noted place _ = None
 -- the octets that the admission of a place was answered by; none while it is in flight
 unfoldable pub settled : ℕ → List Event → Option (List ℕ)
 settled place events = last_said (answer_noted place) events
+
+-- the note settles or fails the admission of a place
+abbrev pub is_ending_of : ℕ → Note → Bool
+is_ending_of place (note.Settled p reply) = p == place
+is_ending_of place (note.Failed p) = p == place
+is_ending_of place _ = false
 
 -- as many exchanges are kept as there is room for
 abbrev pub is_full_of_exchanges : ℕ → List Event → Bool

@@ -10,8 +10,7 @@ use Rattle.event_model.specs.declared.notes.Note.{Note}
 use Rattle.event_model.specs.declared.notes.Note.TheVariants as note
 use Rattle.event_model.specs.Same.{is_same_peer}
 use Rattle.event_model.specs.Events.{Event, is_young, or_else, last_said}
-use Rattle.event_model.specs.Repeats.{is_admission_of, answer_noted, settled, Exchange, exchange_admitted, exchange_of}
-use Rattle.event_model.proofs.AddedObservers.{is_admitting}
+use Rattle.event_model.specs.Repeats.{is_admission_of, answer_noted, settled, Exchange, exchange_admitted, exchange_of, is_admitting}
 use Rattle.exchange_core.specs.Table.{is_with, is_admitted_at, young, answered, answered_first, without_first}
 use Rattle.event_model.specs.AdmissionOrder.{is_admitted_event}
 use Rattle.exchange_core.proofs.FilterLemmas.{any_known}

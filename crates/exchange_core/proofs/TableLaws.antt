@@ -9,8 +9,7 @@ use Rattle.rd_base.proofs.lemmas.Pairs.{pairs_filter, PairsByRecursion}
 use Rattle.event_model.specs.declared.notes.Note.{Note}
 use Rattle.event_model.specs.declared.notes.Note.TheVariants as note
 use Rattle.event_model.specs.Events.{Event, is_young, exchange_lifetime, or_else, last_said}
-use Rattle.event_model.specs.Repeats.{admission_noted, is_failure_of, admissions, kept, repeated, answer_noted, settled, is_full_of_exchanges, Exchange, exchange_admitted, exchange_of, exchanges_at}
-use Rattle.event_model.proofs.AddedObservers.{is_admitting}
+use Rattle.event_model.specs.Repeats.{admission_noted, is_failure_of, admissions, kept, repeated, answer_noted, settled, is_full_of_exchanges, Exchange, exchange_admitted, exchange_of, exchanges_at, is_admitting}
 use Rattle.exchange_core.specs.declared.writes.Keyed.{Keyed}
 use Rattle.exchange_core.specs.declared.writes.Keyed.TheVariants as keyed
 use Rattle.exchange_core.specs.Table.{Table, is_with, is_admitted_at, young, InOrder, repeating, repeating_young, repeat_among, answered_first, without_first}

@@ -14,4 +14,6 @@ pub mod Ticks
 pub mod Rows
 pub mod Meantime
 pub mod Machine
+pub mod DeskJournal
+pub mod UnfinishedRow
 pub mod Headline
