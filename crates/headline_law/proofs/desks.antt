@@ -1,1 +1,2 @@
 pub mod TouchedExchanges
+pub mod AdmissionsInOrder

@@ -33,7 +33,7 @@ use Rattle.headline_law.proofs.notes.StepTable.{StepNoted, effects-StepNoted}
 use Rattle.headline_law.proofs.notes.StepTable as noted
 
 -- it admits nothing, and settles or fails at most what was admitted at a place
-pub ends_at : ℕ → Note → Bool
+abbrev pub ends_at : ℕ → Note → Bool
 ends_at place (note.Admitted peer mid) = false
 ends_at place (note.Settled p reply) = p == place
 ends_at place (note.Failed p) = p == place
@@ -89,7 +89,7 @@ write_touches rows moment s m = by (repeated moment s.peer m.mid (events rows)) 
 
 -- a commit ends its own admission at most
 commit_ends : (rows : List Row) (moment place : ℕ) (s : Step) (m : Message) → are (ends_at place) (commit_effects rows moment place s m).notes ≡ true
-unfolding commit_effects answering ends_at
+unfolding commit_effects answering
 commit_ends rows moment place s m = by (path_in m)
   where
     its : (octets : List ℕ) → are (ends_at place) (note.Settled place octets ∷ []) ≡ true
@@ -118,7 +118,6 @@ commit_ends rows moment place s m = by (path_in m)
 
 -- any step
 effects-Touches : (kind : StepKind) (starved : Bool) (rows : List Row) (moment : ℕ) (s : Step) → Touches kind rows moment s (effects kind starved rows moment s).notes
-unfolding ends_at
 effects-Touches kind starved rows moment s = by (effects kind starved rows moment s).notes (effects-StepNoted kind starved rows moment s)
   where
     by : (ns : List Note) → StepNoted kind starved rows moment s ns → Touches kind rows moment s ns
