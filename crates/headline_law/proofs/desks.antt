@@ -1,2 +1,3 @@
 pub mod TouchedExchanges
 pub mod AdmissionsInOrder
+pub mod OpenAdmissions
