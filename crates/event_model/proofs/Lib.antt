@@ -12,4 +12,5 @@ pub mod AddedObservers
 pub mod ManyObservers
 pub mod OrderLaws
 pub mod AsideLaws
+pub mod AsideTables
 mod examples
