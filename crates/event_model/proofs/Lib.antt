@@ -13,4 +13,6 @@ pub mod ManyObservers
 pub mod OrderLaws
 pub mod AsideLaws
 pub mod AsideTables
+pub mod TransitionLaws
+pub mod DueLaws
 mod examples
