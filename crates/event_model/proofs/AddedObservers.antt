@@ -11,7 +11,7 @@ use Rattle.event_model.specs.declared.notes.Note.TheVariants as note
 use Rattle.event_model.specs.declared.notes.Observer.{Observer}
 use Rattle.event_model.specs.Same.{is_same_request}
 use Rattle.event_model.specs.Events.{Event, has_event, noted}
-use Rattle.event_model.specs.Repeats.{admission_noted, is_failure_of, admissions}
+use Rattle.event_model.specs.Repeats.{is_admitting, admission_noted, is_failure_of, admissions}
 use Rattle.event_model.specs.Observers.{name_of, is_end_of, observer_added, observers}
 use Rattle.event_model.proofs.ObserverLaws.{Apart, apart-sym}
 
@@ -61,10 +61,6 @@ observers_noted place moment word (n ∷ notes) before none h =
 abbrev pub is_failing : Note → Bool
 is_failing (note.Failed place) = true
 is_failing _ = false
-
-abbrev pub is_admitting : Note → Bool
-is_admitting (note.Admitted peer mid) = true
-is_admitting _ = false
 
 -- where no admission failed, each of them stands
 pub admissions_whole : (events : List Event) → has_event is_failing events ≡ false → admissions events ≡ filter (λ e. is_admitting e.note) events

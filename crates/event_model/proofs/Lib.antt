@@ -1,5 +1,5 @@
 -- The tests of peers, requests and queries: SameLaws.
--- Looking back over events: NotedLaws (the notes of a row), EventEquations (one event more), KeptLaws (admissions).
+-- Looking back over events: NotedLaws (the notes of a row), EventEquations (one event more), KeptLaws and OrderLaws (admissions).
 -- Observers: ObserverLaws (no two have one name), AddedObservers and ManyObservers (those that notes add).
 -- OnLiterals unfolds the definitions, so that examples compute.
 pub mod OnLiterals
@@ -10,4 +10,9 @@ pub mod EventEquations
 pub mod ObserverLaws
 pub mod AddedObservers
 pub mod ManyObservers
+pub mod OrderLaws
+pub mod AsideLaws
+pub mod AsideTables
+pub mod TransitionLaws
+pub mod DueLaws
 mod examples

@@ -1,5 +1,5 @@
--- When an observer is due: its listing changed since it was last looked at (RFC 7641 section 1.3).
-use Rattle.std.specs.Prelude.{ℕ, Bool, true, false, not, ◌&&◌, ◌==◌, nat_lt, List, [], ◌∷◌, filter, Option, Some, None, bytes_eq}
+-- When an observer is due: its listing changed since it was last looked at (RFC 7641 section 1.3). And the observers, as they stand.
+use Rattle.std.specs.Prelude.{ℕ, Bool, true, false, not, ◌&&◌, ◌==◌, nat_lt, List, [], ◌∷◌, filter, Option, Some, None, bytes_eq, map}
 use Rattle.std.specs.List.{list_any}
 use Rattle.rd_base.specs.declared.queries.Query.{Query}
 use Rattle.history_model.specs.declared.entries.Entry.{Entry}
@@ -9,7 +9,8 @@ use Rattle.event_model.specs.declared.notes.Note.TheVariants as note
 use Rattle.event_model.specs.declared.notes.Observer.{Observer}
 use Rattle.event_model.specs.Same.{RequestName, is_same_request}
 use Rattle.event_model.specs.Events.{Event, last_event}
-use Rattle.event_model.specs.Observers.{name_of}
+use Rattle.event_model.specs.Observers.{name_of, observers, last_body_formed}
+use Rattle.event_model.specs.Flights.{Sent, OctetsSent, waiting_notice}
 
 -- a row whose step is no look, as observers see it: its place, and the history and the moment before it and after it
 pub record Transition : Type 0 where
@@ -44,3 +45,23 @@ is_changed_since query transitions (Some looked) = list_any (is_change_of query)
 -- the observer is due: since its listing was last looked at, a row changed the lines of its query
 unfoldable pub is_due : Observer → List Event → List Transition → Bool
 is_due o events transitions = is_changed_since o.query transitions (last_event (is_looking_for (name_of o)) events)
+
+-- an observer that stands: who it is, whether it is due, the body that was last formed for it, and its notice in flight
+pub record Watching : Type 0 where
+  pub observer : Observer
+  pub due : Bool
+  pub last_body : Option (List ℕ)
+  pub waits : Option Sent
+
+-- so it is of an observer, by events, by the transitions of rows, and by the octets that rows sent
+abbrev pub watching : OctetsSent → List Event → List Transition → Observer → Watching
+watching octets events transitions o = record {
+  observer = o;
+  due = is_due o events transitions;
+  last_body = last_body_formed (name_of o) events;
+  waits = waiting_notice octets events o;
+}
+
+-- the observers that stand, in the order in which they were added
+unfoldable pub observers_standing : OctetsSent → List Event → List Transition → List Watching
+observers_standing octets events transitions = map (watching octets events transitions) (observers events)

@@ -1,5 +1,5 @@
 -- What a journal notes, as events. A list of events has the newest first: the last event of a kind is the first that is found.
-use Rattle.std.specs.Prelude.{ℕ, ◌+◌, Bool, nat_lt, List, [], ◌∷◌, find, fold, Option, Some, None, if◌then◌else◌}
+use Rattle.std.specs.Prelude.{ℕ, ◌+◌, Bool, nat_lt, List, [], ◌∷◌, find, fold, Option, Some, None, option_map, unwrap_or, if◌then◌else◌}
 use Rattle.std.specs.List.{list_any}
 use Rattle.event_model.specs.declared.notes.Note.{Note}
 
@@ -36,6 +36,10 @@ or_else None other = other
 unfoldable pub last_said : {A : Type 0} → (Note → Option A) → List Event → Option A
 last_said says [] = None
 last_said says (e ∷ before) = or_else (says e.note) (last_said says before)
+
+-- the moment of an event, 0 where there is none
+abbrev pub event_moment : Option Event → ℕ
+event_moment e = unwrap_or (option_map (λ e. e.moment) e) 0
 
 -- how long an exchange, an upload and a kept answer live, in milliseconds (RFC 7252 section 4.8.2, EXCHANGE_LIFETIME)
 abbrev pub exchange_lifetime : ℕ

@@ -1,5 +1,5 @@
 -- Fetches of simple registrations (RFC 9176 section 5.1): which run, what each collected, and until when it waits.
-use Rattle.std.specs.Prelude.{ℕ, ◌+◌, Bool, false, not, ◌&&◌, ◌==◌, List, [], ◌∷◌, ◌++◌, reverse, filter, flat_map, filter_map, count_by, Option, Some, None, if◌then◌else◌}
+use Rattle.std.specs.Prelude.{ℕ, ◌+◌, ◌%◌, ◌^◌, Bool, false, not, ◌&&◌, ◌==◌, List, [], ◌∷◌, ◌++◌, reverse, filter, flat_map, filter_map, count_by, Option, Some, None, option_map, option_and_then, if◌then◌else◌}
 use Rattle.std.specs.List.{list_any}
 use Rattle.std.specs.Int.{bytes_high_first}
 use Rattle.rd_base.specs.declared.peers.Peer.{Peer}
@@ -8,7 +8,7 @@ use Rattle.event_model.specs.declared.notes.Note.{Note}
 use Rattle.event_model.specs.declared.notes.Note.TheVariants as note
 use Rattle.event_model.specs.Same.{is_same_peer}
 use Rattle.event_model.specs.Events.{Event, last_event, has_event, events_since}
-use Rattle.event_model.specs.Flights.{deadline}
+use Rattle.event_model.specs.Flights.{deadline, Sent, OctetsSent, retransmission}
 
 -- the most fetches that run
 abbrev pub max_fetches : ℕ
@@ -116,3 +116,42 @@ is_waiting peer events = has_event (is_waiting_for peer) (since_request peer eve
 -- until when the fetch of a peer waits after an event that made its last request
 unfoldable pub fetch_deadline : Peer → Event → List Event → ℕ
 fetch_deadline peer request events = if is_waiting peer events then request.moment + response_wait else deadline request (resendings peer events)
+
+-- how many fetches started, as 64 bits count
+unfoldable pub fetches_started : List Event → ℕ
+fetches_started events = count_by (λ e. is_start e.note) events % 2 ^ 64
+
+-- a fetch that runs: its peer; its last request, with its token, the parameters of the registration, the block's number, its moment and the message that waits;
+-- whether that was acknowledged; what is collected, and the entity tag of the first block
+pub record Fetch : Type 0 where
+  pub peer : Peer
+  pub token : List ℕ
+  pub params : RegParams
+  pub number : ℕ
+  pub asked : ℕ
+  pub waits : Sent
+  pub acknowledged : Bool
+  pub body : List ℕ
+  pub tag : Option (Option (List ℕ))
+
+-- the fetch of a peer, by the event of its last request
+abbrev pub fetch_asked : OctetsSent → List Event → Peer → Event → Request → Fetch
+fetch_asked octets events peer e request = record {
+  peer = peer;
+  token = request.token;
+  params = request.params;
+  number = request.number;
+  asked = e.moment;
+  waits = record { mid = request.mid; octets = octets e.place peer request.mid; resend = retransmission e (resendings peer events) };
+  acknowledged = is_waiting peer events;
+  body = collected peer events;
+  tag = tag_of_first (gathered peer events);
+}
+
+-- the fetch of a peer, where it made a request
+abbrev pub fetch_of : OctetsSent → List Event → Peer → Option Fetch
+fetch_of octets events peer = option_and_then (λ e. option_map (fetch_asked octets events peer e) (request_noted e.note)) (last_request peer events)
+
+-- the fetches that run, in the order in which they started
+unfoldable pub fetches_running : OctetsSent → List Event → List Fetch
+fetches_running octets events = filter_map (fetch_of octets events) (fetches events)

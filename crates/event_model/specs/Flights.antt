@@ -1,5 +1,5 @@
 -- Notices in flight, and when a message is sent again (RFC 7252 section 4.2).
-use Rattle.std.specs.Prelude.{ℕ, ◌+◌, ◌*◌, ◌%◌, ◌^◌, Bool, false, ◌&&◌, ◌==◌, List, [], ◌∷◌, length, filter, Option, Some, None, is_some, option_and_then, if◌then◌else◌}
+use Rattle.std.specs.Prelude.{ℕ, ◌+◌, ◌*◌, ◌%◌, ◌^◌, Bool, false, ◌&&◌, ◌==◌, List, [], ◌∷◌, length, filter, Option, Some, None, is_some, option_map, option_and_then, if◌then◌else◌}
 use Rattle.std.specs.List.{list_any}
 use Rattle.rd_base.specs.declared.peers.Peer.{Peer}
 use Rattle.event_model.specs.declared.notes.Note.{Note}
@@ -26,6 +26,30 @@ moment_of_last (e ∷ before) moment = e.moment
 -- Each time the wait is twice as long, and it counts from the last sending (RFC 7252 section 4.2)
 unfoldable pub deadline : Event → List Event → ℕ
 deadline first again = moment_of_last again first.moment + first_wait first.word * 2 ^ length again
+
+-- a message that waits for its acknowledgement: when it was last sent, how long it waits from then on, in milliseconds, and how often it was sent again
+pub record Retransmission : Type 0 where
+  pub sent : ℕ
+  pub wait : ℕ
+  pub again : ℕ
+
+-- so it is of a message that the row of an event sent first, and those of other events sent again, the newest first
+abbrev pub retransmission : Event → List Event → Retransmission
+retransmission first again = record {
+  sent = moment_of_last again first.moment;
+  wait = first_wait first.word * 2 ^ length again;
+  again = length again;
+}
+
+-- a message that waits for its acknowledgement: its Message ID, its octets, and when it was sent and is sent again
+pub record Sent : Type 0 where
+  pub mid : ℕ
+  pub octets : List ℕ
+  pub resend : Retransmission
+
+-- the octets that the row of a place sent to a peer in the confirmable message with a Message ID
+abbrev pub OctetsSent : Type 0
+OctetsSent = ℕ → Peer → ℕ → List ℕ
 
 -- a body was formed for the observer of a peer and a token
 abbrev pub is_forming_for : RequestName → Note → Bool
@@ -69,3 +93,11 @@ flight o events =
 -- a notice is in flight to one of the observers of a peer: it gets no other (RFC 7252 section 4.7, NSTART)
 unfoldable pub is_waited_for : Peer → List Event → Bool
 is_waited_for peer events = list_any (λ o. is_same_peer o.peer peer && is_some (flight o events)) (observers events)
+
+-- a notice in flight to a peer as a message that waits, by the octets that rows sent
+abbrev pub notice_sent : OctetsSent → Peer → Flight → Sent
+notice_sent octets peer f = record { mid = f.mid; octets = octets f.formed.place peer f.mid; resend = retransmission f.formed f.again }
+
+-- the notice in flight to an observer as such a message
+unfoldable pub waiting_notice : OctetsSent → List Event → Observer → Option Sent
+waiting_notice octets events o = option_map (notice_sent octets o.peer) (flight o events)

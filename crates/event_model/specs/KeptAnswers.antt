@@ -1,10 +1,10 @@
 -- Answers that are kept so that their blocks come from one state (RFC 7959 section 2.4).
-use Rattle.std.specs.Prelude.{ℕ, Bool, false, not, ◌&&◌, List, [], ◌∷◌, ◌++◌, take, filter, Option, Some, None, option_and_then, if◌then◌else◌}
+use Rattle.std.specs.Prelude.{ℕ, Bool, false, not, ◌&&◌, List, [], ◌∷◌, ◌++◌, take, filter, filter_map, Option, Some, None, option_map, option_and_then, if◌then◌else◌}
 use Rattle.std.specs.List.{list_any}
 use Rattle.event_model.specs.declared.notes.Note.{Note}
 use Rattle.event_model.specs.declared.notes.Note.TheVariants as note
 use Rattle.event_model.specs.Same.{RequestName, is_same_request}
-use Rattle.event_model.specs.Events.{Event, last_event, last_said, is_young}
+use Rattle.event_model.specs.Events.{Event, last_event, event_moment, last_said, is_young}
 
 -- the most answers that are kept
 abbrev pub max_answers : ℕ
@@ -50,3 +50,18 @@ is_live_answer now name events = is_named_among (take max_answers (names_used ev
 -- the kept answer of a name is the one that was kept last, where it lives
 unfoldable pub kept_answer : ℕ → RequestName → List Event → Option Answer
 kept_answer now name events = option_and_then (λ a. if is_live_answer now name events then Some a else None) (last_said (answer_kept name) events)
+
+-- a kept answer that lives: its name, the answer, and the moment of its last use
+pub record KeptAnswer : Type 0 where
+  pub name : RequestName
+  pub answer : Answer
+  pub moment : ℕ
+
+-- the kept answer of a name, where it lives
+abbrev pub kept_answer_of : ℕ → List Event → RequestName → Option KeptAnswer
+kept_answer_of now events name =
+    option_map (λ answer. record { name = name; answer = answer; moment = event_moment (last_event (is_use_of name) events) }) (kept_answer now name events)
+
+-- the kept answers that live at a moment, that of the latest use first
+unfoldable pub kept_answers_at : ℕ → List Event → List KeptAnswer
+kept_answers_at now events = filter_map (kept_answer_of now events) (names_used events)

@@ -1,6 +1,7 @@
 pub mod Same
 pub mod Events
 pub mod Repeats
+pub mod AdmissionOrder
 pub mod Uploads
 pub mod KeptAnswers
 pub mod Observers

@@ -62,6 +62,10 @@ is_forming _ = false
 unfoldable pub observe_value : List Event → ℕ
 observe_value events = (count_by (λ e. is_forming e.note) events + 1) % 2 ^ 24
 
+-- how many Observe values were sent, as 64 bits count
+unfoldable pub observe_values_sent : List Event → ℕ
+observe_values_sent events = count_by (λ e. is_forming e.note) events % 2 ^ 64
+
 -- the body that a note forms for the observer of a peer and a token
 abbrev pub body_formed : RequestName → Note → Option (List ℕ)
 body_formed name (note.Formed peer token body mid) = if is_same_request (peer, token) name then Some body else None

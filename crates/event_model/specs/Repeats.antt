@@ -1,6 +1,6 @@
 -- Writes that come again (RFC 7252 section 4.5): which admissions are kept, and what a repeat finds.
-use Rattle.std.specs.Prelude.{ℕ, Bool, false, not, ◌&&◌, ◌==◌, nat_le, List, [], ◌∷◌, ◌++◌, length, filter, Option, Some, None, option_and_then, if◌then◌else◌}
-use Rattle.std.specs.List.{list_any}
+use Rattle.std.specs.Prelude.{ℕ, Bool, true, false, not, ◌&&◌, ◌==◌, nat_le, List, [], ◌∷◌, ◌++◌, length, filter, Option, Some, None, option_and_then, if◌then◌else◌}
+use Rattle.std.specs.List.{filter_map, list_any}
 use Rattle.rd_base.specs.declared.peers.Peer.{Peer}
 use Rattle.event_model.specs.declared.notes.Note.{Note}
 use Rattle.event_model.specs.declared.notes.Note.TheVariants as note
@@ -15,6 +15,11 @@ max_exchanges = 4_096
 abbrev pub is_admission_of : Peer → ℕ → Note → Bool
 is_admission_of peer mid (note.Admitted p m) = is_same_peer p peer && m == mid
 is_admission_of peer mid _ = false
+
+-- an admission
+abbrev pub is_admitting : Note → Bool
+is_admitting (note.Admitted peer mid) = true
+is_admitting _ = false
 
 -- the event, where its note is an admission
 abbrev pub admission_noted : Note → Event → List Event
@@ -52,6 +57,32 @@ answer_noted place _ = None
 unfoldable pub settled : ℕ → List Event → Option (List ℕ)
 settled place events = last_said (answer_noted place) events
 
+-- the note settles or fails the admission of a place
+abbrev pub is_ending_of : ℕ → Note → Bool
+is_ending_of place (note.Settled p reply) = p == place
+is_ending_of place (note.Failed p) = p == place
+is_ending_of place _ = false
+
 -- as many exchanges are kept as there is room for
 abbrev pub is_full_of_exchanges : ℕ → List Event → Bool
 is_full_of_exchanges now events = nat_le max_exchanges (length (kept now events))
+
+-- an exchange that is kept: who wrote, under which Message ID, when it was admitted, and the octets of the answer; none while it is in flight
+pub record Exchange : Type 0 where
+  pub peer : Peer
+  pub mid : ℕ
+  pub moment : ℕ
+  pub reply : Option (List ℕ)
+
+-- an admission at a moment with its answer, as an exchange
+abbrev pub exchange_admitted : ℕ → Option (List ℕ) → Note → Option Exchange
+exchange_admitted moment reply (note.Admitted peer mid) = Some (record { peer = peer; mid = mid; moment = moment; reply = reply })
+exchange_admitted moment reply _ = None
+
+-- an admission with what the events say of its answer
+abbrev pub exchange_of : List Event → Event → Option Exchange
+exchange_of events a = exchange_admitted a.moment (settled a.place events) a.note
+
+-- the exchanges that are kept at a moment, the latest first
+unfoldable pub exchanges_at : ℕ → List Event → List Exchange
+exchanges_at now events = filter_map (exchange_of events) (kept now events)

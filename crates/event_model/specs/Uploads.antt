@@ -1,9 +1,9 @@
 -- Bodies that come in blocks (RFC 7959 section 2.5): what is collected of each, and which uploads live.
-use Rattle.std.specs.Prelude.{ℕ, Bool, false, not, ◌&&◌, ◌==◌, List, [], ◌∷◌, ◌++◌, length, filter, Option, Some, None, is_some, option_map, option_and_then, if◌then◌else◌}
+use Rattle.std.specs.Prelude.{ℕ, Bool, false, not, ◌&&◌, ◌==◌, List, [], ◌∷◌, ◌++◌, length, filter, filter_map, Option, Some, None, is_some, option_map, option_and_then, if◌then◌else◌}
 use Rattle.event_model.specs.declared.notes.Note.{Note}
 use Rattle.event_model.specs.declared.notes.Note.TheVariants as note
 use Rattle.event_model.specs.Same.{RequestName, is_same_request}
-use Rattle.event_model.specs.Events.{Event, last_event, is_young}
+use Rattle.event_model.specs.Events.{Event, last_event, event_moment, is_young}
 
 -- the most uploads that live
 abbrev pub max_uploads : ℕ
@@ -63,3 +63,18 @@ uploads (e ∷ before) = filter (λ name. not (starts_or_ends_upload e.note name
 -- how many uploads live
 unfoldable pub live_uploads : ℕ → List Event → ℕ
 live_uploads now events = length (filter (λ name. is_some (live_upload now name events)) (uploads events))
+
+-- an upload that lives: its name, what is collected, and the moment of its last block
+pub record Upload : Type 0 where
+  pub name : RequestName
+  pub body : List ℕ
+  pub moment : ℕ
+
+-- the upload of a name, where it lives
+abbrev pub upload_of : ℕ → List Event → RequestName → Option Upload
+upload_of now events name =
+    option_map (λ body. record { name = name; body = body; moment = event_moment (last_event (is_piece_of name) events) }) (live_upload now name events)
+
+-- the uploads that live at a moment, in the order in which they began
+unfoldable pub uploads_at : ℕ → List Event → List Upload
+uploads_at now events = filter_map (upload_of now events) (uploads events)

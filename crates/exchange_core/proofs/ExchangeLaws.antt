@@ -10,11 +10,9 @@ use Rattle.event_model.specs.declared.notes.Note.{Note}
 use Rattle.event_model.specs.declared.notes.Note.TheVariants as note
 use Rattle.event_model.specs.Same.{is_same_peer}
 use Rattle.event_model.specs.Events.{Event, is_young, or_else, last_said}
-use Rattle.event_model.specs.Repeats.{is_admission_of, answer_noted, settled}
-use Rattle.event_model.proofs.AddedObservers.{is_admitting}
-use Rattle.exchange_core.specs.declared.writes.Exchange.{Exchange}
+use Rattle.event_model.specs.Repeats.{is_admission_of, answer_noted, settled, Exchange, exchange_admitted, exchange_of, is_admitting}
 use Rattle.exchange_core.specs.Table.{is_with, is_admitted_at, young, answered, answered_first, without_first}
-use Rattle.exchange_core.specs.ExchangeEvents.{exchange_admitted, exchange_of, is_admitted_event}
+use Rattle.event_model.specs.AdmissionOrder.{is_admitted_event}
 use Rattle.exchange_core.proofs.FilterLemmas.{any_known}
 use Rattle.exchange_core.proofs.RepeatLaws.{admits, eqb-differs, admission_is, Follows}
 
@@ -65,7 +63,7 @@ find-exchanges peer mid events (a ∷ rest) = by a.note refl (find-exchanges pee
     by (note.Admitted p m) is more = here (is_same_peer p peer && m == mid) refl
       where
         x : Exchange
-        x = record { peer = p; mid = m; admitted = record { 0 = a.moment }; reply = settled a.place events }
+        x = record { peer = p; mid = m; moment = a.moment; reply = settled a.place events }
 
         here : (b : Bool) → (is_same_peer p peer && m == mid) ≡ b → cond b (Some x) (find (is_with peer mid) others) ≡ option_and_then (exchange_of events) (cond b (Some a) found)
         here true e = sym (ap (exchange_admitted a.moment (settled a.place events)) is)
@@ -153,7 +151,7 @@ pub young-answered : (moment : ℕ) (peer : Peer) (mid at : ℕ) (reply : List �
     → young moment (answered_first (is_admitted_at peer mid at) reply xs) ≡ answered_first (is_admitted_at peer mid at) reply (young moment xs)
 unfolding answered_first
 young-answered moment peer mid at reply [] = refl
-young-answered moment peer mid at reply (x ∷ xs) = by (test x) (is_young moment x.admitted.0) refl refl (young-answered moment peer mid at reply xs)
+young-answered moment peer mid at reply (x ∷ xs) = by (test x) (is_young moment x.moment) refl refl (young-answered moment peer mid at reply xs)
   where
     test : Exchange → Bool
     test y = is_admitted_at peer mid at y
@@ -161,22 +159,22 @@ young-answered moment peer mid at reply (x ∷ xs) = by (test x) (is_young momen
     -- where that moment is old
     none_left : (ys : List Exchange) → is_young moment at ≡ false → answered_first test reply (young moment ys) ≡ young moment ys
     none_left [] old = refl
-    none_left (y ∷ ys) old = here (is_young moment y.admitted.0) (test y) refl refl (none_left ys old)
+    none_left (y ∷ ys) old = here (is_young moment y.moment) (test y) refl refl (none_left ys old)
       where
-        here : (g t : Bool) → is_young moment y.admitted.0 ≡ g → test y ≡ t → answered_first test reply (young moment ys) ≡ young moment ys
+        here : (g t : Bool) → is_young moment y.moment ≡ g → test y ≡ t → answered_first test reply (young moment ys) ≡ young moment ys
             → answered_first test reply (cond g (y ∷ young moment ys) (young moment ys)) ≡ cond g (y ∷ young moment ys) (young moment ys)
         here true true g t more =
-            let parts = and_parts (is_with peer mid y) (y.admitted.0 == at) t in
-            absurd (false≢true (sym old ∙ (ap (is_young moment) (sym (eqb-true y.admitted.0 at parts.1)) ∙ g)))
+            let parts = and_parts (is_with peer mid y) (y.moment == at) t in
+            absurd (false≢true (sym old ∙ (ap (is_young moment) (sym (eqb-true y.moment at parts.1)) ∙ g)))
         here true false g t more = rw t (ap (λ rest. y ∷ rest) more)
         here false t g u more = more
 
-    by : (t g : Bool) → test x ≡ t → is_young moment x.admitted.0 ≡ g → young moment (answered_first test reply xs) ≡ answered_first test reply (young moment xs)
+    by : (t g : Bool) → test x ≡ t → is_young moment x.moment ≡ g → young moment (answered_first test reply xs) ≡ answered_first test reply (young moment xs)
         → young moment (cond t (answered reply x ∷ xs) (x ∷ answered_first test reply xs)) ≡ answered_first test reply (cond g (x ∷ young moment xs) (young moment xs))
     by true true t g more = rw (g, t) refl
     by true false t g more =
-        let parts = and_parts (is_with peer mid x) (x.admitted.0 == at) t in
-        let old : is_young moment at ≡ false = ap (is_young moment) (sym (eqb-true x.admitted.0 at parts.1)) ∙ g in
+        let parts = and_parts (is_with peer mid x) (x.moment == at) t in
+        let old : is_young moment at ≡ false = ap (is_young moment) (sym (eqb-true x.moment at parts.1)) ∙ g in
         rw g (sym (none_left xs old))
     by false true t g more = rw (g, t) (ap (λ rest. x ∷ rest) more)
     by false false t g more = rw g more
@@ -203,7 +201,7 @@ answered-exchanges place peer mid moment reply e events (a ∷ rest) is pairs ma
     said = ap (answer_noted a.place) is
 
     exchange : Peer → ℕ → Exchange
-    exchange q m = record { peer = q; mid = m; admitted = record { 0 = a.moment }; reply = settled a.place events }
+    exchange q m = record { peer = q; mid = m; moment = a.moment; reply = settled a.place events }
 
     match : (q : Peer) (m : ℕ) → a.note ≡ note.Admitted q m → (is_admission_of peer mid a.note && a.moment == moment) ≡ (place == a.place)
         → (is_same_peer q peer && m == mid && a.moment == moment) ≡ (place == a.place)
@@ -235,7 +233,7 @@ pub young-without : (moment : ℕ) (peer : Peer) (mid at : ℕ) (xs : List Excha
     → young moment (without_first (is_admitted_at peer mid at) xs) ≡ without_first (is_admitted_at peer mid at) (young moment xs)
 unfolding without_first
 young-without moment peer mid at [] = refl
-young-without moment peer mid at (x ∷ xs) = by (test x) (is_young moment x.admitted.0) refl refl (young-without moment peer mid at xs)
+young-without moment peer mid at (x ∷ xs) = by (test x) (is_young moment x.moment) refl refl (young-without moment peer mid at xs)
   where
     test : Exchange → Bool
     test y = is_admitted_at peer mid at y
@@ -243,22 +241,22 @@ young-without moment peer mid at (x ∷ xs) = by (test x) (is_young moment x.adm
     -- where that moment is old
     none_left : (ys : List Exchange) → is_young moment at ≡ false → without_first test (young moment ys) ≡ young moment ys
     none_left [] old = refl
-    none_left (y ∷ ys) old = here (is_young moment y.admitted.0) (test y) refl refl (none_left ys old)
+    none_left (y ∷ ys) old = here (is_young moment y.moment) (test y) refl refl (none_left ys old)
       where
-        here : (g t : Bool) → is_young moment y.admitted.0 ≡ g → test y ≡ t → without_first test (young moment ys) ≡ young moment ys
+        here : (g t : Bool) → is_young moment y.moment ≡ g → test y ≡ t → without_first test (young moment ys) ≡ young moment ys
             → without_first test (cond g (y ∷ young moment ys) (young moment ys)) ≡ cond g (y ∷ young moment ys) (young moment ys)
         here true true g t more =
-            let parts = and_parts (is_with peer mid y) (y.admitted.0 == at) t in
-            absurd (false≢true (sym old ∙ (ap (is_young moment) (sym (eqb-true y.admitted.0 at parts.1)) ∙ g)))
+            let parts = and_parts (is_with peer mid y) (y.moment == at) t in
+            absurd (false≢true (sym old ∙ (ap (is_young moment) (sym (eqb-true y.moment at parts.1)) ∙ g)))
         here true false g t more = rw t (ap (λ rest. y ∷ rest) more)
         here false t g u more = more
 
-    by : (t g : Bool) → test x ≡ t → is_young moment x.admitted.0 ≡ g → young moment (without_first test xs) ≡ without_first test (young moment xs)
+    by : (t g : Bool) → test x ≡ t → is_young moment x.moment ≡ g → young moment (without_first test xs) ≡ without_first test (young moment xs)
         → young moment (cond t xs (x ∷ without_first test xs)) ≡ without_first test (cond g (x ∷ young moment xs) (young moment xs))
     by true true t g more = rw t refl
     by true false t g more =
-        let parts = and_parts (is_with peer mid x) (x.admitted.0 == at) t in
-        let old : is_young moment at ≡ false = ap (is_young moment) (sym (eqb-true x.admitted.0 at parts.1)) ∙ g in
+        let parts = and_parts (is_with peer mid x) (x.moment == at) t in
+        let old : is_young moment at ≡ false = ap (is_young moment) (sym (eqb-true x.moment at parts.1)) ∙ g in
         sym (none_left xs old)
     by false true t g more = rw (g, t) (ap (λ rest. x ∷ rest) more)
     by false false t g more = rw g more

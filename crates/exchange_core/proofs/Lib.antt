@@ -1,10 +1,10 @@
 -- Messages that wait: ResendLaws. The exchanges of a table: RowLaws.
 -- What a table stands for: FilterLemmas and RepeatLaws (admissions), ExchangeLaws (an admission as an exchange), TableLaws (the table used and changed).
--- OrderLaws: what a journal shows of its events, so that the contracts of a table hold for them.
+-- FreshLaws: what a journal shows of its events, so that the contracts of a table hold for them.
 pub mod ResendLaws
 pub mod RowLaws
 pub mod FilterLemmas
 pub mod RepeatLaws
 pub mod ExchangeLaws
 pub mod TableLaws
-pub mod OrderLaws
+pub mod FreshLaws

@@ -12,7 +12,7 @@ use Rattle.event_model.specs.Same.{is_same_peer}
 use Rattle.event_model.specs.Events.{Event, last_event, is_young, exchange_lifetime}
 use Rattle.event_model.specs.Repeats.{is_admission_of, admission_noted, is_failure_of, admissions, kept, repeated, answer_noted}
 use Rattle.event_model.proofs.SameLaws.{is_same_peer-Decides, is_same_peer-refl}
-use Rattle.exchange_core.specs.ExchangeEvents.{NoneAfter, IsNewPlace, AdmitsNew, AdmitsInOrder, IsOrderly}
+use Rattle.event_model.specs.AdmissionOrder.{NoneAfter, IsNewPlace, AdmitsNew, AdmitsInOrder, IsOrderly}
 use Rattle.exchange_core.proofs.FilterLemmas.{filter_true, found_holds, none_passes, each_filtered, none_filtered, found_filtered, only_dropped, any_none_filtered, any_dropped}
 use Rattle.rd_base.proofs.lemmas.Numbers.{eqb-refl}
 

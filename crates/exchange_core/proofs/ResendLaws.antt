@@ -3,9 +3,9 @@ use Rattle.std.proofs.Common.{◌≡◌, ℕ, ◌+◌, ◌-◌, ◌*◌, ◌^◌
 use Rattle.std.proofs.lemmas.Bool.{le-ltb}
 use Rattle.std.proofs.Math.Nat.{pow-suc, mul_assoc}
 use Rattle.event_model.specs.Events.{Event}
-use Rattle.event_model.specs.Flights.{max_again, first_wait, deadline}
+use Rattle.event_model.specs.Flights.{Retransmission, max_again, first_wait, deadline}
 use Rattle.exchange_core.specs.declared.resends.Again.TheVariants as again
-use Rattle.exchange_core.specs.Retransmissions.{Retransmission, Resends, due_at}
+use Rattle.exchange_core.specs.Retransmissions.{Resends, due_at}
 
 -- the deadline
 pub deadline-kept : (first : Event) (others : List Event) (r : Retransmission) → Resends first others r → r.sent + r.wait ≡ deadline first others

@@ -7,7 +7,7 @@ use Rattle.rd_base.specs.declared.peers.Peer.{Peer}
 use Rattle.rd_base.proofs.lemmas.Filters.{length-filter-le}
 use Rattle.event_model.specs.Events.{is_young}
 use Rattle.exchange_core.specs.declared.writes.Keyed.{Keyed}
-use Rattle.exchange_core.specs.declared.writes.Exchange.{Exchange}
+use Rattle.event_model.specs.Repeats.{Exchange}
 use Rattle.exchange_core.specs.Table.{is_with, young, InOrder, repeating, repeating_young, repeat_among, answered, answered_first, without_first}
 
 -- ---- the first that passes a test
@@ -91,32 +91,32 @@ InOrder-later last later (x ∷ xs) h order = (let first = order.0 in omega (ari
 pub InOrder-answered : (test : Exchange → Bool) (reply : List ℕ) (last : ℕ) (xs : List Exchange) → InOrder last xs → InOrder last (answered_first test reply xs)
 unfolding answered_first
 InOrder-answered test reply last [] order = tt
-InOrder-answered test reply last (x ∷ xs) order = by (test x) (InOrder-answered test reply x.admitted.0 xs order.1)
+InOrder-answered test reply last (x ∷ xs) order = by (test x) (InOrder-answered test reply x.moment xs order.1)
   where
-    by : (b : Bool) → InOrder x.admitted.0 (answered_first test reply xs) → InOrder last (cond b (answered reply x ∷ xs) (x ∷ answered_first test reply xs))
+    by : (b : Bool) → InOrder x.moment (answered_first test reply xs) → InOrder last (cond b (answered reply x ∷ xs) (x ∷ answered_first test reply xs))
     by true more = order
     by false more = (order.0, more)
 
 pub InOrder-without : (test : Exchange → Bool) (last : ℕ) (xs : List Exchange) → InOrder last xs → InOrder last (without_first test xs)
 unfolding without_first
 InOrder-without test last [] order = tt
-InOrder-without test last (x ∷ xs) order = by (test x) (InOrder-without test x.admitted.0 xs order.1)
+InOrder-without test last (x ∷ xs) order = by (test x) (InOrder-without test x.moment xs order.1)
   where
-    by : (b : Bool) → InOrder x.admitted.0 (without_first test xs) → InOrder last (cond b xs (x ∷ without_first test xs))
-    by true more = InOrder-later x.admitted.0 last xs order.0 order.1
+    by : (b : Bool) → InOrder x.moment (without_first test xs) → InOrder last (cond b xs (x ∷ without_first test xs))
+    by true more = InOrder-later x.moment last xs order.0 order.1
     by false more = (order.0, more)
 
 pub InOrder-young : (now last : ℕ) (xs : List Exchange) → InOrder last xs → InOrder last (young now xs)
 InOrder-young now last [] order = tt
-InOrder-young now last (x ∷ xs) order = by (is_young now x.admitted.0) (InOrder-young now x.admitted.0 xs order.1)
+InOrder-young now last (x ∷ xs) order = by (is_young now x.moment) (InOrder-young now x.moment xs order.1)
   where
-    by : (b : Bool) → InOrder x.admitted.0 (young now xs) → InOrder last (cond b (x ∷ young now xs) (young now xs))
+    by : (b : Bool) → InOrder x.moment (young now xs) → InOrder last (cond b (x ∷ young now xs) (young now xs))
     by true more = (order.0, more)
-    by false more = InOrder-later x.admitted.0 last (young now xs) order.0 more
+    by false more = InOrder-later x.moment last (young now xs) order.0 more
 
 pub InOrder-popped : (last : ℕ) (xs : List Exchange) (x : Exchange) → InOrder last (xs ++ x ∷ []) → InOrder last xs
 InOrder-popped last [] x order = tt
-InOrder-popped last (y ∷ ys) x order = (order.0, InOrder-popped y.admitted.0 ys x order.1)
+InOrder-popped last (y ∷ ys) x order = (order.0, InOrder-popped y.moment ys x order.1)
 
 -- what is not older than one that is young is young
 younger : (now a b : ℕ) → a ≤ b → is_young now a ≡ true → is_young now b ≡ true
@@ -126,20 +126,20 @@ older : (now a b : ℕ) → a ≤ b → is_young now b ≡ false → is_young no
 older now a b h old = grind (arith, old, h)
 
 -- where the oldest is young, each is
-oldest_at_most : (last : ℕ) (xs : List Exchange) (x : Exchange) → InOrder last (xs ++ x ∷ []) → x.admitted.0 ≤ last
+oldest_at_most : (last : ℕ) (xs : List Exchange) (x : Exchange) → InOrder last (xs ++ x ∷ []) → x.moment ≤ last
 oldest_at_most last [] x order = order.0
-oldest_at_most last (y ∷ ys) x order = let first = order.0 in let rest = oldest_at_most y.admitted.0 ys x order.1 in omega (arith, first, rest)
+oldest_at_most last (y ∷ ys) x order = let first = order.0 in let rest = oldest_at_most y.moment ys x order.1 in omega (arith, first, rest)
 
-pub young-all : (now last : ℕ) (xs : List Exchange) (x : Exchange) → InOrder last (xs ++ x ∷ []) → is_young now x.admitted.0 ≡ true → xs ++ x ∷ [] ≡ young now (xs ++ x ∷ [])
+pub young-all : (now last : ℕ) (xs : List Exchange) (x : Exchange) → InOrder last (xs ++ x ∷ []) → is_young now x.moment ≡ true → xs ++ x ∷ [] ≡ young now (xs ++ x ∷ [])
 young-all now last [] x order y = rw y refl
 young-all now last (z ∷ zs) x order y =
-    let first : is_young now z.admitted.0 ≡ true = younger now x.admitted.0 z.admitted.0 (oldest_at_most z.admitted.0 zs x order.1) y in
-    rw first (ap (λ rest. z ∷ rest) (young-all now z.admitted.0 zs x order.1 y))
+    let first : is_young now z.moment ≡ true = younger now x.moment z.moment (oldest_at_most z.moment zs x order.1) y in
+    rw first (ap (λ rest. z ∷ rest) (young-all now z.moment zs x order.1 y))
 
 -- where the oldest is old, it goes
-pub young-popped : (now : ℕ) (xs : List Exchange) (x : Exchange) → is_young now x.admitted.0 ≡ false → young now (xs ++ x ∷ []) ≡ young now xs
+pub young-popped : (now : ℕ) (xs : List Exchange) (x : Exchange) → is_young now x.moment ≡ false → young now (xs ++ x ∷ []) ≡ young now xs
 young-popped now [] x old = rw old refl
-young-popped now (y ∷ ys) x old = ap (λ rest. cond (is_young now y.admitted.0) (y ∷ rest) rest) (young-popped now ys x old)
+young-popped now (y ∷ ys) x old = ap (λ rest. cond (is_young now y.moment) (y ∷ rest) rest) (young-popped now ys x old)
 
 -- the oldest, after the others
 pub oldest_last : (xs : List Exchange) (n : ℕ) (x : Exchange) → n ≡ length xs → 0 < n → x ≡ get_or xs (n - 1) x → xs ≡ take (n - 1) xs ++ x ∷ []
@@ -152,8 +152,8 @@ oldest_last xs n x e some is =
 pub young-none : (now last : ℕ) (xs : List Exchange) → InOrder last xs → is_young now last ≡ false → young now xs ≡ []
 young-none now last [] order old = refl
 young-none now last (x ∷ xs) order old =
-    let first : is_young now x.admitted.0 ≡ false = older now x.admitted.0 last order.0 old in
-    rw first (young-none now x.admitted.0 xs order.1 first)
+    let first : is_young now x.moment ≡ false = older now x.moment last order.0 old in
+    rw first (young-none now x.moment xs order.1 first)
 
 -- what a repeat finds, it finds among the young
 pub repeat_among-young : (now : ℕ) (peer : Peer) (mid last : ℕ) (xs : List Exchange) → InOrder last xs
@@ -161,22 +161,22 @@ pub repeat_among-young : (now : ℕ) (peer : Peer) (mid last : ℕ) (xs : List E
 unfolding repeat_among
 repeat_among-young now peer mid last [] order = refl
 repeat_among-young now peer mid last (x ∷ xs) order =
-    by (is_with peer mid x) (is_young now x.admitted.0) refl refl (repeat_among-young now peer mid x.admitted.0 xs order.1)
+    by (is_with peer mid x) (is_young now x.moment) refl refl (repeat_among-young now peer mid x.moment xs order.1)
   where
     answer : Exchange → Keyed
     answer y = repeating y.reply
 
-    by : (w y : Bool) → is_with peer mid x ≡ w → is_young now x.admitted.0 ≡ y
+    by : (w y : Bool) → is_with peer mid x ≡ w → is_young now x.moment ≡ y
         → option_and_then (repeating_young now) (find (is_with peer mid) xs) ≡ option_map answer (find (is_with peer mid) (young now xs))
         → option_and_then (repeating_young now) (cond w (Some x) (find (is_with peer mid) xs)) ≡ option_map answer (find (is_with peer mid) (cond y (x ∷ young now xs) (young now xs)))
     by true true w y more = rw (w, y) refl
-    by true false w y more = rw (y, young-none now x.admitted.0 xs order.1 y) refl
+    by true false w y more = rw (y, young-none now x.moment xs order.1 y) refl
     by false true w y more = rw w more
     by false false w y more = more
 
 -- how many are left
 pub length-young : (now : ℕ) (xs : List Exchange) → length (young now xs) ≤ length xs
-length-young now xs = length-filter-le (λ x. is_young now x.admitted.0) xs
+length-young now xs = length-filter-le (λ x. is_young now x.moment) xs
 
 pub length-answered : (test : Exchange → Bool) (reply : List ℕ) (xs : List Exchange) → length (answered_first test reply xs) ≡ length xs
 unfolding answered_first

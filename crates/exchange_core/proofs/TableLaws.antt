@@ -9,13 +9,12 @@ use Rattle.rd_base.proofs.lemmas.Pairs.{pairs_filter, PairsByRecursion}
 use Rattle.event_model.specs.declared.notes.Note.{Note}
 use Rattle.event_model.specs.declared.notes.Note.TheVariants as note
 use Rattle.event_model.specs.Events.{Event, is_young, exchange_lifetime, or_else, last_said}
-use Rattle.event_model.specs.Repeats.{admission_noted, is_failure_of, admissions, kept, repeated, answer_noted, settled, is_full_of_exchanges}
-use Rattle.event_model.proofs.AddedObservers.{is_admitting}
+use Rattle.event_model.specs.Repeats.{admission_noted, is_failure_of, admissions, kept, repeated, answer_noted, settled, is_full_of_exchanges, Exchange, exchange_admitted, exchange_of, exchanges_at, is_admitting}
 use Rattle.exchange_core.specs.declared.writes.Keyed.{Keyed}
 use Rattle.exchange_core.specs.declared.writes.Keyed.TheVariants as keyed
-use Rattle.exchange_core.specs.declared.writes.Exchange.{Exchange}
 use Rattle.exchange_core.specs.Table.{Table, is_with, is_admitted_at, young, InOrder, repeating, repeating_young, repeat_among, answered_first, without_first}
-use Rattle.exchange_core.specs.ExchangeEvents.{exchange_admitted, exchange_of, exchanges_at, ExchangesStandFor, NoneAfter, IsNewPlace, IsOrderly, HasAdmission, is_aside, keyed_new, keyed_as, keyed_after}
+use Rattle.event_model.specs.AdmissionOrder.{NoneAfter, IsNewPlace, IsOrderly, HasAdmission, is_aside}
+use Rattle.exchange_core.specs.ExchangeEvents.{ExchangesStandFor, keyed_new, keyed_as, keyed_after}
 use Rattle.exchange_core.proofs.RowLaws.{repeat_among-young}
 use Rattle.exchange_core.proofs.FilterLemmas.{filter_true, found_passes}
 use Rattle.exchange_core.proofs.RepeatLaws.{admits, admission_is, Follows, known}
@@ -28,7 +27,7 @@ young_before : (at now moment : ℕ) → at ≤ now → is_young now moment ≡ 
 young_before at now moment h y = grind (arith, y, h)
 
 pub young-later : (at now : ℕ) (xs : List Exchange) → at ≤ now → young now (young at xs) ≡ young now xs
-young-later at now xs h = filter_stronger (λ x. is_young now x.admitted.0) (λ x. is_young at x.admitted.0) (λ x y. young_before at now x.admitted.0 h y) xs
+young-later at now xs h = filter_stronger (λ x. is_young now x.moment) (λ x. is_young at x.moment) (λ x y. young_before at now x.moment h y) xs
 
 -- a table stands for the same events later
 pub ExchangesStandFor-later : (at now : ℕ) (events : List Event) (t : Table) → at ≤ now → ExchangesStandFor at events t → ExchangesStandFor now events t
@@ -146,7 +145,7 @@ repeat-not_fresh now peer mid xs answer found fresh = by (find (is_with peer mid
 
     by : (o : Option Exchange) → Some answer ≡ option_and_then (repeating_young now) o → ⊥
     by None e = absurd cc
-    by (Some x) e = young_or_not (is_young now x.admitted.0) x e
+    by (Some x) e = young_or_not (is_young now x.moment) x e
 
 -- ---- events
 
@@ -184,7 +183,7 @@ unsettled place (a ∷ rest) new = let first = new.0.1 in rw first (unsettled pl
 
 -- a write that was admitted just now
 just_admitted : Peer → ℕ → ℕ → Exchange
-just_admitted peer mid now = record { peer = peer; mid = mid; admitted = record { 0 = now }; reply = None }
+just_admitted peer mid now = record { peer = peer; mid = mid; moment = now; reply = None }
 
 in_flight : (now : ℕ) (peer : Peer) (mid : ℕ) (e : Event) (events : List Event) → e.note ≡ note.Admitted peer mid → e.moment ≡ now → IsNewPlace e.place events
     → exchange_of (e ∷ events) e ≡ Some (just_admitted peer mid now)
@@ -195,7 +194,7 @@ in_flight now peer mid e events is at new =
 
 -- one that admits a write
 pub ExchangesStandFor-admitted : (now : ℕ) (peer : Peer) (mid : ℕ) (e : Event) (events : List Event) (t more : Table) → e.note ≡ note.Admitted peer mid → e.moment ≡ now → IsNewPlace e.place events
-    → more.exchanges ≡ record { peer = peer; mid = mid; admitted = record { 0 = now }; reply = None } ∷ t.exchanges → ExchangesStandFor now events t → ExchangesStandFor now (e ∷ events) more
+    → more.exchanges ≡ record { peer = peer; mid = mid; moment = now; reply = None } ∷ t.exchanges → ExchangesStandFor now events t → ExchangesStandFor now (e ∷ events) more
 unfolding exchanges_at kept admissions just_admitted
 ExchangesStandFor-admitted now peer mid e events t more is at new added stands = record {
   kept = ap (young now) added ∙ (rw (fresh now) (ap (λ xs. just_admitted peer mid now ∷ xs) stands.kept) ∙ sym there);

@@ -1,15 +1,9 @@
 -- When a message is sent again, from what events note (RFC 7252 section 4.2).
 use Rattle.std.specs.Prelude.{◌≡◌, ℕ, ◌*◌, ◌^◌, nat_lt, List, length, if◌then◌else◌}
 use Rattle.event_model.specs.Events.{Event}
-use Rattle.event_model.specs.Flights.{max_again, first_wait, moment_of_last, deadline}
+use Rattle.event_model.specs.Flights.{Retransmission, max_again, first_wait, moment_of_last, deadline}
 use Rattle.exchange_core.specs.declared.resends.Again.{Again}
 use Rattle.exchange_core.specs.declared.resends.Again.TheVariants as again
-
--- what is kept of a message that waits: when it was last sent, how long it waits from then on, and how often it was sent again
-pub record Retransmission : Type 0 where
-  pub sent : ℕ
-  pub wait : ℕ
-  pub again : ℕ
 
 -- this is kept of a message that an event sent first, and others sent again, the newest first
 pub record Resends (first : Event) (others : List Event) (r : Retransmission) : Type 0 where

@@ -5,12 +5,16 @@ use Rattle.event_model.specs.Same.{is_same_peer}
 use Rattle.event_model.specs.Events.{is_young}
 use Rattle.exchange_core.specs.declared.writes.Keyed.{Keyed}
 use Rattle.exchange_core.specs.declared.writes.Keyed.TheVariants as keyed
-use Rattle.exchange_core.specs.declared.writes.Exchange.{Exchange}
+use Rattle.event_model.specs.Repeats.{Exchange}
 
 -- what a table of exchanges shows: the greatest moment that was handed to a call that changed it, and its exchanges, the latest first
 pub record Table : Type 0 where
   pub moment : ℕ
   pub exchanges : List Exchange
+
+-- a write of a peer under a Message ID that is admitted at a moment, in flight
+abbrev pub admitted_now : Peer → ℕ → ℕ → Exchange
+admitted_now peer mid moment = record { peer = peer; mid = mid; moment = moment; reply = None }
 
 -- a write of a peer under a Message ID
 abbrev pub is_with : Peer → ℕ → Exchange → Bool
@@ -18,16 +22,16 @@ is_with peer mid x = is_same_peer x.peer peer && x.mid == mid
 
 -- that write, admitted at a moment
 abbrev pub is_admitted_at : Peer → ℕ → ℕ → Exchange → Bool
-is_admitted_at peer mid moment x = is_with peer mid x && x.admitted.0 == moment
+is_admitted_at peer mid moment x = is_with peer mid x && x.moment == moment
 
 -- the exchanges that are young at a moment
 abbrev pub young : ℕ → List Exchange → List Exchange
-young now xs = filter (λ x. is_young now x.admitted.0) xs
+young now xs = filter (λ x. is_young now x.moment) xs
 
 -- no exchange was admitted after this moment, and each no later than those before it
 abbrev pub InOrder : ℕ → List Exchange → Type 0
 InOrder last [] = Unit {0}
-InOrder last (x ∷ xs) = (x.admitted.0 ≤ last) × InOrder x.admitted.0 xs
+InOrder last (x ∷ xs) = (x.moment ≤ last) × InOrder x.moment xs
 
 -- how a write is answered that repeats one with this answer, or one in flight
 abbrev pub repeating : Option (List ℕ) → Keyed
@@ -36,7 +40,7 @@ repeating (Some reply) = keyed.Kept reply
 
 -- the same where it repeats a write that is young, and none else
 abbrev pub repeating_young : ℕ → Exchange → Option Keyed
-repeating_young now x = if is_young now x.admitted.0 then Some (repeating x.reply) else None
+repeating_young now x = if is_young now x.moment then Some (repeating x.reply) else None
 
 -- the latest with this peer and Message ID decides
 unfoldable pub repeat_among : ℕ → Peer → ℕ → List Exchange → Option Keyed
@@ -44,7 +48,7 @@ repeat_among now peer mid xs = option_and_then (repeating_young now) (find (is_w
 
 -- an exchange with its reply
 abbrev pub answered : List ℕ → Exchange → Exchange
-answered reply x = record { peer = x.peer; mid = x.mid; admitted = x.admitted; reply = Some reply }
+answered reply x = record x { reply = Some reply }
 
 -- the first that passes a test gets this reply
 unfoldable pub answered_first : (Exchange → Bool) → List ℕ → List Exchange → List Exchange

@@ -7,7 +7,7 @@ mod table;
 mod writes;
 
 pub use octets::{Octets, Reply, Token};
-pub use resends::{Again, Flight, Resend};
+pub use resends::{Again, Resend, Sent};
 pub use table::Exchanges;
 pub use writes::{Exchange, Keyed};
 

@@ -39,7 +39,7 @@ pub struct Resend {
 
 impl Model for Resend {
     ghost use Rattle.std.specs.Prelude.{ℕ, ◌<◌, ◌≤◌, ◌*◌, ◌^◌};
-    ghost use Rattle.exchange_core.specs.Retransmissions.{Retransmission};
+    ghost use Rattle.event_model.specs.Flights.{Retransmission};
 
     ghost Value = { Retransmission };
 
@@ -79,13 +79,21 @@ impl Resend {
     }
 }
 
-/// A message in flight: its Message ID, its octets, and when it is sent again.
+/// A message that waits for its acknowledgement: its Message ID, its octets, and when it is sent again.
 #[derive(Debug, Drop)]
-pub struct Flight {
+pub struct Sent {
     /// The Message ID, by which it is acknowledged.
     pub mid: u16,
     /// The message, as it was sent and is sent again.
     pub bytes: Bytes,
     /// When it is sent again, and when it is given up.
     pub resend: Resend,
+}
+
+impl Model for Sent {
+    ghost use Rattle.event_model.specs.Flights.{Sent as Message};
+
+    ghost Value = { Message };
+
+    ghost view = { λ s. record { mid = s.mid; octets = s.bytes; resend = s.resend } };
 }

@@ -6,7 +6,8 @@ ghost use Rattle.rd_base.specs.declared.peers.Peer.{Peer};
 ghost use Rattle.event_model.specs.declared.notes.Note.TheVariants as note;
 ghost use Rattle.event_model.specs.Events.{Event};
 ghost use Rattle.exchange_core.specs.Table.{is_with, is_admitted_at, InOrder, young, repeat_among, answered_first, without_first};
-ghost use Rattle.exchange_core.specs.ExchangeEvents.{ExchangesStandFor, IsOrderly, NoneAfter, IsNewPlace, HasAdmission, keyed_after};
+ghost use Rattle.event_model.specs.AdmissionOrder.{IsOrderly, NoneAfter, IsNewPlace, HasAdmission};
+ghost use Rattle.exchange_core.specs.ExchangeEvents.{ExchangesStandFor, keyed_after};
 
 use crate::{Exchange, Keyed, Reply};
 use rd_base::{Moment, Peer, Starved};
@@ -68,12 +69,7 @@ impl Exchanges {
         if self.rows.len() == MAX_EXCHANGES {
             return Keyed::FullExchanges;
         }
-        self.rows.push_front_reserved(Exchange {
-            peer,
-            mid,
-            admitted: now,
-            reply: None,
-        });
+        self.rows.push_front_reserved(Exchange::in_flight(peer, mid, now));
         Keyed::Fresh
     }
 
@@ -156,7 +152,7 @@ fn answer_first(rows: &mut VecDeque<Exchange>, peer: Peer, mid: u16, admitted: M
     ensures capacity { deque_capacity rows.new ≡ deque_capacity rows.old }
 {
     if let Some(index) = index_of(rows, peer, mid, admitted) {
-        rows[index].reply = Some(reply);
+        rows[index].answer(reply);
     }
 }
 

@@ -1,6 +1,6 @@
 //! Repeats, a full table, and when a message is sent again.
 
-use crate::{Again, Exchanges, Flight, Keyed, Reply, Resend, Token};
+use crate::{Again, Exchanges, Keyed, Reply, Resend, Sent, Token};
 use rd_base::{Bytes, Host, Moment, Peer};
 use std::test::Fail;
 
@@ -137,11 +137,11 @@ fn keeps_what_it_is_made_of(rt: HostRuntime) -> Result<(), Fail> {
     assert_eq!(rt; token.copy(), token);
     assert_eq!(rt; token.as_slice(), b"\xc1\xc2".as_slice());
     assert_ne!(rt; created(), Reply::of(b""));
-    let flight = Flight {
+    let sent = Sent {
         mid: 7,
         bytes: Bytes::copy_of(rt.alloc(), created().as_slice())?,
         resend: Resend::start(Moment(0), 0),
     };
-    assert_eq!(rt; flight.bytes.as_slice(), created().as_slice());
+    assert_eq!(rt; sent.bytes.as_slice(), created().as_slice());
     Ok(())
 }

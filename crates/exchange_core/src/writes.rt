@@ -1,10 +1,11 @@
 //! A write that was admitted, and how one that repeats it is answered.
 ghost use Rattle.std.specs.Prelude.{◌≡◌, Option};
 ghost use Rattle.event_model.specs.Events.{is_young};
-ghost use Rattle.exchange_core.specs.Table.{is_with, is_admitted_at, repeating};
+ghost use Rattle.exchange_core.specs.Table.{admitted_now, is_with, is_admitted_at, repeating, answered};
 
 use crate::Reply;
 use rd_base::{Moment, Peer};
+use std::marker::Model;
 
 /// How long an exchange lives, in milliseconds (RFC 7252 section 4.8.2, EXCHANGE_LIFETIME).
 const EXCHANGE_LIFETIME: u64 = 247_000;
@@ -26,16 +27,36 @@ pub enum Keyed {
 #[derive(Debug, Drop)]
 pub struct Exchange {
     /// Who wrote.
-    pub peer: Peer,
+    peer: Peer,
     /// The Message ID of the write.
-    pub mid: u16,
+    mid: u16,
     /// When it was admitted.
-    pub admitted: Moment,
+    admitted: Moment,
     /// The octets that it was answered by; none while it is in flight.
-    pub reply: Option<Reply>,
+    reply: Option<Reply>,
+}
+
+impl Model for Exchange {
+    ghost use Rattle.event_model.specs.Repeats.{Exchange as Admission};
+
+    ghost Value = { Admission };
+
+    ghost view = { λ x. record { peer = x.peer; mid = x.mid; moment = x.admitted.0; reply = x.reply } };
 }
 
 impl Exchange {
+    /// A write of a peer under a Message ID that is admitted now, in flight.
+    pub(crate) fn in_flight(peer: Peer, mid: u16, now: Moment) -> Exchange
+        ensures { result ≡ admitted_now peer mid now.0 }
+    {
+        Exchange {
+            peer,
+            mid,
+            admitted: now,
+            reply: None,
+        }
+    }
+
     /// Whether it is a write of this peer under this Message ID.
     pub(crate) fn is_with(&self, peer: Peer, mid: u16) -> bool
         ensures { result ≡ is_with peer mid self.now }
@@ -52,7 +73,7 @@ impl Exchange {
 
     /// Whether it is not older than an exchange lives.
     pub(crate) fn is_young(&self, now: Moment) -> bool
-        ensures { result ≡ is_young now.0 self.now.admitted.0 }
+        ensures { result ≡ is_young now.0 self.now.moment }
     {
         now.0.saturating_sub(self.admitted.0) < EXCHANGE_LIFETIME
     }
@@ -65,5 +86,12 @@ impl Exchange {
             None => Keyed::InFlight,
             Some(reply) => Keyed::Kept(reply.copy()),
         }
+    }
+
+    /// Keeps the octets that it was answered by.
+    pub(crate) fn answer(&mut self, reply: Reply)
+        ensures { self.new ≡ answered reply self.old }
+    {
+        self.reply = Some(reply);
     }
 }

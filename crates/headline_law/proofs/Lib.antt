@@ -32,4 +32,5 @@ pub mod observers
 pub mod sends
 pub mod flights
 pub mod rows
+pub mod desks
 pub mod HeadlineLaw

@@ -6,3 +6,4 @@ pub mod Listing
 pub mod Refusals
 pub mod Legal
 pub mod Versions
+pub mod ChangedParts

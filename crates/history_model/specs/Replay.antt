@@ -38,6 +38,16 @@ number_named name moment records = option_map (λ r. r.number) (find (is_live_na
 abbrev pub number_for : Name → ℕ → State → ℕ
 number_for name moment state = unwrap_or (number_named name moment state.records) (state.last_number + 1)
 
+-- the record of a number, where there is one
+abbrev pub numbered : ℕ → List Record → Option Record
+numbered number records = find (is_numbered number) records
+
+-- the number that a change is about at a moment
+abbrev pub number_about : State → ℕ → Change → ℕ
+number_about state moment (change.Register params links) = number_for params.name moment state
+number_about state moment (change.Update number given) = number
+number_about state moment (change.Remove number) = number
+
 -- the records, with something else for that of this number
 abbrev pub with_changed : ℕ → (Record → Record) → List Record → List Record
 with_changed number new records = map (λ r. if is_numbered number r then new r else r) records

@@ -15,5 +15,6 @@ pub mod Ticks
 pub mod Rows
 pub mod Machine
 pub mod Seats
-pub mod Desks
+pub mod DeskJournal
+pub mod UnfinishedRow
 pub mod Headline

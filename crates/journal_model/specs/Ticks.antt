@@ -1,6 +1,6 @@
 -- What a tick does, part after part: notices are sent again, due observers get new ones, and requests of fetches are sent again
 -- (RFC 7252 section 4.2, RFC 7641 sections 1.3 and 4.5).
-use Rattle.std.specs.Prelude.{ℕ, ◌+◌, ◌*◌, ◌/◌, Bool, true, false, not, ◌&&◌, ◌||◌, ◌==◌, nat_le, List, [], ◌∷◌, length, fold, find, Option, Some, None, bytes_eq, if◌then◌else◌}
+use Rattle.std.specs.Prelude.{ℕ, ◌+◌, ◌*◌, ◌/◌, Bool, true, false, not, ◌&&◌, ◌||◌, ◌==◌, nat_le, List, [], ◌∷◌, length, fold, find, Option, Some, None, option_map, unwrap_or, bytes_eq, if◌then◌else◌}
 use Rattle.rd_base.specs.declared.peers.Peer.{Peer}
 use Rattle.message_model.specs.declared.blocks.Block.{Block}
 use Rattle.message_model.specs.declared.messages.Kind4.TheVariants.{Con}
@@ -14,7 +14,7 @@ use Rattle.event_model.specs.Same.{is_same_peer}
 use Rattle.event_model.specs.Events.{Event, noted}
 use Rattle.event_model.specs.KeptAnswers.{Answer}
 use Rattle.event_model.specs.Observers.{name_of, observers, observe_value, last_body_formed}
-use Rattle.event_model.specs.Flights.{Flight, max_again, deadline, flight, is_waited_for}
+use Rattle.event_model.specs.Flights.{Flight, OctetsSent, max_again, deadline, flight, is_waited_for}
 use Rattle.event_model.specs.Due.{Transition, is_due}
 use Rattle.event_model.specs.Fetches.{Request, fetches, last_request, request_noted, is_waiting, resendings, fetch_deadline}
 use Rattle.journal_model.specs.declared.steps.Step.{Step}
@@ -36,6 +36,10 @@ is_confirmable_with mid _ = false
 abbrev pub confirmable_sent : Option Row → Peer → ℕ → Option (Peer × List ℕ)
 confirmable_sent None peer mid = None
 confirmable_sent (Some r) peer mid = find (λ d. is_same_peer d.0 peer && is_confirmable_with mid d.1) r.sent
+
+-- the octets that the row of a place sent to a peer in the confirmable message with a Message ID; none where it sent no such message
+unfoldable pub octets_sent : List Row → OctetsSent
+octets_sent rows place peer mid = unwrap_or (option_map (λ d. d.1) (confirmable_sent (row_at place rows) peer mid)) []
 
 -- the same octets are sent once more, and this is noted
 abbrev pub sent_again : Option (Peer × List ℕ) → Note → Effects

@@ -2,17 +2,8 @@
 use Rattle.std.proofs.Common.{◌≡◌, ◌↔◌, ℕ, Bool, true, List, [], ◌∷◌, bytes_eq, refl, sym, ◌∙◌}
 use Rattle.std.proofs.lemmas.Bool.{and_parts}
 use Rattle.std.proofs.lemmas.Slice.Eq.{bytes_eq-Decides}
-use Rattle.listing.specs.SameParts.{same_lines}
-
--- the comparison decides whether both are equal
-pub same_lines-Decides : (old new : List (List ℕ)) → (same_lines old new ≡ true) ↔ (old ≡ new)
-same_lines-Decides [] [] = (λ e. refl, λ e. refl)
-same_lines-Decides [] (y ∷ ys) = (λ e. cc, λ e. cc)
-same_lines-Decides (x ∷ xs) [] = (λ e. cc, λ e. cc)
-same_lines-Decides (x ∷ xs) (y ∷ ys) = (
-  λ e. let parts = and_parts (bytes_eq x y) (same_lines xs ys) e in let head : x ≡ y = (bytes_eq-Decides x y).0 parts.0 in let tail : xs ≡ ys = (same_lines-Decides xs ys).0 parts.1 in cc,
-  λ e. let head : x ≡ y = cc in let tail : xs ≡ ys = cc in rw ((bytes_eq-Decides x y).1 head, (same_lines-Decides xs ys).1 tail) refl,
-)
+use Rattle.record_model.specs.ListingLines.{same_lines}
+use Rattle.record_model.proofs.LineLaws.{same_lines-Decides}
 
 -- and so does an answer that is equal to what it gives
 pub same_lines_answered : (answer : Bool) (old new : List (List ℕ)) → answer ≡ same_lines old new → (answer ≡ true) ↔ (old ≡ new)

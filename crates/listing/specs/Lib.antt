@@ -2,5 +2,4 @@ pub mod AppendedLines
 pub mod Pieces
 pub mod ListedLinks
 pub mod OwnLinks
-pub mod SameParts
 pub mod Views

@@ -3,7 +3,7 @@ ghost use Rattle.std.specs.Prelude.{◌≡◌, ◌↔◌, [], Some, bytes_eq, Is
 ghost use Rattle.std.specs.Option.{option_copied};
 ghost use Rattle.record_model.specs.ListingLines as listing_model;
 ghost use Rattle.record_model.specs.Matching as model;
-ghost use Rattle.listing.specs.SameParts.{part_or_none, same_lines};
+ghost use Rattle.record_model.specs.ListingLines.{part_or_none, same_lines};
 ghost use Rattle.listing.specs.Views.{FirstListed, left};
 ghost use Rattle.listing.specs.ListedLinks.{listed_endpoint, listed_lines};
 

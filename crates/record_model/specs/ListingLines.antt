@@ -1,6 +1,7 @@
 -- The lines of a listing: what one record gives, how a line is written, and what a record weighs (RFC 9176 sections 6.3 and 6.4).
-use Rattle.std.specs.Prelude.{ℕ, ◌+◌, ◌*◌, Bool, ◌||◌, List, [], ◌∷◌, ◌++◌, length, take, drop, map, filter, flat_map, sum_by, codes, Option, Some, None, unwrap_or, if◌then◌else◌}
+use Rattle.std.specs.Prelude.{ℕ, ◌+◌, ◌*◌, Bool, ◌||◌, List, [], ◌∷◌, ◌++◌, length, take, drop, map, filter, flat_map, sum_by, codes, Option, Some, None, unwrap_or, if◌then◌else◌, bytes_eq}
 use Rattle.std.specs.List.{list_any, list_all, join_with_byte}
+use lib.Pointwise.{pointwise}
 use Rattle.rd_base.specs.declared.attributes.Pair.{Pair}
 use Rattle.rd_base.specs.declared.queries.Kind.{Kind}
 use Rattle.rd_base.specs.declared.queries.Kind.TheVariants as kind
@@ -59,6 +60,15 @@ part_of_kind kind.Discovery query r = []
 -- the lines that a record gives to a query
 unfoldable pub part : Query → Record → List (List ℕ)
 part query r = part_of_kind query.kind query r
+
+-- the lines that a registration gives to a query, where there is one
+abbrev pub part_or_none : Query → Option Record → List (List ℕ)
+part_or_none query None = []
+part_or_none query (Some r) = part query r
+
+-- the same lines in the same order
+abbrev pub same_lines : List (List ℕ) → List (List ℕ) → Bool
+same_lines = pointwise bytes_eq
 
 -- what a record weighs: its endpoint line and each of its link lines, each with one octet more for a comma
 unfoldable pub weight : Record → ℕ

@@ -2,7 +2,9 @@
 use Rattle.std.specs.Prelude.{ℕ, Bool, List, [], ◌∷◌, ◌++◌, map, reverse, flat_map, replicate, Some, None}
 use Rattle.line_model.specs.declared.lines.Reason.{Reason}
 use Rattle.journal_model.specs.declared.rows.Row.{Row}
-use Rattle.journal_model.specs.Desks.{observers_of}
+use Rattle.event_model.specs.Due.{Watching, observers_standing}
+use Rattle.journal_model.specs.Journal.{events, transitions}
+use Rattle.journal_model.specs.Ticks.{octets_sent}
 use Rattle.trace_model.specs.Steps.{journal}
 use Rattle.trace_model.specs.Output.{Output, ended, out_lines, last_line}
 
@@ -30,6 +32,10 @@ row_by_row rows = map out_lines (reverse rows) ++ last_line rows ∷ []
 abbrev pub step_by_step : ℕ → List (List ℕ) → List (List ℕ)
 step_by_step workers trace = row_by_row (journal workers (lines trace))
 
+-- the observers that stand after the rows of a journal
+abbrev pub standing : List Row → List Watching
+standing rows = observers_standing (octets_sent rows) (events rows) (transitions rows)
+
 -- which of the observers are due after a trace of one worker
 abbrev pub due_after : List (List ℕ) → List Bool
-due_after trace = map (λ w. w.due) (observers_of (journal 1 (lines trace)))
+due_after trace = map (λ w. w.due) (standing (journal 1 (lines trace)))

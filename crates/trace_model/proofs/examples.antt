@@ -5,6 +5,7 @@ mod ObserverTraces
 mod FetchTraces
 mod FullTableTraces
 mod StepTraces
+mod TableTraces
 mod DueExamples
 mod BadLineTraces
 mod GeneratedTraces

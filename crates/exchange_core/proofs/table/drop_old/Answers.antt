@@ -1,13 +1,13 @@
 use Rattle.std.proofs.Common.{ℕ, ◌-◌, ◌≡◌, List, [], ◌∷◌, ◌++◌, take, true, refl, sym, ap, subst, ◌∙◌}
 use Rattle.std.specs.VecDeque.{deque_len}
 use Rattle.event_model.specs.Events.{is_young}
-use Rattle.exchange_core.specs.declared.writes.Exchange.{Exchange}
+use Rattle.event_model.specs.Repeats.{Exchange}
 use Rattle.exchange_core.specs.Table.{young, InOrder}
 use Rattle.exchange_core.proofs.RowLaws.{young-all, young-popped, oldest_last, InOrder-popped}
 use Rattle.exchange_core.proofs.table.drop_old.Goals as goal
 
 -- the exchanges that are left, where the oldest is young
-all_left : (now : ℕ) (xs front : List Exchange) (x : Exchange) → xs ≡ front ++ x ∷ [] → InOrder now xs → is_young now x.admitted.0 ≡ true → xs ≡ young now xs
+all_left : (now : ℕ) (xs front : List Exchange) (x : Exchange) → xs ≡ front ++ x ∷ [] → InOrder now xs → is_young now x.moment ≡ true → xs ≡ young now xs
 all_left now xs front x whole order y = whole ∙ (young-all now now front x (subst (InOrder now) whole order) y ∙ ap (λ rest. young now rest) (sym whole))
 
 pub returns-then-is_young-clause-items : goal.returns-then-is_young-clause-items

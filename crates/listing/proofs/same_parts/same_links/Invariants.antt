@@ -1,5 +1,5 @@
 use Rattle.std.proofs.Common.{◌≡◌, Some, length}
-use Rattle.listing.specs.SameParts.{same_lines}
+use Rattle.record_model.specs.ListingLines.{same_lines}
 use Rattle.listing.specs.ListedLinks.{listed_lines}
 use Rattle.listing.proofs.same_parts.same_links.Given as goal
 

@@ -1,4 +1,4 @@
-use Rattle.std.proofs.Common.{◌≡◌, ap, subst, sym, ◌∙◌, arith}
+use Rattle.std.proofs.Common.{◌≡◌, ◌∷◌, ap, subst, sym, ◌∙◌, arith}
 use Rattle.exchange_core.specs.Table.{Table, young}
 use Rattle.exchange_core.specs.ExchangeEvents.{ExchangesStandFor}
 use Rattle.exchange_core.proofs.TableLaws.{ExchangesStandFor-later, ExchangesStandFor-admitted, repeat_answers, full_answers, fresh_answers, repeat-not_fresh}
@@ -38,5 +38,5 @@ returns-clause-answer c at events h orderly in_time stands =
 pub returns-clause-admitted : goal.returns-clause-admitted
 returns-clause-admitted c at events e h fresh is moment new stands =
     ExchangesStandFor-admitted c.args.now.0 c.args.peer c.args.mid e events (record { moment = c.self-2.inside.moment.0; exchanges = c.self-2.inside.rows.items })
-    (record { moment = c.self-2.inside.moment.0; exchanges = c.push_front_reserved.new.self.items }) is moment new c.push_front_reserved.ensures.items
+    (record { moment = c.self-2.inside.moment.0; exchanges = c.push_front_reserved.new.self.items }) is moment new (c.push_front_reserved.ensures.items ∙ ap (λ x. x ∷ c.self-2.inside.rows.items) c.in_flight.ensures)
     (subst (ExchangesStandFor c.args.now.0 events) (sym c.self-2.view_is) (c.age.ensures.stands at events h stands))

@@ -1,0 +1,57 @@
+-- The journals of a desk: which steps follow which rows, be they those of a replay or of workers that look beside the desk.
+-- It says neither who holds which job nor who drew how many Message IDs, and looks may stand in it or not.
+use Rattle.std.specs.Prelude.{◌≡◌, ℕ, ◌<◌, ◌≤◌, max, Bool, true, false, List, [], ◌∷◌, Some}
+use Rattle.std.specs.List.{list_any}
+use Rattle.event_model.specs.Events.{has_event}
+use Rattle.event_model.specs.Repeats.{is_admitting, is_ending_of}
+use Rattle.journal_model.specs.declared.steps.Step.{Step}
+use Rattle.journal_model.specs.declared.steps.StepKind.{StepKind}
+use Rattle.journal_model.specs.declared.steps.StepKind.TheVariants as step
+use Rattle.journal_model.specs.declared.rows.Row.{Row}
+use Rattle.journal_model.specs.Journal.{events, now, latest, row_at}
+use Rattle.journal_model.specs.Rows.{row}
+
+-- the most workers
+abbrev pub max_workers : ℕ
+max_workers = 16
+
+-- the row of a place admitted a write of the worker, the peer and the datagram of a step, and no Settled or Failed ended that since
+pub record IsOpenFor (s : Step) (place : ℕ) (rows : List Row) : Type 0 where
+  pub admission : Row
+  pub found : row_at place rows ≡ Some admission
+  pub admits : list_any is_admitting admission.notes ≡ true
+  pub worker : admission.step.worker ≡ s.worker
+  pub peer : admission.step.peer ≡ s.peer
+  pub datagram : admission.step.datagram ≡ s.datagram
+  pub not_ended : has_event (is_ending_of place) (events rows) ≡ false
+
+-- a commit is of such an admission; a keep may have any body and any tag
+abbrev pub CommitsOpen : List Row → Step → StepKind → Type 0
+CommitsOpen rows s (step.Commit place) = IsOpenFor s place rows
+CommitsOpen rows s _ = Unit {0}
+
+-- a step that ends a job: a commit or a keep
+abbrev pub ends_job : StepKind → Bool
+ends_job (step.Commit place) = true
+ends_job (step.Keep body tag) = true
+ends_job _ = false
+
+-- no look was at a later moment than the last other row, or than the one that is handed in
+abbrev pub NoLaterLook : ℕ → List Row → Type 0
+NoLaterLook handed rows = latest rows ≤ max handed (now rows)
+
+-- what is handed in with a step: a moment that is not below those of looks, one of the workers, and the word 0 where it ends a job
+pub record IsHanded (rows : List Row) (s : Step) : Type 0 where
+  pub in_time : NoLaterLook s.handed.0 rows
+  pub worker : s.worker < max_workers
+  pub word : ends_job s.kind ≡ true → s.word ≡ 0
+
+-- a step that a desk may make after a journal
+pub record MayFollow (rows : List Row) (s : Step) : Type 0 where
+  pub commits : CommitsOpen rows s s.kind
+  pub handed : IsHanded rows s
+
+-- a journal of a desk: each row is that of the rows before it and its own step, which may follow them
+pub data IsDeskJournal : List Row → Type 0 where
+  begun : IsDeskJournal []
+  made : {rows : List Row} → (s : Step) (starved : Bool) → IsDeskJournal rows → MayFollow rows s → IsDeskJournal (row rows s starved ∷ rows)
