@@ -1,4 +1,5 @@
 pub mod TickRows
+pub mod TaggedAnswers
 pub mod RowCarries
 pub mod LookupRows
 pub mod KeepRows

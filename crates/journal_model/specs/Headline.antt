@@ -11,7 +11,7 @@ use Rattle.message_model.specs.Reading.{reading}
 use Rattle.message_model.specs.Request.{path_in, etags_in}
 use Rattle.history_model.specs.declared.entries.Entry.{Entry}
 use Rattle.history_model.specs.Legal.{IsLegal}
-use Rattle.history_model.specs.Live.{live}
+use Rattle.history_model.specs.Live.{IsFront, live}
 use Rattle.history_model.specs.Listing.{listing, tag}
 use Rattle.event_model.specs.declared.notes.Note.{Note}
 use Rattle.event_model.specs.declared.notes.Note.TheVariants as note
@@ -142,51 +142,98 @@ former_at _ peer mid here = former_noted peer mid here.row.notes here
 abbrev pub observer_named : RequestName → List Row → Option Observer
 observer_named name rows = find (λ o. is_same_request (name_of o) name) (observers (events rows))
 
--- the query of a request
-abbrev pub query_read : Result Message Unread → Option Query
-query_read (Err fault) = None
-query_read (Ok m) = Some (query_of m)
+-- the query of a request from a peer, where the peer and the token of its answer are its own
+abbrev pub query_read : RequestName → Peer → Result Message Unread → Option Query
+query_read name peer (Err fault) = None
+query_read name peer (Ok m) = if is_same_request (peer, m.token) name then Some (query_of m) else None
 
--- the query that a message answers which a row sends: that of the observer who gets it as a notice, and else that of the request
+-- the query that a message to a peer and a token answers which a row sends: that of the observer who has them, where it is a notice,
+-- and else that of the request that has them
 abbrev pub query_answered : StepKind → RequestName → Placed → Option Query
 query_answered step.Tick name here = option_map (λ o. o.query) (observer_named name here.before)
-query_answered _ name here = query_read (reading here.row.step.datagram)
+query_answered _ name here = query_read name here.row.step.peer (reading here.row.step.datagram)
 
--- a message with a listing: a 2.05 that has an entity tag, which no other answer has
-abbrev pub has_listing : Message → Bool
-has_listing m = m.code == codes_of.content && list_any (λ t. true) (etags_in m)
+-- the datagram is a request whose path is a lookup
+abbrev pub names_lookup : Result Message Unread → Bool
+names_lookup (Err fault) = false
+names_lookup (Ok m) = is_lookup (path_in m)
 
--- the message carries a block of the listing of a query from a history at a moment, under its tag
-pub record Carries (m : Message) (query : Query) (history : List Entry) (moment : ℕ) : Type 0 where
+-- what a row sends answers a lookup, or is a notice: time passes in it, or its datagram names a lookup
+abbrev pub answers_lookup : StepKind → Result Message Unread → Bool
+answers_lookup step.Tick read = true
+answers_lookup _ read = names_lookup read
+
+-- 2.05
+abbrev pub is_content : Message → Bool
+is_content m = m.code == codes_of.content
+
+-- the message has an entity tag
+abbrev pub is_tagged : Message → Bool
+is_tagged m = list_any (λ t. true) (etags_in m)
+
+-- what a worker had seen when a row was made: the entries of the rows before it
+abbrev pub seen : Placed → List Entry
+seen p = entries p.before
+
+-- the message carries a block of a body
+pub record CarriesBlock (m : Message) (body : List ℕ) : Type 0 where
   pub number : ℕ
   pub szx : ℕ
   pub more : Bool
-  pub body : block_of (listing query history moment) number szx ≡ Some (m.payload, more)
+  pub cut : block_of body number szx ≡ Some (m.payload, more)
+
+-- the message carries a block of the listing of a query from a history at a moment, under its tag
+pub record Carries (m : Message) (query : Query) (history : List Entry) (moment : ℕ) : Type 0 where
+  pub block : CarriesBlock m (listing query history moment)
   pub tag : etags_in m ≡ tag history moment ∷ []
 
--- the message was formed by a row, and carries the listing of its query from the history up to that row, at the moment of that row
+-- the message was formed by a row, and carries the listing of its query from the history up to that row, at the moment of that row;
+-- this history holds all that the worker of that row had seen
 pub record FormedAs (here : Placed) (peer : Peer) (m : Message) : Type 0 where
   pub former : Placed
   pub formed : former_at here.row.step.kind peer m.mid here ≡ Some former
   pub query : Query
   pub asked : query_answered here.row.step.kind (peer, m.token) here ≡ Some query
   pub carries : Carries m query (entries (former.row ∷ former.before)) former.row.moment.0
+  pub holds_seen : IsFront (seen former) (entries (former.row ∷ former.before))
 
 -- the request is a look that names the tag
 abbrev pub looks_with_tag : List ℕ → Result Message Unread → Bool
 looks_with_tag current (Err fault) = false
 looks_with_tag current (Ok m) = is_look_request m && is_lookup (path_in m) && names_tag current m
 
+-- a 2.05 that a row of a journal sends to a lookup, as a notice, or with an entity tag
+pub record Answer (rows : List Row) : Type 0 where
+  pub here : Placed
+  pub within : Within rows here.before here.row
+  pub peer : Peer
+  pub octets : List ℕ
+  pub message : Message
+  pub sent : IsAmong here.row.sent (peer, octets)
+  pub read : reading octets ≡ Ok message
+  pub content : is_content message ≡ true
+  pub listing : (answers_lookup here.row.step.kind (reading here.row.step.datagram) || is_tagged message) ≡ true
+
 -- Each lookup answers the listing of the history at the row that formed it: every 2.05 to a lookup and every notice carries a block of
 -- the listing and the tag of the entries up to the row that formed its body, at the moment of that row;
 -- and 2.03 is sent exactly where a look names the tag at its own row.
 pub record AnswersAsFormed (rows : List Row) : Type 0 where
-  pub carried : (before : List Row) (r : Row) (peer : Peer) (octets : List ℕ) (m : Message) → Within rows before r → IsAmong r.sent (peer, octets)
-      → reading octets ≡ Ok m → has_listing m ≡ true → FormedAs (record { row = r; before = before }) peer m
+  pub carried : (answer : Answer rows) → FormedAs answer.here answer.peer answer.message
   pub valid : (before : List Row) (r : Row) → Within rows before r → r.starved ≡ false
       → (code_sent r.sent == codes_of.valid) ≡ (is_look r.step.kind && looks_with_tag (tag (entries before) r.moment.0) (reading r.step.datagram))
 
--- Equally tagged blocks come from one state: where the tags at two rows are equal, so are the histories and the live registrations.
+-- the query that an answer answers
+abbrev pub query_of_answer : {rows : List Row} → Answer rows → Option Query
+query_of_answer it = query_answered it.here.row.step.kind (it.peer, it.message.token) it.here
+
+-- two messages carry blocks of one body
+pub record AreBlocksOfOne (one other : Message) : Type 0 where
+  pub body : List ℕ
+  pub first : CarriesBlock one body
+  pub second : CarriesBlock other body
+
+-- Equally tagged blocks come from one state: where the tags at two rows are equal, so are the histories and the live registrations;
+-- and where the tags that are read in two answers to equal queries are equal, they carry blocks of one listing.
 pub record TagsDecideStates (rows : List Row) : Type 0 where
   pub histories : (before other_before : List Row) (r other : Row) → Within rows before r → Within rows other_before other
       → tag (entries (r ∷ before)) r.moment.0 ≡ tag (entries (other ∷ other_before)) other.moment.0
@@ -194,6 +241,8 @@ pub record TagsDecideStates (rows : List Row) : Type 0 where
   pub records : (before other_before : List Row) (r other : Row) → Within rows before r → Within rows other_before other
       → tag (entries (r ∷ before)) r.moment.0 ≡ tag (entries (other ∷ other_before)) other.moment.0
       → live (entries (r ∷ before)) r.moment.0 ≡ live (entries (other ∷ other_before)) other.moment.0
+  pub answers : (one other : Answer rows) → etags_in one.message ≡ etags_in other.message → query_of_answer one ≡ query_of_answer other
+      → AreBlocksOfOne one.message other.message
 
 -- Where no notice is due to an observer, the body that was last formed for it is the listing now.
 pub record ObserversKnow (rows : List Row) : Type 0 where

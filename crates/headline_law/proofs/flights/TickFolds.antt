@@ -27,7 +27,7 @@ use Rattle.headline_law.proofs.flights.WaitedPeers.{changes_observers, Waits, wa
 use Rattle.headline_law.proofs.flights.NoticesAgain.{again_peer, AgainSent, AgainNoted, again_notes, again_sends, again_none, events_after_again, again_key, again_waits}
 use Rattle.headline_law.proofs.flights.TickNotices.{is_notice_to, as_before, TickSoFar, so_far_quiet, FreshSent}
 use Rattle.message_model.specs.Reading.{reading}
-use Rattle.journal_model.specs.Headline.{has_listing}
+use Rattle.journal_model.specs.Headline.{is_content}
 use Rattle.headline_law.proofs.flights.FreshNotices.{NewNotice, so_far_noticed}
 use Rattle.rd_base.proofs.lemmas.Each.{each_weaker}
 
@@ -35,7 +35,7 @@ use Rattle.rd_base.proofs.lemmas.Each.{each_weaker}
 pub tick_begins : (rows : List Row) (moment word : ℕ) → TickSoFar rows moment word (notices_again rows moment)
 tick_begins rows moment word = record {
   stand = refl;
-  sends = each_weaker (AgainSent rows moment) (λ (d : Peer × List ℕ). (m : Message) → reading d.1 ≡ Ok m → has_listing m ≡ true → Waits d.0 (events_after_again rows moment word)) (λ d a m e listed. subst (λ p. Waits p (events_after_again rows moment word)) (sym (again_peer rows moment d a)) (again_waits rows moment word a.observer a.flight_is a.again))
+  sends = each_weaker (AgainSent rows moment) (λ (d : Peer × List ℕ). (m : Message) → reading d.1 ≡ Ok m → is_content m ≡ true → Waits d.0 (events_after_again rows moment word)) (λ d a m e listed. subst (λ p. Waits p (events_after_again rows moment word)) (sym (again_peer rows moment d a)) (again_waits rows moment word a.observer a.flight_is a.again))
       (notices_again rows moment).sent (again_sends rows moment);
   waits_on = λ peer w. w;
   origins = each_weaker (AgainSent rows moment) (λ (d : Peer × List ℕ). AgainSent rows moment d ⊎ FreshSent rows moment word d) (λ d a. inl a) (notices_again rows moment).sent (again_sends rows moment);

@@ -19,7 +19,7 @@ use Rattle.journal_model.specs.Ticks.{ticking, notices_again, notices, requests_
 use Rattle.journal_model.specs.Rows.{effects, row_moment, row}
 use Rattle.journal_model.specs.Meantime.{is_heard}
 use Rattle.journal_model.specs.Machine.{MayMake, MayBegin, IsJournal, begun, made}
-use Rattle.journal_model.specs.Headline.{former_of_body, AnswersAsFormed}
+use Rattle.journal_model.specs.Headline.{former_of_body, FormedAs, Answer, AnswersAsFormed}
 use Rattle.journal_model.proofs.NoteKinds.{of_tick, none_of}
 use Rattle.journal_model.proofs.StepNotes.{requests_again-notes, tick_effects-notes}
 use Rattle.journal_model.proofs.EntriesNoted.{entries_in}
@@ -158,10 +158,14 @@ unfolding events observers
 journal_carries [] begun = record { each = tt; asking = tt; flights = tt }
 journal_carries (r ∷ before) (made {rows} {s} starved journal may) = row_step before s starved journal may (journal_carries before journal)
 
+-- each answer was formed as the headline says
+pub answer_formed : (rows : List Row) → IsJournal rows → (a : Answer rows) → FormedAs a.here a.peer a.message
+answer_formed rows journal a =
+    all_at_index (Carried a.here) a.here.row.sent (a.peer, a.octets) a.sent (row_within RowCarries rows a.here.before a.here.row (journal_carries rows journal).each a.within).carried a.message a.read a.content a.listing
+
 -- each lookup answers the listing of the history at the row that formed it, and 2.03 is sent exactly where a look names the tag
 pub answers_as_formed : (rows : List Row) → IsJournal rows → AnswersAsFormed rows
 answers_as_formed rows journal = record {
-  carried = λ before r peer octets m within among read listed.
-      all_at_index (Carried (record { row = r; before = before })) r.sent (peer, octets) among (row_within RowCarries rows before r (journal_carries rows journal).each within).carried m read listed;
+  carried = λ a. answer_formed rows journal a;
   valid = λ before r within fed. looks_are_validated rows before r journal within fed;
 }

@@ -26,7 +26,7 @@ use Rattle.history_model.specs.Listing.{listing, tag, tag_from}
 use Rattle.journal_model.specs.Effects.{Reply}
 use Rattle.journal_model.specs.Requests.{number_of, szx_of}
 use Rattle.journal_model.specs.Bodies.{tag_option, observe_option, block2_option, answered_block, part_reply, body_reply}
-use Rattle.journal_model.specs.Headline.{has_listing, Carries, code_at}
+use Rattle.journal_model.specs.Headline.{is_content, is_tagged, Carries, code_at}
 
 -- a message with the code, options and payload of a reply
 abbrev pub with_reply : Kind4 → ℕ → List ℕ → Reply → Message
@@ -150,13 +150,13 @@ pub record Bears (token body tag : List ℕ) (m : Message) : Type 0 where
   pub block : block_of body number szx ≡ Some (m.payload, more)
   pub tagged : etags_in m ≡ tag ∷ []
 
--- whatever listing a datagram is read to have, it is of this body under this tag
+-- a datagram that is read to be 2.05 is of this body under this tag
 abbrev pub IsBodyOf : List ℕ → List ℕ → List ℕ → List ℕ → Type 0
-IsBodyOf token body tag octets = (m : Message) → reading octets ≡ Ok m → has_listing m ≡ true → Bears token body tag m
+IsBodyOf token body tag octets = (m : Message) → reading octets ≡ Ok m → is_content m ≡ true → Bears token body tag m
 
--- a datagram is read to have no listing
+-- a datagram is not read to be 2.05
 abbrev pub HasNone : List ℕ → Type 0
-HasNone octets = (m : Message) → reading octets ≡ Ok m → has_listing m ≡ false
+HasNone octets = (m : Message) → reading octets ≡ Ok m → is_content m ≡ false
 
 -- the code of what is read is the second octet
 code_read : (octets : List ℕ) (m : Message) → reading octets ≡ Ok m → m.code ≡ code_at octets
@@ -196,18 +196,22 @@ unfolding body_reply
 body_bears kind mid token tag observe asked body small short =
     part_bears kind mid token tag observe asked body (number_of asked) (szx_of asked) (block_of body (number_of asked) (szx_of asked)) small short refl
 
--- an answer with a body and no tag has no listing
+-- whatever body a datagram is read to have, it has no tag
+abbrev pub IsUntagged : List ℕ → Type 0
+IsUntagged octets = (m : Message) → reading octets ≡ Ok m → is_content m ≡ true → is_tagged m ≡ false
+
+-- an answer with a body and no tag
 pub body_untagged : (kind : Kind4) (mid : ℕ) (token : List ℕ) (observe : Option ℕ) (asked : Option Block) (body : List ℕ) → length token ≤ longest_token
-    → HasNone (spelling (with_reply kind mid token (body_reply None observe asked body)))
+    → IsUntagged (spelling (with_reply kind mid token (body_reply None observe asked body)))
 unfolding body_reply spelling header_spelling
 body_untagged kind mid token observe asked body small = by (block_of body (number_of asked) (szx_of asked))
   where
-    by : (part : Option (List ℕ × Bool)) → HasNone (spelling (with_reply kind mid token (part_reply None observe asked part)))
-    by None m e = other_code _ refl m e
-    by (Some part) m e =
-        subst (λ (n : Message). has_listing n ≡ false) (same_message _ m _ (part_again kind mid token None observe asked part small tt) e)
+    by : (part : Option (List ℕ × Bool)) → IsUntagged (spelling (with_reply kind mid token (part_reply None observe asked part)))
+    by None m e content = absurd (false≢true (sym (other_code _ refl m e) ∙ content))
+    by (Some part) m e content =
+        subst (λ (n : Message). is_tagged n ≡ false) (same_message _ m _ (part_again kind mid token None observe asked part small tt) e)
         (rw (untagged kind mid token observe asked part) refl)
 
 -- a listing under its tag, as the headline has it
 pub bears_carries : (token : List ℕ) (query : Query) (history : List Entry) (moment : ℕ) (m : Message) → Bears token (listing query history moment) (tag history moment) m → Carries m query history moment
-bears_carries token query history moment m b = record { number = b.number; szx = b.szx; more = b.more; body = b.block; tag = b.tagged }
+bears_carries token query history moment m b = record { block = record { number = b.number; szx = b.szx; more = b.more; cut = b.block }; tag = b.tagged }
