@@ -6,6 +6,7 @@ use Rattle.rd_base.specs.declared.queries.Query.{Query}
 use Rattle.message_model.specs.declared.messages.Unread.{Unread}
 use Rattle.message_model.specs.Message.{Message}
 use Rattle.message_model.specs.Codes as codes_of
+use Rattle.message_model.specs.OptionTable as table
 use Rattle.message_model.specs.Blocks.{block_of}
 use Rattle.message_model.specs.Reading.{reading}
 use Rattle.message_model.specs.Request.{path_in, etags_in}
@@ -202,29 +203,42 @@ abbrev pub looks_with_tag : List ℕ → Result Message Unread → Bool
 looks_with_tag current (Err fault) = false
 looks_with_tag current (Ok m) = is_look_request m && is_lookup (path_in m) && names_tag current m
 
--- a 2.05 that a row of a journal sends to a lookup, as a notice, or with an entity tag
-pub record Answer (rows : List Row) : Type 0 where
+-- a message that a row of a journal sends
+pub record Sent (rows : List Row) : Type 0 where
   pub here : Placed
   pub within : Within rows here.before here.row
   pub peer : Peer
   pub octets : List ℕ
+  pub among : IsAmong here.row.sent (peer, octets)
   pub message : Message
-  pub sent : IsAmong here.row.sent (peer, octets)
   pub read : reading octets ≡ Ok message
-  pub content : is_content message ≡ true
-  pub listing : (answers_lookup here.row.step.kind (reading here.row.step.datagram) || is_tagged message) ≡ true
+
+-- it is 2.05 to a lookup, a notice, or 2.05 with an entity tag
+abbrev pub is_listing : {rows : List Row} → Sent rows → Bool
+is_listing it =
+    is_content it.message && (answers_lookup it.here.row.step.kind (reading it.here.row.step.datagram) || is_tagged it.message)
+
+-- 2.03 as a look sends it: where it names the tag at its own row, to the peer and the token of the request, with this tag and nothing else
+pub record Validates (here : Placed) (peer : Peer) (m : Message) : Type 0 where
+  pub looks : is_look here.row.step.kind ≡ true
+  pub named : looks_with_tag (tag (entries here.before) here.row.moment.0) (reading here.row.step.datagram) ≡ true
+  pub query : Query
+  pub asked : query_answered here.row.step.kind (peer, m.token) here ≡ Some query
+  pub options : m.options ≡ (table.etag, tag (entries here.before) here.row.moment.0) ∷ []
+  pub payload : m.payload ≡ []
 
 -- Each lookup answers the listing of the history at the row that formed it: every 2.05 to a lookup and every notice carries a block of
 -- the listing and the tag of the entries up to the row that formed its body, at the moment of that row;
--- and 2.03 is sent exactly where a look names the tag at its own row.
+-- and 2.03 is sent exactly where a look names the tag at its own row, with this tag and nothing else; where memory ran out, only there.
 pub record AnswersAsFormed (rows : List Row) : Type 0 where
-  pub carried : (answer : Answer rows) → FormedAs answer.here answer.peer answer.message
+  pub carried : (sent : Sent rows) → is_listing sent ≡ true → FormedAs sent.here sent.peer sent.message
+  pub validated : (sent : Sent rows) → sent.message.code ≡ codes_of.valid → Validates sent.here sent.peer sent.message
   pub valid : (before : List Row) (r : Row) → Within rows before r → r.starved ≡ false
       → (code_sent r.sent == codes_of.valid) ≡ (is_look r.step.kind && looks_with_tag (tag (entries before) r.moment.0) (reading r.step.datagram))
 
--- the query that an answer answers
-abbrev pub query_of_answer : {rows : List Row} → Answer rows → Option Query
-query_of_answer it = query_answered it.here.row.step.kind (it.peer, it.message.token) it.here
+-- the query that a message answers
+abbrev pub query_of_sent : {rows : List Row} → Sent rows → Option Query
+query_of_sent it = query_answered it.here.row.step.kind (it.peer, it.message.token) it.here
 
 -- two messages carry blocks of one body
 pub record AreBlocksOfOne (one other : Message) : Type 0 where
@@ -241,8 +255,8 @@ pub record TagsDecideStates (rows : List Row) : Type 0 where
   pub records : (before other_before : List Row) (r other : Row) → Within rows before r → Within rows other_before other
       → tag (entries (r ∷ before)) r.moment.0 ≡ tag (entries (other ∷ other_before)) other.moment.0
       → live (entries (r ∷ before)) r.moment.0 ≡ live (entries (other ∷ other_before)) other.moment.0
-  pub answers : (one other : Answer rows) → etags_in one.message ≡ etags_in other.message → query_of_answer one ≡ query_of_answer other
-      → AreBlocksOfOne one.message other.message
+  pub answers : (one other : Sent rows) → is_listing one ≡ true → is_listing other ≡ true
+      → etags_in one.message ≡ etags_in other.message → query_of_sent one ≡ query_of_sent other → AreBlocksOfOne one.message other.message
 
 -- Where no notice is due to an observer, the body that was last formed for it is the listing now.
 pub record ObserversKnow (rows : List Row) : Type 0 where

@@ -1,7 +1,7 @@
 -- Each lookup answers the listing of the history at the row that formed it, in each journal of the machine.
 use Rattle.std.proofs.Common.{◌≡◌, ◌≤◌, Bool, true, false, List, [], ◌∷◌, ◌++◌, length, refl, sym, ap, subst, ◌∙◌}
 use Rattle.std.specs.List.{list_any, AllByRecursion}
-use Rattle.std.proofs.lemmas.Bool.{false≢true}
+use Rattle.std.proofs.lemmas.Bool.{false≢true, and_parts}
 use Rattle.message_model.specs.Message.{longest_token}
 use Rattle.message_model.specs.Reading.{reading}
 use Rattle.rd_base.proofs.lemmas.Each.{each_weaker}
@@ -19,7 +19,7 @@ use Rattle.journal_model.specs.Ticks.{ticking, notices_again, notices, requests_
 use Rattle.journal_model.specs.Rows.{effects, row_moment, row}
 use Rattle.journal_model.specs.Meantime.{is_heard}
 use Rattle.journal_model.specs.Machine.{MayMake, MayBegin, IsJournal, begun, made}
-use Rattle.journal_model.specs.Headline.{former_of_body, FormedAs, Answer, AnswersAsFormed}
+use Rattle.journal_model.specs.Headline.{former_of_body, FormedAs, is_content, Sent, is_listing, AnswersAsFormed}
 use Rattle.journal_model.proofs.NoteKinds.{of_tick, none_of}
 use Rattle.journal_model.proofs.StepNotes.{requests_again-notes, tick_effects-notes}
 use Rattle.journal_model.proofs.EntriesNoted.{entries_in}
@@ -28,6 +28,7 @@ use Rattle.headline_law.proofs.entries.QuietSteps.{tick_effects-entries_in}
 use Rattle.headline_law.proofs.observers.ObserversKnow.{IsNoTick, step_observer_notes}
 use Rattle.headline_law.proofs.sends.TickSends.{requests_plain}
 use Rattle.headline_law.proofs.sends.ValidLaw.{before_all, journal_sends, looks_are_validated}
+use Rattle.headline_law.proofs.rows.Validations.{sent_validates}
 use Rattle.headline_law.proofs.sends.RowSends.{Before}
 use Rattle.journal_model.proofs.EventRows.{AllRows, row_within}
 use Rattle.rd_base.proofs.lemmas.Among.{Among, all_among, all_at_index}
@@ -159,13 +160,15 @@ journal_carries [] begun = record { each = tt; asking = tt; flights = tt }
 journal_carries (r ∷ before) (made {rows} {s} starved journal may) = row_step before s starved journal may (journal_carries before journal)
 
 -- each answer was formed as the headline says
-pub answer_formed : (rows : List Row) → IsJournal rows → (a : Answer rows) → FormedAs a.here a.peer a.message
-answer_formed rows journal a =
-    all_at_index (Carried a.here) a.here.row.sent (a.peer, a.octets) a.sent (row_within RowCarries rows a.here.before a.here.row (journal_carries rows journal).each a.within).carried a.message a.read a.content a.listing
+pub answer_formed : (rows : List Row) → IsJournal rows → (sent : Sent rows) → is_listing sent ≡ true → FormedAs sent.here sent.peer sent.message
+answer_formed rows journal sent listed =
+    let parts = and_parts (is_content sent.message) _ listed in
+    all_at_index (Carried sent.here) sent.here.row.sent (sent.peer, sent.octets) sent.among (row_within RowCarries rows sent.here.before sent.here.row (journal_carries rows journal).each sent.within).carried sent.message sent.read parts.0 parts.1
 
 -- each lookup answers the listing of the history at the row that formed it, and 2.03 is sent exactly where a look names the tag
 pub answers_as_formed : (rows : List Row) → IsJournal rows → AnswersAsFormed rows
 answers_as_formed rows journal = record {
-  carried = λ a. answer_formed rows journal a;
+  carried = λ sent listed. answer_formed rows journal sent listed;
+  validated = λ sent valid. sent_validates rows journal sent valid;
   valid = λ before r within fed. looks_are_validated rows before r journal within fed;
 }

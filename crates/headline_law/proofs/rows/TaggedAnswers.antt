@@ -17,7 +17,7 @@ use Rattle.journal_model.specs.declared.steps.StepKind.TheVariants as step
 use Rattle.journal_model.specs.declared.rows.Row.{Row}
 use Rattle.journal_model.specs.Journal.{entries}
 use Rattle.journal_model.specs.Machine.{IsJournal}
-use Rattle.journal_model.specs.Headline.{Within, Placed, last_row, former_of_body, former_of_kept, former_of_notice, former_noted, former_at, FormedAs, CarriesBlock, Answer, query_of_answer, AreBlocksOfOne, TagsDecideStates}
+use Rattle.journal_model.specs.Headline.{Within, Placed, last_row, former_of_body, former_of_kept, former_of_notice, former_noted, former_at, FormedAs, CarriesBlock, Sent, is_listing, query_of_sent, AreBlocksOfOne, TagsDecideStates}
 use Rattle.headline_law.proofs.entries.TagStates.{tags_tell}
 use Rattle.headline_law.proofs.rows.AnswersAsFormed.{answer_formed}
 
@@ -93,19 +93,19 @@ stands_former step.Tick peer mid here p e = stands_noted peer mid here.row.notes
 -- ---- the law
 
 -- two answers with equal tags, to equal queries
-answers_share : (rows : List Row) → IsJournal rows → (one other : Answer rows) → etags_in one.message ≡ etags_in other.message → query_of_answer one ≡ query_of_answer other
+answers_share : (rows : List Row) → IsJournal rows → (one other : Sent rows) → is_listing one ≡ true → is_listing other ≡ true → etags_in one.message ≡ etags_in other.message → query_of_sent one ≡ query_of_sent other
     → AreBlocksOfOne one.message other.message
-answers_share rows journal one other same_tags same_queries = record {
+answers_share rows journal one other listed also same_tags same_queries = record {
   body = listing f.query (entries (f.former.row ∷ f.former.before)) f.former.row.moment.0;
   first = f.carries.block;
   second = subst (λ body. CarriesBlock other.message body) (sym same_listings) g.carries.block;
 }
   where
     f : FormedAs one.here one.peer one.message
-    f = answer_formed rows journal one
+    f = answer_formed rows journal one listed
 
     g : FormedAs other.here other.peer other.message
-    g = answer_formed rows journal other
+    g = answer_formed rows journal other also
 
     here : Stands rows f.former
     here = stands_through rows one.here f.former one.within (stands_former one.here.row.step.kind one.peer one.message.mid one.here f.former f.formed)
@@ -134,5 +134,5 @@ pub journal-TagsDecideStates : (rows : List Row) → IsJournal rows → TagsDeci
 journal-TagsDecideStates rows journal = record {
   histories = λ before other_before r other here there same. (tags_tell rows before other_before r other journal here there same).0;
   records = λ before other_before r other here there same. (tags_tell rows before other_before r other journal here there same).1;
-  answers = λ one other same_tags same_queries. answers_share rows journal one other same_tags same_queries;
+  answers = λ one other listed also same_tags same_queries. answers_share rows journal one other listed also same_tags same_queries;
 }

@@ -159,7 +159,7 @@ abbrev pub HasNone : List ℕ → Type 0
 HasNone octets = (m : Message) → reading octets ≡ Ok m → is_content m ≡ false
 
 -- the code of what is read is the second octet
-code_read : (octets : List ℕ) (m : Message) → reading octets ≡ Ok m → m.code ≡ code_at octets
+pub code_read : (octets : List ℕ) (m : Message) → reading octets ≡ Ok m → m.code ≡ code_at octets
 code_read octets m e = let h = header_read octets m e in sym (ap code_at h.octets_are)
 
 -- a datagram with another code than 2.05
