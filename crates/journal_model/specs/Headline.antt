@@ -3,11 +3,12 @@ use Rattle.std.specs.Prelude.{◌≡◌, ◌⊎◌, ℕ, ◌+◌, ◌<◌, ◌�
 use Rattle.std.specs.List.{list_any, IsAmong}
 use Rattle.rd_base.specs.declared.peers.Peer.{Peer}
 use Rattle.rd_base.specs.declared.queries.Query.{Query}
+use Rattle.message_model.specs.declared.blocks.Block.{Block}
 use Rattle.message_model.specs.declared.messages.Unread.{Unread}
 use Rattle.message_model.specs.Message.{Message}
 use Rattle.message_model.specs.Codes as codes_of
 use Rattle.message_model.specs.OptionTable as table
-use Rattle.message_model.specs.Blocks.{block_of}
+use Rattle.message_model.specs.Blocks.{block_size, block_of}
 use Rattle.message_model.specs.Reading.{reading}
 use Rattle.message_model.specs.Request.{path_in, etags_in}
 use Rattle.history_model.specs.declared.entries.Entry.{Entry}
@@ -27,7 +28,7 @@ use Rattle.journal_model.specs.declared.steps.StepKind.{StepKind}
 use Rattle.journal_model.specs.declared.steps.StepKind.TheVariants as step
 use Rattle.journal_model.specs.declared.rows.Row.{Row}
 use Rattle.journal_model.specs.Journal.{is_look, events, entries, entries_of, now, transitions}
-use Rattle.journal_model.specs.Requests.{is_lookup, is_look_request, query_of}
+use Rattle.journal_model.specs.Requests.{is_lookup, is_look_request, query_of, asked_block, number_of, szx_of}
 use Rattle.journal_model.specs.Looks.{names_tag}
 use Rattle.journal_model.specs.Meantime.{is_location}
 
@@ -143,16 +144,27 @@ former_at _ peer mid here = former_noted peer mid here.row.notes here
 abbrev pub observer_named : RequestName → List Row → Option Observer
 observer_named name rows = find (λ o. is_same_request (name_of o) name) (observers (events rows))
 
--- the query of a request from a peer, where the peer and the token of its answer are its own
-abbrev pub query_read : RequestName → Peer → Result Message Unread → Option Query
-query_read name peer (Err fault) = None
-query_read name peer (Ok m) = if is_same_request (peer, m.token) name then Some (query_of m) else None
+-- what is asked for: a query, and of its listing a block, by its number and the exponent of its size
+pub record Asked : Type 0 where
+  pub query : Query
+  pub number : ℕ
+  pub szx : ℕ
 
--- the query that a message to a peer and a token answers which a row sends: that of the observer who has them, where it is a notice,
--- and else that of the request that has them
-abbrev pub query_answered : StepKind → RequestName → Placed → Option Query
-query_answered step.Tick name here = option_map (λ o. o.query) (observer_named name here.before)
-query_answered _ name here = query_read name here.row.step.peer (reading here.row.step.datagram)
+-- what an observer asks for with each notice: the first block
+abbrev pub asked_by_observer : Observer → Asked
+asked_by_observer o = record { query = o.query; number = 0; szx = o.szx }
+
+-- what a request from a peer asks for, where the peer and the token of its answer are its own
+abbrev pub asked_in : RequestName → Peer → Result Message Unread → Option Asked
+asked_in name peer (Err fault) = None
+asked_in name peer (Ok m) =
+    if is_same_request (peer, m.token) name then Some (record { query = query_of m; number = number_of (asked_block m); szx = szx_of (asked_block m) }) else None
+
+-- what is asked for in the message to a peer and a token that a row sends: by the observer who has them, where it is a notice,
+-- and else by the request that has them
+abbrev pub asked_at : StepKind → RequestName → Placed → Option Asked
+asked_at step.Tick name here = option_map (λ o. asked_by_observer o) (observer_named name here.before)
+asked_at _ name here = asked_in name here.row.step.peer (reading here.row.step.datagram)
 
 -- the datagram is a request whose path is a lookup
 abbrev pub names_lookup : Result Message Unread → Bool
@@ -176,26 +188,39 @@ is_tagged m = list_any (λ t. true) (etags_in m)
 abbrev pub seen : Placed → List Entry
 seen p = entries p.before
 
--- the message carries a block of a body
-pub record CarriesBlock (m : Message) (body : List ℕ) : Type 0 where
-  pub number : ℕ
-  pub szx : ℕ
-  pub more : Bool
-  pub cut : block_of body number szx ≡ Some (m.payload, more)
+-- the most octets of a payload
+abbrev pub longest_payload : ℕ
+longest_payload = 1_024
 
--- the message carries a block of the listing of a query from a history at a moment, under its tag
-pub record Carries (m : Message) (query : Query) (history : List Entry) (moment : ℕ) : Type 0 where
-  pub block : CarriesBlock m (listing query history moment)
+-- a payload is the block of a body that is named, and the whole body where none is
+abbrev pub IsBlockOf : Option Block → List ℕ → List ℕ → Type 0
+IsBlockOf None body payload = payload ≡ body
+IsBlockOf (Some b) body payload = block_of body b.num b.szx ≡ Some (payload, b.more)
+
+-- the block that is named is the one that is asked for; none is named only where that is the first, and the body fits it
+abbrev pub IsAsked : ℕ → ℕ → Option Block → List ℕ → Type 0
+IsAsked number szx None body = (number ≡ 0) × (length body ≤ block_size szx)
+IsAsked number szx (Some b) body = (b.num ≡ number) × (b.szx ≡ szx)
+
+-- the message carries the block of a body that its own Block2 names, and this is the one that is asked for
+pub record CarriesBlock (m : Message) (number szx : ℕ) (body : List ℕ) : Type 0 where
+  pub block : IsBlockOf (asked_block m) body m.payload
+  pub asked : IsAsked number szx (asked_block m) body
+  pub fits : length m.payload ≤ longest_payload
+
+-- the message carries a block of the listing of what is asked for, from a history at a moment, under its tag
+pub record Carries (m : Message) (asked : Asked) (history : List Entry) (moment : ℕ) : Type 0 where
+  pub block : CarriesBlock m asked.number asked.szx (listing asked.query history moment)
   pub tag : etags_in m ≡ tag history moment ∷ []
 
--- the message was formed by a row, and carries the listing of its query from the history up to that row, at the moment of that row;
+-- the message was formed by a row, and carries the block that is asked for of the listing from the history up to that row, at the moment of that row;
 -- this history holds all that the worker of that row had seen
 pub record FormedAs (here : Placed) (peer : Peer) (m : Message) : Type 0 where
   pub former : Placed
   pub formed : former_at here.row.step.kind peer m.mid here ≡ Some former
-  pub query : Query
-  pub asked : query_answered here.row.step.kind (peer, m.token) here ≡ Some query
-  pub carries : Carries m query (entries (former.row ∷ former.before)) former.row.moment.0
+  pub asked : Asked
+  pub asks : asked_at here.row.step.kind (peer, m.token) here ≡ Some asked
+  pub carries : Carries m asked (entries (former.row ∷ former.before)) former.row.moment.0
   pub holds_seen : IsFront (seen former) (entries (former.row ∷ former.before))
 
 -- the request is a look that names the tag
@@ -222,8 +247,8 @@ is_listing it =
 pub record Validates (here : Placed) (peer : Peer) (m : Message) : Type 0 where
   pub looks : is_look here.row.step.kind ≡ true
   pub named : looks_with_tag (tag (entries here.before) here.row.moment.0) (reading here.row.step.datagram) ≡ true
-  pub query : Query
-  pub asked : query_answered here.row.step.kind (peer, m.token) here ≡ Some query
+  pub asked : Asked
+  pub asks : asked_at here.row.step.kind (peer, m.token) here ≡ Some asked
   pub options : m.options ≡ (table.etag, tag (entries here.before) here.row.moment.0) ∷ []
   pub payload : m.payload ≡ []
 
@@ -238,13 +263,13 @@ pub record AnswersAsFormed (rows : List Row) : Type 0 where
 
 -- the query that a message answers
 abbrev pub query_of_sent : {rows : List Row} → Sent rows → Option Query
-query_of_sent it = query_answered it.here.row.step.kind (it.peer, it.message.token) it.here
+query_of_sent it = option_map (λ asked. asked.query) (asked_at it.here.row.step.kind (it.peer, it.message.token) it.here)
 
 -- two messages carry blocks of one body
 pub record AreBlocksOfOne (one other : Message) : Type 0 where
   pub body : List ℕ
-  pub first : CarriesBlock one body
-  pub second : CarriesBlock other body
+  pub first : IsBlockOf (asked_block one) body one.payload
+  pub second : IsBlockOf (asked_block other) body other.payload
 
 -- Equally tagged blocks come from one state: where the tags at two rows are equal, so are the histories and the live registrations;
 -- and where the tags that are read in two answers to equal queries are equal, they carry blocks of one listing.

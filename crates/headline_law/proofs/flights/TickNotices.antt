@@ -21,7 +21,7 @@ use Rattle.journal_model.specs.Effects.{Effects}
 use Rattle.journal_model.specs.Ticks.{notices}
 use Rattle.journal_model.specs.Ticks.{notices_again}
 use Rattle.journal_model.specs.Headline.{is_content, forms_notice}
-use Rattle.headline_law.proofs.sends.BodyAnswers.{IsBodyOf}
+use Rattle.headline_law.proofs.sends.BodyAnswers.{wanted_by_observer, IsBodyOf}
 use Rattle.rd_base.proofs.lemmas.Among.{Among}
 use Rattle.journal_model.proofs.FlightKeys.{flight_key, is_landing, key_same_all}
 use Rattle.headline_law.proofs.flights.WaitedPeers.{changes_observers, observers_same, Waits, flies_key}
@@ -36,7 +36,7 @@ is_notice_to peer _ = false
 
 -- the datagram has whatever listing it has from the listing of an observer now
 abbrev pub IsNoticeOf : List Row → ℕ → Observer → List ℕ → Type 0
-IsNoticeOf rows moment o octets = IsBodyOf o.token (listing o.query (entries rows) moment) (tag (entries rows) moment) octets
+IsNoticeOf rows moment o octets = IsBodyOf (wanted_by_observer o) (listing o.query (entries rows) moment) (tag (entries rows) moment) octets
 
 -- what a tick did so far to an observer that stands: its flight is as before, and where it has one its peer got no notice; or a notice was formed for it
 pub data FlightSoFar (rows : List Row) (moment word : ℕ) (o : Observer) (done : Effects) : Type 0 where

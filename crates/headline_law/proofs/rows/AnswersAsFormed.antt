@@ -1,8 +1,7 @@
 -- Each lookup answers the listing of the history at the row that formed it, in each journal of the machine.
-use Rattle.std.proofs.Common.{◌≡◌, ◌≤◌, Bool, true, false, List, [], ◌∷◌, ◌++◌, length, refl, sym, ap, subst, ◌∙◌}
+use Rattle.std.proofs.Common.{◌≡◌, Bool, true, false, List, [], ◌∷◌, ◌++◌, length, refl, sym, ap, subst, ◌∙◌}
 use Rattle.std.specs.List.{list_any, AllByRecursion}
 use Rattle.std.proofs.lemmas.Bool.{false≢true, and_parts}
-use Rattle.message_model.specs.Message.{longest_token}
 use Rattle.message_model.specs.Reading.{reading}
 use Rattle.rd_base.proofs.lemmas.Each.{each_weaker}
 use Rattle.event_model.specs.declared.notes.Note.{Note}
@@ -95,8 +94,8 @@ tick_of rows r starved past all tick sent notes = by starved sent notes
         never (note.Used peer key) h = absurd (false≢true h)
         never _ h = refl
 
-    small : (o : Observer) → Among o (observers (events_after_again rows r.moment.0 r.step.word)) → length o.token ≤ longest_token
-    small o stands = (all_among IsAsking o (observers (events_after_again rows r.moment.0 r.step.word)) (stood rows r.moment.0 r.step.word IsAsking all.asking) stands).token
+    asking : (o : Observer) → Among o (observers (events_after_again rows r.moment.0 r.step.word)) → IsAsking o
+    asking o stands = all_among IsAsking o (observers (events_after_again rows r.moment.0 r.step.word)) (stood rows r.moment.0 r.step.word IsAsking all.asking) stands
 
     with_parts : (notified : Effects) → TickSoFar rows r.moment.0 r.step.word notified → r.sent ≡ notified.sent ++ (requests_again rows r.moment.0).sent → r.notes ≡ notified.notes ++ (requests_again rows r.moment.0).notes → TickRow rows r
     with_parts notified so_far sends noted = record {
@@ -115,7 +114,7 @@ tick_of rows r starved past all tick sent notes = by starved sent notes
 
     by : (b : Bool) → r.sent ≡ (tick_effects b rows r.moment.0 r.step).sent → r.notes ≡ (tick_effects b rows r.moment.0 r.step).notes → TickRow rows r
     by true s n = with_parts (notices_again rows r.moment.0) (tick_begins rows r.moment.0 r.step.word) s n
-    by false s n = with_parts (notices (ticking rows r.moment.0 r.step) (notices_again rows r.moment.0)) (tick_notifies rows r.moment.0 r.step small) s n
+    by false s n = with_parts (notices (ticking rows r.moment.0 r.step) (notices_again rows r.moment.0)) (tick_notifies rows r.moment.0 r.step asking) s n
 
 -- what is known is known with a row of a tick
 tick_step : (rows : List Row) (r : Row) (starved : Bool) → Before rows → CarriesAll rows → r.step.kind ≡ step.Tick → r.sent ≡ (tick_effects starved rows r.moment.0 r.step).sent

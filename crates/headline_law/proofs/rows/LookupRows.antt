@@ -24,12 +24,12 @@ use Rattle.journal_model.specs.Headline.{Placed, former_of_body, former_of_kept,
 use Rattle.journal_model.proofs.EntriesNoted.{entries_in}
 use Rattle.headline_law.proofs.entries.QuietSteps.{lookup_effects-entries_in}
 use Rattle.message_model.proofs.ReadingLaws.{header_read}
-use Rattle.headline_law.proofs.sends.BodyAnswers.{Bears, tag-length, bears_carries}
+use Rattle.headline_law.proofs.sends.BodyAnswers.{wanted_by, asking, Bears, tag-length, bears_carries}
 use Rattle.headline_law.proofs.sends.LookupSends.{IsAnswerOf, AreListings, AreBodiesOf, names_earlier_row, LookupOutcome, now, kept, lookup_outcome}
 use Rattle.journal_model.proofs.EventRows.{AllRows, row_of, row_within, said_by}
 use Rattle.headline_law.proofs.notes.LookupNotes.{asks_once, lookup_fits, KeptAt, NotesAsAsked, lookup_notes_as_asked}
 use Rattle.headline_law.proofs.flights.CarriedListings.{Carried}
-use Rattle.headline_law.proofs.rows.RowCarries.{KeptAsFormed, NoteAsFormed, RowCarries, heard_former, heard_query, query_read-own, lookup_no_discovery, heard_forms_itself, now_carried, own_notes_as_formed}
+use Rattle.headline_law.proofs.rows.RowCarries.{KeptAsFormed, NoteAsFormed, RowCarries, heard_former, heard_asked, asked_in-own, lookup_no_discovery, heard_forms_itself, now_carried, own_notes_as_formed}
 use Rattle.rd_base.proofs.lemmas.Among.{all_among}
 use Rattle.headline_law.proofs.entries.JournalLaws.{entries-none_noted, entries-IsPrefix-row}
 use Rattle.rd_base.proofs.lemmas.Each.{each_weaker}
@@ -83,25 +83,25 @@ kept_from rows moment name answer all e =
 
 -- one that reads a kept answer
 used_carried : (rows : List Row) (r : Row) (m : Message) (answer : Answer) → is_heard r.step.kind ≡ true → reading r.step.datagram ≡ Ok m → is_lookup (path_in m) ≡ true
-    → r.notes ≡ note.Used r.step.peer (key_in m) ∷ [] → KeptFrom rows (r.step.peer, key_in m) answer → AreBodiesOf r.step.peer m.token answer.body answer.tag r.sent → AllByRecursion (Carried (record { row = r; before = rows })) r.sent
+    → r.notes ≡ note.Used r.step.peer (key_in m) ∷ [] → KeptFrom rows (r.step.peer, key_in m) answer → AreBodiesOf r.step.peer (wanted_by m) answer.body answer.tag r.sent → AllByRecursion (Carried (record { row = r; before = rows })) r.sent
 used_carried rows r m answer heard read lookup notes from all =
-    each_weaker (IsAnswerOf r.step.peer m.token answer.body answer.tag) (Carried (record { row = r; before = rows })) one r.sent all
+    each_weaker (IsAnswerOf r.step.peer (wanted_by m) answer.body answer.tag) (Carried (record { row = r; before = rows })) one r.sent all
   where
     same_query : from.is_kept.query ≡ query_of m
     same_query = asks_once (key_in m) from.is_kept.query m from.is_kept.asks (lookup_fits (path_in m) lookup) refl
 
-    one : (d : Peer × List ℕ) → IsAnswerOf r.step.peer m.token answer.body answer.tag d → Carried (record { row = r; before = rows }) d
+    one : (d : Peer × List ℕ) → IsAnswerOf r.step.peer (wanted_by m) answer.body answer.tag d → Carried (record { row = r; before = rows }) d
     one d body n e listed _ = record {
       former = from.former;
       formed = heard_former r.step.kind d.0 n.mid (record { row = r; before = rows }) heard
           ∙ (ap (λ ns. former_noted d.0 n.mid ns (record { row = r; before = rows })) notes ∙ from.formed);
-      query = query_of m;
-      asked = heard_query r.step.kind (d.0, n.token) (record { row = r; before = rows }) heard ∙ query_read-own r.step.peer m (d.0, n.token) (reading r.step.datagram) read body.0 (body.1 n e listed).token_is;
+      asked = asking (wanted_by m) (query_of m);
+      asks = heard_asked r.step.kind (d.0, n.token) (record { row = r; before = rows }) heard ∙ asked_in-own r.step.peer m (d.0, n.token) (reading r.step.datagram) read body.0 (body.1 n e listed).token_is;
       holds_seen = entries-IsPrefix-row from.former.before from.former.row;
-      carries = subst (λ q. Carries n q (entries (from.former.row ∷ from.former.before)) from.former.row.moment.0) same_query
-          (bears_carries m.token from.is_kept.query (entries (from.former.row ∷ from.former.before)) from.former.row.moment.0 n
-          (subst (λ t. Bears m.token (listing from.is_kept.query (entries (from.former.row ∷ from.former.before)) from.former.row.moment.0) t n) from.is_kept.tag_is
-          (subst (λ b. Bears m.token b answer.tag n) from.is_kept.body_is (body.1 n e listed))));
+      carries = subst (λ q. Carries n (asking (wanted_by m) q) (entries (from.former.row ∷ from.former.before)) from.former.row.moment.0) same_query
+          (bears_carries (wanted_by m) from.is_kept.query (entries (from.former.row ∷ from.former.before)) from.former.row.moment.0 n
+          (subst (λ t. Bears (wanted_by m) (listing from.is_kept.query (entries (from.former.row ∷ from.former.before)) from.former.row.moment.0) t n) from.is_kept.tag_is
+          (subst (λ b. Bears (wanted_by m) b answer.tag n) from.is_kept.body_is (body.1 n e listed))));
     }
 
 -- any row of a lookup
@@ -123,5 +123,5 @@ lookup_row rows r m all heard read lookup sent notes = record {
     by (kept answer found used bodies) =
         let from = kept_from rows r.moment.0 (r.step.peer, key_in m) answer all found in
         used_carried rows r m answer heard read lookup (notes ∙ used) from
-        (subst (AreBodiesOf r.step.peer m.token answer.body answer.tag) (sym sent)
+        (subst (AreBodiesOf r.step.peer (wanted_by m) answer.body answer.tag) (sym sent)
         (bodies (ap length from.is_kept.tag_is ∙ tag-length (entries (from.former.row ∷ from.former.before)) from.former.row.moment.0)))

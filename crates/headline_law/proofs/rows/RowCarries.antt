@@ -21,11 +21,11 @@ use Rattle.journal_model.specs.Journal.{entries}
 use Rattle.journal_model.specs.Requests.{query_of, is_lookup, is_discovery}
 use Rattle.journal_model.specs.Looks.{look_effects}
 use Rattle.journal_model.specs.Meantime.{is_heard}
-use Rattle.journal_model.specs.Headline.{Placed, former_of_body, former_noted, former_at, query_read, query_answered, names_lookup, answers_lookup}
+use Rattle.journal_model.specs.Headline.{Placed, former_of_body, former_noted, former_at, asked_in, asked_at, names_lookup, answers_lookup}
 use Rattle.journal_model.proofs.EntriesNoted.{entries_in}
 use Rattle.journal_model.proofs.StepNotes.{look_effects-notes}
 use Rattle.message_model.proofs.ReadingLaws.{header_read}
-use Rattle.headline_law.proofs.sends.BodyAnswers.{Bears, IsUntagged, other_code, bears_carries}
+use Rattle.headline_law.proofs.sends.BodyAnswers.{wanted_by, asking, Bears, IsUntagged, other_code, bears_carries}
 use Rattle.headline_law.proofs.sends.PlainSteps.{ArePlain, IsPlain}
 use Rattle.headline_law.proofs.sends.LookupSends.{IsAnswerOf, AreListings, look_lists, look_discovers, names_earlier_row}
 use Rattle.headline_law.proofs.notes.LookupNotes.{IsAsking, KeptAt, NoteAsAsked, NotesAsAsked}
@@ -80,19 +80,19 @@ heard_former (step.Commit place) peer mid here h = absurd (false≢true h)
 heard_former (step.Keep body current) peer mid here h = absurd (false≢true h)
 heard_former step.Tick peer mid here h = absurd (false≢true h)
 
--- the query is that of the request
-pub heard_query : (k : StepKind) (name : RequestName) (here : Placed) → is_heard k ≡ true → query_answered k name here ≡ query_read name here.row.step.peer (reading here.row.step.datagram)
-heard_query step.Admit name here h = refl
-heard_query step.Look name here h = refl
-heard_query (step.Commit place) name here h = absurd (false≢true h)
-heard_query (step.Keep body current) name here h = absurd (false≢true h)
-heard_query step.Tick name here h = absurd (false≢true h)
+-- what is asked for is what the request asks for
+pub heard_asked : (k : StepKind) (name : RequestName) (here : Placed) → is_heard k ≡ true → asked_at k name here ≡ asked_in name here.row.step.peer (reading here.row.step.datagram)
+heard_asked step.Admit name here h = refl
+heard_asked step.Look name here h = refl
+heard_asked (step.Commit place) name here h = absurd (false≢true h)
+heard_asked (step.Keep body current) name here h = absurd (false≢true h)
+heard_asked step.Tick name here h = absurd (false≢true h)
 
 -- where the answer has its peer and its token
-pub query_read-own : (peer : Peer) (m : Message) (name : RequestName) (read : Result Message Unread) → read ≡ Ok m → name.0 ≡ peer → name.1 ≡ m.token → query_read name peer read ≡ Some (query_of m)
-query_read-own peer m name read is same_peer same_token =
-    ap (query_read name peer) is
-    ∙ subst (λ (x : RequestName). query_read x peer (Ok m) ≡ Some (query_of m)) (ap₂ (λ p t. (p, t)) (sym same_peer) (sym same_token)) (rw (is_same_request-refl (peer, m.token)) refl)
+pub asked_in-own : (peer : Peer) (m : Message) (name : RequestName) (read : Result Message Unread) → read ≡ Ok m → name.0 ≡ peer → name.1 ≡ m.token → asked_in name peer read ≡ Some (asking (wanted_by m) (query_of m))
+asked_in-own peer m name read is same_peer same_token =
+    ap (asked_in name peer) is
+    ∙ subst (λ (x : RequestName). asked_in x peer (Ok m) ≡ Some (asking (wanted_by m) (query_of m))) (ap₂ (λ p t. (p, t)) (sym same_peer) (sym same_token)) (rw (is_same_request-refl (peer, m.token)) refl)
 
 -- and what such a row keeps, it formed itself
 pub heard_forms_itself : (k : StepKind) (here : Placed) → is_heard k ≡ true → former_of_body k here ≡ Some here
@@ -117,16 +117,16 @@ noted_now peer mid (n ∷ notes) here none =
 pub now_carried : (rows : List Row) (r : Row) (m : Message) → is_heard r.step.kind ≡ true → reading r.step.datagram ≡ Ok m → entries (r ∷ rows) ≡ entries rows → list_any names_earlier_row r.notes ≡ false
     → AreListings r.step.peer m (entries rows) r.moment.0 r.sent → AllByRecursion (Carried (record { row = r; before = rows })) r.sent
 now_carried rows r m hears read same_entries none all =
-    each_weaker (IsAnswerOf r.step.peer m.token (listing (query_of m) (entries rows) r.moment.0) (tag (entries rows) r.moment.0)) (Carried (record { row = r; before = rows })) one r.sent all
+    each_weaker (IsAnswerOf r.step.peer (wanted_by m) (listing (query_of m) (entries rows) r.moment.0) (tag (entries rows) r.moment.0)) (Carried (record { row = r; before = rows })) one r.sent all
   where
-    one : (d : Peer × List ℕ) → IsAnswerOf r.step.peer m.token (listing (query_of m) (entries rows) r.moment.0) (tag (entries rows) r.moment.0) d → Carried (record { row = r; before = rows }) d
+    one : (d : Peer × List ℕ) → IsAnswerOf r.step.peer (wanted_by m) (listing (query_of m) (entries rows) r.moment.0) (tag (entries rows) r.moment.0) d → Carried (record { row = r; before = rows }) d
     one d body n e listed _ = record {
       former = record { row = r; before = rows };
       formed = heard_former r.step.kind d.0 n.mid (record { row = r; before = rows }) hears ∙ noted_now d.0 n.mid r.notes (record { row = r; before = rows }) none;
-      query = query_of m;
-      asked = heard_query r.step.kind (d.0, n.token) (record { row = r; before = rows }) hears ∙ query_read-own r.step.peer m (d.0, n.token) (reading r.step.datagram) read body.0 (body.1 n e listed).token_is;
-      carries = bears_carries m.token (query_of m) (entries (r ∷ rows)) r.moment.0 n
-          (subst (λ history. Bears m.token (listing (query_of m) history r.moment.0) (tag history r.moment.0) n) (sym same_entries) (body.1 n e listed));
+      asked = asking (wanted_by m) (query_of m);
+      asks = heard_asked r.step.kind (d.0, n.token) (record { row = r; before = rows }) hears ∙ asked_in-own r.step.peer m (d.0, n.token) (reading r.step.datagram) read body.0 (body.1 n e listed).token_is;
+      carries = bears_carries (wanted_by m) (query_of m) (entries (r ∷ rows)) r.moment.0 n
+          (subst (λ history. Bears (wanted_by m) (listing (query_of m) history r.moment.0) (tag history r.moment.0) n) (sym same_entries) (body.1 n e listed));
       holds_seen = entries-IsPrefix-row rows r;
     }
 

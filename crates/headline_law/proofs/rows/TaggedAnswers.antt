@@ -1,5 +1,5 @@
 -- Equal tags that are read in two answers to equal queries mean blocks of one listing.
-use Rattle.std.proofs.Common.{◌≡◌, ℕ, ◌&&◌, ◌==◌, Bool, true, false, cond, List, [], ◌∷◌, ◌++◌, Option, Some, None, option_and_then, refl, sym, ap, subst, ◌∙◌, append_assoc}
+use Rattle.std.proofs.Common.{◌≡◌, ℕ, ◌&&◌, ◌==◌, Bool, true, false, cond, List, [], ◌∷◌, ◌++◌, Option, Some, None, option_map, option_and_then, refl, sym, ap, subst, ◌∙◌, append_assoc}
 use Rattle.std.specs.Prelude.{is_some}
 use Rattle.std.specs.List.{list_any}
 use Rattle.std.proofs.lemmas.Option.{same_Some}
@@ -17,7 +17,8 @@ use Rattle.journal_model.specs.declared.steps.StepKind.TheVariants as step
 use Rattle.journal_model.specs.declared.rows.Row.{Row}
 use Rattle.journal_model.specs.Journal.{entries}
 use Rattle.journal_model.specs.Machine.{IsJournal}
-use Rattle.journal_model.specs.Headline.{Within, Placed, last_row, former_of_body, former_of_kept, former_of_notice, former_noted, former_at, FormedAs, CarriesBlock, Sent, is_listing, query_of_sent, AreBlocksOfOne, TagsDecideStates}
+use Rattle.journal_model.specs.Requests.{asked_block}
+use Rattle.journal_model.specs.Headline.{Within, Placed, last_row, former_of_body, former_of_kept, former_of_notice, former_noted, former_at, FormedAs, Asked, IsBlockOf, Sent, is_listing, query_of_sent, AreBlocksOfOne, TagsDecideStates}
 use Rattle.headline_law.proofs.entries.TagStates.{tags_tell}
 use Rattle.headline_law.proofs.rows.AnswersAsFormed.{answer_formed}
 
@@ -96,9 +97,9 @@ stands_former step.Tick peer mid here p e = stands_noted peer mid here.row.notes
 answers_share : (rows : List Row) → IsJournal rows → (one other : Sent rows) → is_listing one ≡ true → is_listing other ≡ true → etags_in one.message ≡ etags_in other.message → query_of_sent one ≡ query_of_sent other
     → AreBlocksOfOne one.message other.message
 answers_share rows journal one other listed also same_tags same_queries = record {
-  body = listing f.query (entries (f.former.row ∷ f.former.before)) f.former.row.moment.0;
-  first = f.carries.block;
-  second = subst (λ body. CarriesBlock other.message body) (sym same_listings) g.carries.block;
+  body = listing f.asked.query (entries (f.former.row ∷ f.former.before)) f.former.row.moment.0;
+  first = f.carries.block.block;
+  second = subst (λ body. IsBlockOf (asked_block other.message) body other.message.payload) (sym same_listings) g.carries.block.block;
 }
   where
     f : FormedAs one.here one.peer one.message
@@ -120,12 +121,12 @@ answers_share rows journal one other listed also same_tags same_queries = record
     same_tag : tag (entries (f.former.row ∷ f.former.before)) f.former.row.moment.0 ≡ tag (entries (g.former.row ∷ g.former.before)) g.former.row.moment.0
     same_tag = ap first_of (sym f.carries.tag ∙ (same_tags ∙ g.carries.tag))
 
-    same_query : f.query ≡ g.query
-    same_query = same_Some f.query g.query (sym f.asked ∙ (same_queries ∙ g.asked))
+    same_query : f.asked.query ≡ g.asked.query
+    same_query = same_Some f.asked.query g.asked.query (sym (ap (option_map (λ (a : Asked). a.query)) f.asks) ∙ (same_queries ∙ ap (option_map (λ (a : Asked). a.query)) g.asks))
 
-    same_listings : listing f.query (entries (f.former.row ∷ f.former.before)) f.former.row.moment.0 ≡ listing g.query (entries (g.former.row ∷ g.former.before)) g.former.row.moment.0
+    same_listings : listing f.asked.query (entries (f.former.row ∷ f.former.before)) f.former.row.moment.0 ≡ listing g.asked.query (entries (g.former.row ∷ g.former.before)) g.former.row.moment.0
     same_listings =
-        listing-live f.query (entries (f.former.row ∷ f.former.before)) (entries (g.former.row ∷ g.former.before)) f.former.row.moment.0 g.former.row.moment.0
+        listing-live f.asked.query (entries (f.former.row ∷ f.former.before)) (entries (g.former.row ∷ g.former.before)) f.former.row.moment.0 g.former.row.moment.0
         (tags_tell rows f.former.before g.former.before f.former.row g.former.row journal here there same_tag).1
         ∙ ap (λ (q : Query). listing q (entries (g.former.row ∷ g.former.before)) g.former.row.moment.0) same_query
 

@@ -19,7 +19,7 @@ use Rattle.journal_model.specs.Journal.{events, entries, row_at}
 use Rattle.journal_model.specs.Effects.{Effects}
 use Rattle.journal_model.specs.Headline.{former_noted}
 use Rattle.journal_model.proofs.NoteKinds.{of_resent, are, none_of}
-use Rattle.headline_law.proofs.sends.BodyAnswers.{IsBodyOf, other_code}
+use Rattle.headline_law.proofs.sends.BodyAnswers.{wanted_by_observer, IsBodyOf, other_code}
 use Rattle.headline_law.proofs.sends.PlainSteps.{IsPlain, ArePlain}
 use Rattle.headline_law.proofs.sends.TickSends.{FoundSent, sent_by-FoundSent, mid_of_confirmable}
 use Rattle.rd_base.proofs.lemmas.Among.{all_among}
@@ -68,7 +68,7 @@ again_carried rows r t d a m e listed _ =
 
     To : Peer × List ℕ → Type 0
     To x = is_same_peer x.0 a.observer.peer ≡ true
-        → IsBodyOf a.observer.token (listing a.observer.query (entries (notice.placed.row ∷ notice.placed.before)) notice.placed.row.moment.0) (tag (entries (notice.placed.row ∷ notice.placed.before)) notice.placed.row.moment.0) x.1
+        → IsBodyOf (wanted_by_observer a.observer) (listing a.observer.query (entries (notice.placed.row ∷ notice.placed.before)) notice.placed.row.moment.0) (tag (entries (notice.placed.row ∷ notice.placed.before)) notice.placed.row.moment.0) x.1
 
     found : FoundSent To a.observer.peer a.flight_is.mid d
     found = sent_by-FoundSent To (row_at a.flight_is.formed.place rows) a.observer.peer a.flight_is.mid d
@@ -82,8 +82,8 @@ again_carried rows r t d a m e listed _ =
 
 -- the listing of a row that notes no entry
 pub as_row : (rows : List Row) (r : Row) (o : Observer) (octets : List ℕ) → entries (r ∷ rows) ≡ entries rows → IsNoticeOf rows r.moment.0 o octets
-    → IsBodyOf o.token (listing o.query (entries (r ∷ rows)) r.moment.0) (tag (entries (r ∷ rows)) r.moment.0) octets
-as_row rows r o octets same_entries h = subst (λ history. IsBodyOf o.token (listing o.query history r.moment.0) (tag history r.moment.0) octets) (sym same_entries) h
+    → IsBodyOf (wanted_by_observer o) (listing o.query (entries (r ∷ rows)) r.moment.0) (tag (entries (r ∷ rows)) r.moment.0) octets
+as_row rows r o octets same_entries h = subst (λ history. IsBodyOf (wanted_by_observer o) (listing o.query history r.moment.0) (tag history r.moment.0) octets) (sym same_entries) h
 
 -- a new notice
 fresh_carried : (rows : List Row) (r : Row) → (t : TickRow rows r) → (d : Peer × List ℕ) → FreshSent rows r.moment.0 r.step.word d → Carried (record { row = r; before = rows }) d

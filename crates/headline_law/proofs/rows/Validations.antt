@@ -1,5 +1,5 @@
 -- 2.03 is sent by a look alone, to whom asked, and it carries the tag of its own row and nothing else.
-use Rattle.std.proofs.Common.{◌≡◌, ℕ, ◌≤◌, ◌==◌, Bool, true, false, List, [], ◌∷◌, length, Option, Some, None, Result, Ok, Err, refl, sym, ap, subst, ◌∙◌, arith}
+use Rattle.std.proofs.Common.{◌≡◌, ℕ, ◌≤◌, ◌==◌, Bool, true, false, List, [], ◌∷◌, length, Some, None, Result, Ok, refl, sym, ap, subst, ◌∙◌, arith}
 use Rattle.std.specs.List.{AllByRecursion}
 use Rattle.std.proofs.lemmas.Bool.{false≢true, and_parts}
 use Rattle.std.specs.Prelude.{is_none}
@@ -9,7 +9,7 @@ use Rattle.message_model.specs.Message.{Message, longest_token}
 use Rattle.message_model.specs.Codes as codes_of
 use Rattle.message_model.specs.OptionTable as table
 use Rattle.message_model.specs.Reading.{reading}
-use Rattle.message_model.specs.Request.{path_in, etags_in}
+use Rattle.message_model.specs.Request.{path_in}
 use Rattle.message_model.specs.Spelling.{spelling, header_spelling}
 use Rattle.message_model.proofs.MessageLaws.{reading_in_order}
 use Rattle.message_model.proofs.ReadingLaws.{header_read}
@@ -27,18 +27,18 @@ use Rattle.journal_model.specs.Bodies.{is_long}
 use Rattle.journal_model.specs.Effects.{answering}
 use Rattle.journal_model.specs.Looks.{names_tag, still_valid, unless_held, unless_valid, looked_at, look_effects}
 use Rattle.journal_model.specs.Rows.{looked, without_memory, effects, row_moment, row}
-use Rattle.journal_model.specs.Machine.{is_look_reading, MayMake, IsJournal}
-use Rattle.journal_model.specs.Headline.{looks_with_tag, Placed, query_answered, Sent, Validates}
+use Rattle.journal_model.specs.Machine.{MayMake, IsJournal}
+use Rattle.journal_model.specs.Headline.{looks_with_tag, asked_at, Sent, Validates}
 use Rattle.journal_model.proofs.EventRows.{row_within}
 use Rattle.rd_base.proofs.lemmas.Among.{all_at_index}
 use Rattle.rd_base.proofs.lemmas.Each.{each_weaker}
 use Rattle.headline_law.proofs.entries.JournalLaws.{Made, each_row}
-use Rattle.headline_law.proofs.sends.BodyAnswers.{code_read, same_message, tag-length}
+use Rattle.headline_law.proofs.sends.BodyAnswers.{wanted_by, asking, code_read, same_message, tag-length}
 use Rattle.headline_law.proofs.sends.PlainSteps.{starved_plain}
 use Rattle.headline_law.proofs.sends.TickSends.{plain_not_valid}
-use Rattle.headline_law.proofs.sends.ValidSends.{NotValid, NoneValid, body_code, looks_either}
+use Rattle.headline_law.proofs.sends.ValidSends.{NotValid, body_code, looks_either}
 use Rattle.headline_law.proofs.sends.ValidLaw.{RowSends, journal_sends, looked_a_look, LooksAt, a_look_reads}
-use Rattle.headline_law.proofs.rows.RowCarries.{query_read-own}
+use Rattle.headline_law.proofs.rows.RowCarries.{asked_in-own}
 
 -- a datagram to a peer and a token: where it is read to be 2.03, it carries this tag and nothing else, and the request named the tag
 pub record IsValidation (s : Step) (m : Message) (current : List ℕ) (d : Peer × List ℕ) (n : Message) : Type 0 where
@@ -74,8 +74,11 @@ look_validates history moment s m small = by (is_discovery (path_in m)) refl
         (record { class = refl; token = small; options = (omega arith, omega arith, (let h = tag-length history moment in omega (arith, h)), tt); empty = λ none. absurd (omega arith) })) e
 
     valid : (b : Bool) → is_discovery (path_in m) ≡ false → names_tag (tag history moment) m ≡ b → AllByRecursion (ValidatesAt s m (tag history moment)) (unless_valid b s m (tag history moment) body).sent
-    valid true lists names = ((λ n e is. subst (λ (x : Message). IsValidation s m (tag history moment) (s.peer, spelling (answer s m (still_valid (tag history moment)))) x) (same n e)
-        (record { peer_is = refl; token_is = refl; lists = lists; named = names; options = refl; payload = refl })), tt)
+    valid true lists names = (
+      (λ n e is. subst (λ (x : Message). IsValidation s m (tag history moment) (s.peer, spelling (answer s m (still_valid (tag history moment)))) x) (same n e)
+          (record { peer_is = refl; token_is = refl; lists = lists; named = names; options = refl; payload = refl })),
+      tt,
+    )
     valid false lists names = held (is_long (asked_block m) body)
 
     by : (b : Bool) → is_discovery (path_in m) ≡ b → AllByRecursion (ValidatesAt s m (tag history moment)) (looked_at b history moment s m).sent
@@ -111,9 +114,9 @@ row_validates rows s starved may is =
         record {
           looks = ap is_look is;
           named = ap (looks_with_tag current) it.read_is ∙ rw (it.looks, lookup v.lists, v.named) refl;
-          query = query_of m;
-          asked = ap (λ k. query_answered k (d.0, n.token) (record { row = row rows s starved; before = rows })) is
-              ∙ query_read-own s.peer m (d.0, n.token) (reading s.datagram) it.read_is v.peer_is v.token_is;
+          asked = asking (wanted_by m) (query_of m);
+          asks = ap (λ k. asked_at k (d.0, n.token) (record { row = row rows s starved; before = rows })) is
+              ∙ asked_in-own s.peer m (d.0, n.token) (reading s.datagram) it.read_is v.peer_is v.token_is;
           options = v.options;
           payload = v.payload;
         }

@@ -23,20 +23,20 @@ use Rattle.journal_model.specs.Bodies.{is_long}
 use Rattle.journal_model.specs.Requests.{query_of, asked_block, number_of, szx_of, is_discovery, is_later_block, register, deregister}
 use Rattle.journal_model.specs.Looks.{names_tag, unless_held, unless_valid, look_effects, keep_effects}
 use Rattle.journal_model.specs.Lookups.{listing_now, block_now, block_of_kept, later_block, removal, without, keeping, observed_if, observed, unobserved, observation_effects, first_block_effects, block_effects, lookup_effects}
-use Rattle.headline_law.proofs.sends.BodyAnswers.{IsBodyOf, IsUntagged, other_code, none_of_any, tag-length, part_bears, body_bears, body_untagged}
+use Rattle.headline_law.proofs.sends.BodyAnswers.{Wanted, wanted_by, request-usable, IsBodyOf, IsUntagged, other_code, none_of_any, tag-length, part_bears, body_bears, body_untagged}
 use Rattle.journal_model.proofs.StepNotes.{look_effects-notes}
 
--- a datagram goes to a peer, and each 2.05 is of this body under this tag, to this token
-abbrev pub IsAnswerOf : Peer → List ℕ → List ℕ → List ℕ → Peer × List ℕ → Type 0
-IsAnswerOf peer token body tag d = (d.0 ≡ peer) × IsBodyOf token body tag d.1
+-- a datagram goes to a peer, and each 2.05 has the block of this body that is wanted, under this tag
+abbrev pub IsAnswerOf : Peer → Wanted → List ℕ → List ℕ → Peer × List ℕ → Type 0
+IsAnswerOf peer wanted body tag d = (d.0 ≡ peer) × IsBodyOf wanted body tag d.1
 
 -- so is all that is sent
-abbrev pub AreBodiesOf : Peer → List ℕ → List ℕ → List ℕ → List (Peer × List ℕ) → Type 0
-AreBodiesOf peer token body tag sent = AllByRecursion (IsAnswerOf peer token body tag) sent
+abbrev pub AreBodiesOf : Peer → Wanted → List ℕ → List ℕ → List (Peer × List ℕ) → Type 0
+AreBodiesOf peer wanted body tag sent = AllByRecursion (IsAnswerOf peer wanted body tag) sent
 
 -- the listing of a request of a peer, from a history at a moment
 abbrev pub AreListings : Peer → Message → List Entry → ℕ → List (Peer × List ℕ) → Type 0
-AreListings peer m history moment sent = AreBodiesOf peer m.token (listing (query_of m) history moment) (tag history moment) sent
+AreListings peer m history moment sent = AreBodiesOf peer (wanted_by m) (listing (query_of m) history moment) (tag history moment) sent
 
 -- a look
 pub look_lists : (history : List Entry) (moment : ℕ) (s : Step) (m : Message) → length m.token ≤ longest_token → is_discovery (path_in m) ≡ false → AreListings s.peer m history moment (look_effects history moment s m).sent
@@ -45,10 +45,10 @@ look_lists history moment s m small lists = rw lists (valid (names_tag (tag hist
   where
     held : (b : Bool) → AreListings s.peer m history moment (unless_held b s m (tag history moment) (listing (query_of m) history moment)).sent
     held true = tt
-    held false = ((refl, body_bears (answer_kind m.kind) (answer_mid s m m.kind) m.token (tag history moment) None (asked_block m) (listing (query_of m) history moment) small (tag-length history moment)), tt)
+    held false = ((refl, body_bears (answer_kind m.kind) (answer_mid s m m.kind) m.token (tag history moment) None (asked_block m) (listing (query_of m) history moment) small (tag-length history moment) (request-usable m)), tt)
 
     valid : (b : Bool) → AreListings s.peer m history moment (unless_valid b s m (tag history moment) (listing (query_of m) history moment)).sent
-    valid true = ((refl, none_of_any m.token (listing (query_of m) history moment) (tag history moment) _ (other_code _ refl)), tt)
+    valid true = ((refl, none_of_any (wanted_by m) (listing (query_of m) history moment) (tag history moment) _ (other_code _ refl)), tt)
     valid false = held (is_long (asked_block m) (listing (query_of m) history moment))
 
 -- a look that discovers sends no tag
@@ -59,9 +59,9 @@ look_discovers history moment s m small discovers =
     rw discovers (body_untagged (answer_kind m.kind) (answer_mid s m m.kind) m.token None (asked_block m) (discovery (query_of m)) small, tt)
 
 -- a keep
-pub keep_bears : (s : Step) (m : Message) (body tag : List ℕ) → length m.token ≤ longest_token → length tag ≡ 8 → AreBodiesOf s.peer m.token body tag (keep_effects s m body tag).sent
+pub keep_bears : (s : Step) (m : Message) (body tag : List ℕ) → length m.token ≤ longest_token → length tag ≡ 8 → AreBodiesOf s.peer (wanted_by m) body tag (keep_effects s m body tag).sent
 unfolding keep_effects answering
-keep_bears s m body tag small short = ((refl, body_bears (answer_kind m.kind) (answer_mid s m m.kind) m.token tag None (asked_block m) body small short), tt)
+keep_bears s m body tag small short = ((refl, body_bears (answer_kind m.kind) (answer_mid s m m.kind) m.token tag None (asked_block m) body small short (request-usable m)), tt)
 
 -- the note names an earlier row: what was formed there is sent now
 abbrev pub names_earlier_row : Note → Bool
@@ -73,7 +73,7 @@ names_earlier_row _ = false
 pub data LookupOutcome (rows : List Row) (moment : ℕ) (s : Step) (m : Message) (e : Effects) : Type 0 where
   now : list_any names_earlier_row e.notes ≡ false → AreListings s.peer m (entries rows) moment e.sent → LookupOutcome rows moment s m e
   kept : (answer : Answer) → kept_answer moment (s.peer, key_in m) (events rows) ≡ Some answer → e.notes ≡ note.Used s.peer (key_in m) ∷ []
-      → (length answer.tag ≡ 8 → AreBodiesOf s.peer m.token answer.body answer.tag e.sent) → LookupOutcome rows moment s m e
+      → (length answer.tag ≡ 8 → AreBodiesOf s.peer (wanted_by m) answer.body answer.tag e.sent) → LookupOutcome rows moment s m e
 
 -- so it is of each lookup that the journal takes part in
 pub lookup_outcome : (rows : List Row) (moment : ℕ) (s : Step) (m : Message) → length m.token ≤ longest_token → is_discovery (path_in m) ≡ false → LookupOutcome rows moment s m (lookup_effects rows moment s m)
@@ -83,12 +83,12 @@ lookup_outcome rows moment s m small lists = by (is_later_block m)
     now_block : (part : Option (List ℕ × Bool)) → block_of (listing (query_of m) (entries rows) moment) (number_of (asked_block m)) (szx_of (asked_block m)) ≡ part
         → LookupOutcome rows moment s m (block_now s m (listing_now rows moment m) part)
     now_block None cut = now refl
-        ((refl, part_bears (answer_kind m.kind) (answer_mid s m m.kind) m.token (tag (entries rows) moment) None (asked_block m) (listing (query_of m) (entries rows) moment) _ _ None small (tag-length (entries rows) moment) cut), tt)
+        ((refl, part_bears (answer_kind m.kind) (answer_mid s m m.kind) (tag (entries rows) moment) None (asked_block m) m.token (listing (query_of m) (entries rows) moment) None small (tag-length (entries rows) moment) (request-usable m) cut), tt)
     now_block (Some part) cut = now refl
-        ((refl, part_bears (answer_kind m.kind) (answer_mid s m m.kind) m.token (tag (entries rows) moment) None (asked_block m) (listing (query_of m) (entries rows) moment) _ _ (Some part) small (tag-length (entries rows) moment) cut), tt)
+        ((refl, part_bears (answer_kind m.kind) (answer_mid s m m.kind) (tag (entries rows) moment) None (asked_block m) m.token (listing (query_of m) (entries rows) moment) (Some part) small (tag-length (entries rows) moment) (request-usable m) cut), tt)
 
     later : (found : Option Answer) → kept_answer moment (s.peer, key_in m) (events rows) ≡ found → LookupOutcome rows moment s m (block_of_kept s m (listing_now rows moment m) found)
-    later (Some answer) e = kept answer e refl (λ short. ((refl, body_bears (answer_kind m.kind) (answer_mid s m m.kind) m.token answer.tag None (asked_block m) answer.body small short), tt))
+    later (Some answer) e = kept answer e refl (λ short. ((refl, body_bears (answer_kind m.kind) (answer_mid s m m.kind) m.token answer.tag None (asked_block m) answer.body small short (request-usable m)), tt))
     later None e = now_block (block_of (listing (query_of m) (entries rows) moment) (number_of (asked_block m)) (szx_of (asked_block m))) refl
 
     removed : (b : Bool) (peer : Peer) (token : List ℕ) → list_any names_earlier_row (cond b (note.Unwatched peer token ∷ []) []) ≡ false
@@ -108,10 +108,10 @@ lookup_outcome rows moment s m small lists = by (is_later_block m)
     added : (b : Bool) → LookupOutcome rows moment s m (observed_if b rows s m (listing_now rows moment m))
     added true = now
         (list_any-append names_earlier_row (removal (s.peer, m.token) (observers (events rows))) _ ∙ rw (ends, keeping_now) refl)
-        ((refl, body_bears (answer_kind m.kind) (answer_mid s m m.kind) m.token (tag (entries rows) moment) (Some (observe_value (events rows))) (asked_block m) (listing (query_of m) (entries rows) moment) small (tag-length (entries rows) moment)), tt)
+        ((refl, body_bears (answer_kind m.kind) (answer_mid s m m.kind) m.token (tag (entries rows) moment) (Some (observe_value (events rows))) (asked_block m) (listing (query_of m) (entries rows) moment) small (tag-length (entries rows) moment) (request-usable m)), tt)
     added false = now
         (list_any-append names_earlier_row (removal (s.peer, m.token) (observers (events rows))) _ ∙ rw (ends, keeping_now) refl)
-        ((refl, body_bears (answer_kind m.kind) (answer_mid s m m.kind) m.token (tag (entries rows) moment) None (asked_block m) (listing (query_of m) (entries rows) moment) small (tag-length (entries rows) moment)), tt)
+        ((refl, body_bears (answer_kind m.kind) (answer_mid s m m.kind) m.token (tag (entries rows) moment) None (asked_block m) (listing (query_of m) (entries rows) moment) small (tag-length (entries rows) moment) (request-usable m)), tt)
 
     only_looked : LookupOutcome rows moment s m (look_effects (entries rows) moment s m)
     only_looked = now (ap (list_any names_earlier_row) (look_effects-notes (entries rows) moment s m)) (look_lists (entries rows) moment s m small lists)
