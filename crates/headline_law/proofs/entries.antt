@@ -6,6 +6,8 @@ pub mod ResponseEntries
 pub mod EntryOrigins
 pub mod TagStates
 pub mod CommitLaws
+pub mod CommitPlaces
 pub mod Admissions
+pub mod Failures
 pub mod FailedLaws
 pub mod HoldsEachOnce

@@ -19,11 +19,12 @@ use Rattle.event_model.specs.declared.notes.Note.{Note}
 use Rattle.event_model.specs.declared.notes.Note.TheVariants as note
 use Rattle.event_model.specs.declared.notes.Observer.{Observer}
 use Rattle.event_model.specs.Same.{RequestName, is_same_peer, is_same_request}
-use Rattle.event_model.specs.Events.{exchange_lifetime, has_event}
+use Rattle.event_model.specs.Events.{exchange_lifetime}
 use Rattle.event_model.specs.Repeats.{is_admission_of, is_failure_of}
 use Rattle.event_model.specs.KeptAnswers.{answer_kept}
 use Rattle.event_model.specs.Observers.{name_of, observers, last_body_formed}
 use Rattle.event_model.specs.Due.{is_due}
+use Rattle.journal_model.specs.declared.steps.Step.{Step}
 use Rattle.journal_model.specs.declared.steps.StepKind.{StepKind}
 use Rattle.journal_model.specs.declared.steps.StepKind.TheVariants as step
 use Rattle.journal_model.specs.declared.rows.Row.{Row}
@@ -77,10 +78,34 @@ is_code_of_change code of_location = code == codes_of.created || code == codes_o
 abbrev pub answers_change : Row → Bool
 answers_change r = is_code_of_change (code_sent r.sent) (names_location (reading r.step.datagram))
 
+-- the write that was admitted at a place ended in 5.00, which was sent: a row commits it, and notes that it failed
+pub record EndedWithoutMemory (rows : List Row) (place : ℕ) : Type 0 where
+  pub before : List Row
+  pub row : Row
+  pub within : Within rows before row
+  pub commits : Commits row place
+  pub failed : list_any (is_failure_of place) row.notes ≡ true
+  pub sent : code_sent row.sent ≡ codes_of.internal_server_error
+
+-- the row at a place admitted a write, and its worker, peer and datagram are those of a later step
+pub record AdmittedAt (rows : List Row) (place : ℕ) (s : Step) : Type 0 where
+  pub before : List Row
+  pub row : Row
+  pub within : Within rows before row
+  pub place_is : length before ≡ place
+  pub peer : Peer
+  pub mid : ℕ
+  pub admitted : admits peer mid row ≡ true
+  pub worker : row.step.worker ≡ s.worker
+  pub from_peer : row.step.peer ≡ s.peer
+  pub datagram : row.step.datagram ≡ s.datagram
+
 -- Registrations are the replay of one legal history that holds each accepted request once, despite repeats:
 -- a row has at most one entry; an entry stands in the row of a commit, or of a response that completed a fetch;
--- a commit whose answer says that a change was made has exactly one, and any other has none; each admission is committed at most once;
--- and of two admissions with one peer and Message ID that are less than the lifetime of an exchange apart, the earlier ended in 5.00.
+-- a commit whose answer says that a change was made has exactly one, and any other has none; a commit is of a row
+-- that admitted its write, and each admission is committed at most once;
+-- and of two admissions with one peer and Message ID that are less than the lifetime of an exchange apart, the earlier ended in 5.00, which was sent,
+-- before the later one was made.
 pub record HoldsEachOnce (rows : List Row) : Type 0 where
   pub legal : IsLegal (entries rows)
   pub single : (before : List Row) (r : Row) → Within rows before r → length (entries_of r) ≤ 1
@@ -88,10 +113,11 @@ pub record HoldsEachOnce (rows : List Row) : Type 0 where
       → ((place : ℕ) × Commits r place) ⊎ IsCompletion r
   pub answered : (before : List Row) (r : Row) (place : ℕ) → Within rows before r → Commits r place → answers_change r ≡ true → length (entries_of r) ≡ 1
   pub enters_none : (before : List Row) (r : Row) (place : ℕ) → Within rows before r → Commits r place → answers_change r ≡ false → entries_of r ≡ []
+  pub place : (before : List Row) (r : Row) (place : ℕ) → Within rows before r → Commits r place → AdmittedAt before place r.step
   pub once : (before earlier : List Row) (r other : Row) (place : ℕ) → Within rows before r → Within before earlier other → Commits r place → Commits other place → ⊥
   pub failed : (before earlier : List Row) (r other : Row) (peer : Peer) (mid : ℕ) → Within rows before r → Within before earlier other
       → admits peer mid r ≡ true → admits peer mid other ≡ true → r.moment.0 < other.moment.0 + exchange_lifetime
-      → has_event (is_failure_of (length earlier)) (events rows) ≡ true
+      → EndedWithoutMemory before (length earlier)
 
 -- a row with the rows before it
 pub record Placed : Type 0 where

@@ -12,6 +12,7 @@ use Rattle.headline_law.proofs.entries.JournalLaws.{Made, each_row, journal-HasH
 use Rattle.headline_law.proofs.entries.ChangeEntries.{ChangeEntry, ChangeEntry-one, ChangeEntry-none, commit-ChangeEntry}
 use Rattle.headline_law.proofs.entries.RowLaws.{row-origin}
 use Rattle.headline_law.proofs.entries.CommitLaws.{journal-once}
+use Rattle.headline_law.proofs.entries.CommitPlaces.{journal-place}
 use Rattle.headline_law.proofs.entries.FailedLaws.{journal-failed}
 
 -- the row of a commit has an entry exactly where its answer reports a change
@@ -36,6 +37,7 @@ journal-HoldsEachOnce rows journal = record {
   origin = λ before r within some. origin before r within some;
   answered = λ before r place within commits reports. ChangeEntry-one (entries before) r.moment.0 r.notes (answers_change r) (commit_entry rows before r place journal within commits) reports;
   enters_none = λ before r place within commits reports. ChangeEntry-none (entries before) r.moment.0 r.notes (answers_change r) (commit_entry rows before r place journal within commits) reports;
+  place = λ before r place within commits. journal-place rows before r place journal within commits;
   once = λ before earlier r other place within further commits again. journal-once rows before earlier r other place journal within further commits again;
   failed = λ before earlier r other peer mid within further now then close. journal-failed rows before earlier r other peer mid journal within further now then close;
 }
