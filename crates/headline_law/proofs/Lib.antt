@@ -33,3 +33,4 @@ pub mod sends
 pub mod flights
 pub mod rows
 pub mod HeadlineLaw
+pub mod WrongRows

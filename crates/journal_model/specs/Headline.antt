@@ -4,8 +4,9 @@ use Rattle.std.specs.List.{list_any, IsAmong}
 use Rattle.rd_base.specs.declared.peers.Peer.{Peer}
 use Rattle.rd_base.specs.declared.queries.Query.{Query}
 use Rattle.message_model.specs.declared.blocks.Block.{Block}
+use Rattle.message_model.specs.declared.messages.Role.TheVariants as role
 use Rattle.message_model.specs.declared.messages.Unread.{Unread}
-use Rattle.message_model.specs.Message.{Message}
+use Rattle.message_model.specs.Message.{Message, role_of}
 use Rattle.message_model.specs.Codes as codes_of
 use Rattle.message_model.specs.OptionTable as table
 use Rattle.message_model.specs.Blocks.{block_size, block_of}
@@ -24,6 +25,7 @@ use Rattle.event_model.specs.Repeats.{is_admission_of, is_failure_of}
 use Rattle.event_model.specs.KeptAnswers.{answer_kept}
 use Rattle.event_model.specs.Observers.{name_of, observers, last_body_formed}
 use Rattle.event_model.specs.Due.{is_due}
+use Rattle.event_model.specs.Fetches.{Request}
 use Rattle.journal_model.specs.declared.steps.Step.{Step}
 use Rattle.journal_model.specs.declared.steps.StepKind.{StepKind}
 use Rattle.journal_model.specs.declared.steps.StepKind.TheVariants as step
@@ -31,6 +33,7 @@ use Rattle.journal_model.specs.declared.rows.Row.{Row}
 use Rattle.journal_model.specs.Journal.{is_look, events, entries, entries_of, now, transitions}
 use Rattle.journal_model.specs.Requests.{is_lookup, is_look_request, query_of, asked_block, number_of, szx_of}
 use Rattle.journal_model.specs.Looks.{names_tag}
+use Rattle.journal_model.specs.Responses.{fetch_of}
 use Rattle.journal_model.specs.Meantime.{is_location}
 
 -- a row stands in a journal after the rows before it
@@ -51,9 +54,19 @@ abbrev pub is_end_of_fetch : Peer → Note → Bool
 is_end_of_fetch peer (note.Ceased p) = is_same_peer p peer
 is_end_of_fetch peer _ = false
 
--- a response that completed a fetch
-abbrev pub IsCompletion : Row → Type 0
-IsCompletion r = (r.step.kind ≡ step.Admit) × (list_any (is_end_of_fetch r.step.peer) r.notes ≡ true)
+-- a datagram that is heard after rows is a response to the last request of the running fetch with its peer
+pub record AnswersFetch (before : List Row) (s : Step) : Type 0 where
+  pub kind : s.kind ≡ step.Admit
+  pub message : Message
+  pub read : reading s.datagram ≡ Ok message
+  pub response : role_of message.kind message.code ≡ role.Response
+  pub request : Request
+  pub fetch : fetch_of s message (events before) ≡ Some request
+
+-- such a response completed the fetch, which its row ends
+pub record IsCompletion (before : List Row) (r : Row) : Type 0 where
+  pub answers : AnswersFetch before r.step
+  pub ended : list_any (is_end_of_fetch r.step.peer) r.notes ≡ true
 
 -- the code of a message: its second octet (RFC 7252 section 3)
 abbrev pub code_at : List ℕ → ℕ
@@ -110,7 +123,7 @@ pub record HoldsEachOnce (rows : List Row) : Type 0 where
   pub legal : IsLegal (entries rows)
   pub single : (before : List Row) (r : Row) → Within rows before r → length (entries_of r) ≤ 1
   pub origin : (before : List Row) (r : Row) → Within rows before r → 0 < length (entries_of r)
-      → ((place : ℕ) × Commits r place) ⊎ IsCompletion r
+      → ((place : ℕ) × Commits r place) ⊎ IsCompletion before r
   pub answered : (before : List Row) (r : Row) (place : ℕ) → Within rows before r → Commits r place → answers_change r ≡ true → length (entries_of r) ≡ 1
   pub enters_none : (before : List Row) (r : Row) (place : ℕ) → Within rows before r → Commits r place → answers_change r ≡ false → entries_of r ≡ []
   pub place : (before : List Row) (r : Row) (place : ℕ) → Within rows before r → Commits r place → AdmittedAt before place r.step

@@ -17,14 +17,14 @@ use Rattle.headline_law.proofs.entries.Admissions.{row_admits}
 use Rattle.headline_law.proofs.entries.Failures.{ended_without_memory}
 
 -- a row within a journal is its newest, or within the rows before that
-within_cases : (x : Row) (rest before : List Row) (r : Row) → Within (x ∷ rest) before r → ((x ≡ r) × (rest ≡ before)) ⊎ Within rest before r
+pub within_cases : (x : Row) (rest before : List Row) (r : Row) → Within (x ∷ rest) before r → ((x ≡ r) × (rest ≡ before)) ⊎ Within rest before r
 within_cases x rest before r within = by within.later within.whole
   where
     by : (later : List Row) → x ∷ rest ≡ later ++ r ∷ before → ((x ≡ r) × (rest ≡ before)) ⊎ Within rest before r
     by [] whole = let first : x ≡ r = cc in let others : rest ≡ before = cc in inl (first, others)
     by (y ∷ later) whole = let others : rest ≡ later ++ r ∷ before = cc in inr (record { later = later; whole = others })
 
-nothing_within : (before : List Row) (r : Row) → Within [] before r → ⊥
+pub nothing_within : (before : List Row) (r : Row) → Within [] before r → ⊥
 nothing_within before r within = by within.later within.whole
   where
     by : (later : List Row) → [] ≡ later ++ r ∷ before → ⊥

@@ -42,8 +42,8 @@ journal-HoldsEachOnce rows journal = record {
   failed = λ before earlier r other peer mid within further now then close. journal-failed rows before earlier r other peer mid journal within further now then close;
 }
   where
-    origin : (before : List Row) (r : Row) → Within rows before r → 0 < length (entries_of r) → ((place : ℕ) × Commits r place) ⊎ IsCompletion r
+    origin : (before : List Row) (r : Row) → Within rows before r → 0 < length (entries_of r) → ((place : ℕ) × Commits r place) ⊎ IsCompletion before r
     origin before r within some =
         let it : Made before r = each_row rows before r journal within in
-        subst (λ (x : Row). ((place : ℕ) × Commits x place) ⊎ IsCompletion x) (sym it.is)
+        subst (λ (x : Row). ((place : ℕ) × Commits x place) ⊎ IsCompletion before x) (sym it.is)
         (row-origin before it.step it.starved (subst (λ (x : Row). 0 < length (entries_of x)) it.is some))
