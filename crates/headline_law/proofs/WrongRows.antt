@@ -21,7 +21,7 @@ use Rattle.journal_model.specs.declared.steps.StepKind.{StepKind}
 use Rattle.journal_model.specs.declared.steps.StepKind.TheVariants as step
 use Rattle.journal_model.specs.declared.rows.Row.{Row}
 use Rattle.journal_model.specs.Journal.{entries}
-use Rattle.journal_model.specs.Headline.{Asked, Sent, Headline, EndedWithoutMemory, AdmittedAt, FormedAs, Validates, AreBlocksOfOne}
+use Rattle.journal_model.specs.Headline.{Asked, Sent, Headline, EndedWithoutMemory, IsEntryOf, AdmittedAt, FormedAs, Validates, AreBlocksOfOne}
 use Rattle.headline_law.proofs.entries.FailedLaws.{within_cases, nothing_within}
 
 -- ---- what the rows have
@@ -230,6 +230,18 @@ reset_entry_falls h =
 
     different : (m : Message) → empty_message Rst 16 ≡ m → role_of m.kind m.code ≡ role.Response → ⊥
     different m is responds = let no : role.Reset ≡ role.Response = ap (λ (n : Message). role_of n.kind n.code) is ∙ responds in absurd cc
+
+-- an entry of another worker than that of its row
+abbrev strange_entry : Row
+strange_entry = row_of step.Admit [] false [] (note.Entered (record { moment = record { 0 = 0 }; worker = 1; peer = peer 1; change = change.Remove 1 }) ∷ [])
+
+-- An end theorem: nothing here cites it.
+pub strange_entry_falls : Headline (strange_entry ∷ []) → ⊥
+strange_entry_falls h =
+    let it : IsEntryOf [] 0 strange_entry.step (record { moment = record { 0 = 0 }; worker = 1; peer = peer 1; change = change.Remove 1 }) =
+    h.changes.entry [] strange_entry _ (record { later = []; whole = refl }) refl in
+    let one : ◌≡◌ {A = ℕ} 1 0 = ap (λ (e : Entry). e.worker) it.stamped in
+    absurd (omega (arith, one))
 
 -- a commit of a place where nothing was admitted
 abbrev stray_commit : Row

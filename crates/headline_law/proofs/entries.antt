@@ -5,6 +5,7 @@ pub mod JournalLaws
 pub mod ResponseEntries
 pub mod EntryOrigins
 pub mod TagStates
+pub mod EntryChanges
 pub mod CommitLaws
 pub mod CommitPlaces
 pub mod Admissions

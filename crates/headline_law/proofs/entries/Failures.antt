@@ -58,7 +58,7 @@ commit_of_failure kind starved rows moment s place ns it h = by it
     by (noted.lookup m here is) = no (never_of of_lookup (λ p. refl) place ns (ap (are of_lookup) is ∙ lookup_effects-notes rows moment s m))
     by (noted.empty here all) = no (never_of of_empty (λ p. refl) place ns all)
     by (noted.response m here read responds is) = no (never_of of_response (λ p. refl) place ns (ap (are of_response) is ∙ response_effects-notes rows moment s m))
-    by (noted.commit m p commits is) = no (never_of of_done (λ q. refl) place ns (ap (are of_done) is ∙ commit_effects-done rows moment p s m))
+    by (noted.commit m p commits read is) = no (never_of of_done (λ q. refl) place ns (ap (are of_done) is ∙ commit_effects-done rows moment p s m))
     by (noted.failed p commits is) = commits ∙ ap (λ q. step.Commit q) (one p (p == place) refl (sym (ap (fails place) is) ∙ h))
     by (noted.keep m body tag keeps is) = no (never_of of_lookup (λ p. refl) place ns (ap (are of_lookup) (is ∙ keep_effects-notes s m body tag)))
     by (noted.tick ticks is) = no (never_of of_tick (λ p. refl) place ns (ap (are of_tick) is ∙ tick_effects-notes starved rows moment s))

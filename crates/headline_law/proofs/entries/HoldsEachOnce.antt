@@ -10,6 +10,7 @@ use Rattle.journal_model.specs.Machine.{IsJournal}
 use Rattle.journal_model.specs.Headline.{Within, Commits, IsCompletion, is_code_of_change, code_sent, names_location, answers_change, HoldsEachOnce}
 use Rattle.headline_law.proofs.entries.JournalLaws.{Made, each_row, journal-HasHistory, journal-single}
 use Rattle.headline_law.proofs.entries.ChangeEntries.{ChangeEntry, ChangeEntry-one, ChangeEntry-none, commit-ChangeEntry}
+use Rattle.headline_law.proofs.entries.EntryChanges.{journal-entry}
 use Rattle.headline_law.proofs.entries.RowLaws.{row-origin}
 use Rattle.headline_law.proofs.entries.CommitLaws.{journal-once}
 use Rattle.headline_law.proofs.entries.CommitPlaces.{journal-place}
@@ -35,6 +36,7 @@ journal-HoldsEachOnce rows journal = record {
   legal = (journal-HasHistory rows journal).legal;
   single = λ before r within. journal-single rows before r journal within;
   origin = λ before r within some. origin before r within some;
+  entry = λ before r entry within is. journal-entry rows before r entry journal within is;
   answered = λ before r place within commits reports. ChangeEntry-one (entries before) r.moment.0 r.notes (answers_change r) (commit_entry rows before r place journal within commits) reports;
   enters_none = λ before r place within commits reports. ChangeEntry-none (entries before) r.moment.0 r.notes (answers_change r) (commit_entry rows before r place journal within commits) reports;
   place = λ before r place within commits. journal-place rows before r place journal within commits;

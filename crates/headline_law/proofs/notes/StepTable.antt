@@ -36,7 +36,7 @@ pub data StepNoted (kind : StepKind) (starved : Bool) (rows : List Row) (moment 
   lookup : (m : Message) → kind ≡ step.Admit → notes ≡ (lookup_effects rows moment s m).notes → StepNoted kind starved rows moment s notes
   empty : kind ≡ step.Admit → are of_empty notes ≡ true → StepNoted kind starved rows moment s notes
   response : (m : Message) → kind ≡ step.Admit → reading s.datagram ≡ Ok m → role_of m.kind m.code ≡ role.Response → notes ≡ (response_effects rows moment s m).notes → StepNoted kind starved rows moment s notes
-  commit : (m : Message) (place : ℕ) → kind ≡ step.Commit place → notes ≡ (commit_effects rows moment place s m).notes → StepNoted kind starved rows moment s notes
+  commit : (m : Message) (place : ℕ) → kind ≡ step.Commit place → reading s.datagram ≡ Ok m → notes ≡ (commit_effects rows moment place s m).notes → StepNoted kind starved rows moment s notes
   failed : (place : ℕ) → kind ≡ step.Commit place → notes ≡ note.Failed place ∷ [] → StepNoted kind starved rows moment s notes
   keep : (m : Message) (body tag : List ℕ) → kind ≡ step.Keep body tag → notes ≡ (keep_effects s m body tag).notes → StepNoted kind starved rows moment s notes
   tick : kind ≡ step.Tick → notes ≡ (tick_effects starved rows moment s).notes → StepNoted kind starved rows moment s notes
@@ -78,12 +78,12 @@ effects-StepNoted step.Admit starved rows moment s = by (reading s.datagram) ref
     by (Err fault) e = nothing (unread_notes s fault)
     by (Ok m) e = role-StepNoted (role_of m.kind m.code) starved rows moment s m e refl
 effects-StepNoted step.Look starved rows moment s = nothing (looked_notes starved rows moment s (reading s.datagram))
-effects-StepNoted (step.Commit place) starved rows moment s = by starved (reading s.datagram)
+effects-StepNoted (step.Commit place) starved rows moment s = by starved (reading s.datagram) refl
   where
-    by : (b : Bool) (read : Result Message Unread) → StepNoted (step.Commit place) starved rows moment s (done b rows moment place s read).notes
-    by b (Err fault) = nothing refl
-    by true (Ok m) = failed place refl refl
-    by false (Ok m) = commit m place refl refl
+    by : (b : Bool) (read : Result Message Unread) → reading s.datagram ≡ read → StepNoted (step.Commit place) starved rows moment s (done b rows moment place s read).notes
+    by b (Err fault) e = nothing refl
+    by true (Ok m) e = failed place refl refl
+    by false (Ok m) e = commit m place refl e refl
 effects-StepNoted (step.Keep body tag) starved rows moment s = by starved (reading s.datagram)
   where
     by : (b : Bool) (read : Result Message Unread) → StepNoted (step.Keep body tag) starved rows moment s (kept_body b s read body tag).notes
