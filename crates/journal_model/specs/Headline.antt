@@ -116,7 +116,7 @@ pub record RegistersLinks (rows : List Row) (moment : ℕ) (s : Step) (m : Messa
 abbrev pub AsksChange : Path → List Row → ℕ → Step → Message → Change → Type 0
 AsksChange path.Rd rows moment s m (change.Register params links) = (params ≡ registration_values (queries_in m)) × RegistersLinks rows moment s m links
 AsksChange (path.Location number) rows moment s m (change.Update n params) = (m.code ≡ codes_of.post) × (n ≡ number) × (params ≡ update_values (queries_in m))
-AsksChange (path.Location number) rows moment s m (change.Remove n) = n ≡ number
+AsksChange (path.Location number) rows moment s m (change.Remove n) = ((m.code == codes_of.post) ≡ false) × (n ≡ number)
 AsksChange _ rows moment s m _ = ⊥
 
 -- the change is the one that a fetch was made for: a registration of what it collected, with the parameters of its first request
@@ -329,7 +329,7 @@ pub record Sent (rows : List Row) : Type 0 where
   pub message : Message
   pub read : reading octets ≡ Ok message
 
--- it is 2.05 to a lookup, a notice, or 2.05 with an entity tag
+-- it is a 2.05: to a lookup, as a notice, or with an entity tag
 abbrev pub is_listing : {rows : List Row} → Sent rows → Bool
 is_listing it =
     is_content it.message && (answers_lookup it.here.row.step.kind (reading it.here.row.step.datagram) || is_tagged it.message)
@@ -343,8 +343,8 @@ pub record Validates (here : Placed) (peer : Peer) (m : Message) : Type 0 where
   pub options : m.options ≡ (table.etag, tag (entries here.before) here.row.moment.0) ∷ []
   pub payload : m.payload ≡ []
 
--- Each lookup answers the listing of the history at the row that formed it: every 2.05 to a lookup and every notice carries a block of
--- the listing and the tag of the entries up to the row that formed its body, at the moment of that row;
+-- Each lookup answers the listing of the history at the row that formed it: every 2.05 to a lookup, as a notice or with a tag
+-- carries the block that is asked for of the listing, and the tag, of the entries up to the row that formed its body, at the moment of that row;
 -- and 2.03 is sent exactly where a look names the tag at its own row, with this tag and nothing else; where memory ran out, only there.
 pub record AnswersAsFormed (rows : List Row) : Type 0 where
   pub carried : (sent : Sent rows) → is_listing sent ≡ true → FormedAs sent.here sent.peer sent.message

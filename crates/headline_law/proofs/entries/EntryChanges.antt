@@ -148,7 +148,7 @@ commit_enters rows moment place s m = by (path_in m)
 
     location : (b : Bool) (number : ℕ) → (m.code == codes_of.post) ≡ b → AllEnter (OfRequest (path.Location number) rows moment s m) (on_location b rows moment s m number).notes
     location true number e = change_made-enters (OfRequest (path.Location number) rows moment s m) (entries rows) _ _ (refl, (eqb-true m.code codes_of.post e, refl, refl)) tt
-    location false number e = change_made-enters (OfRequest (path.Location number) rows moment s m) (entries rows) _ _ (refl, refl) tt
+    location false number e = change_made-enters (OfRequest (path.Location number) rows moment s m) (entries rows) _ _ (refl, (e, refl)) tt
 
     by : (p : Path) → AllEnter (OfRequest p rows moment s m) (write_done p rows moment place s m).notes
     by path.Core = tt
