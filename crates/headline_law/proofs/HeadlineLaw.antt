@@ -3,7 +3,7 @@ use Rattle.std.proofs.Common.{ℕ, List}
 use Rattle.journal_model.specs.Headline.{HoldsEachOnce, AnswersAsFormed, TagsDecideStates, ObserversKnow, Headline}
 use Rattle.headline_law.proofs.entries.HoldsEachOnce.{journal-HoldsEachOnce}
 use Rattle.headline_law.proofs.rows.AnswersAsFormed.{answers_as_formed}
-use Rattle.headline_law.proofs.entries.TagStates.{journal-TagsDecideStates}
+use Rattle.headline_law.proofs.rows.TaggedAnswers.{journal-TagsDecideStates}
 use Rattle.headline_law.proofs.observers.ObserversKnow.{journal-ObserversKnow}
 use Rattle.trace_model.specs.Steps.{journal}
 use Rattle.trace_model.proofs.JournalLaw.{journal-IsJournal}

@@ -34,3 +34,4 @@ pub mod flights
 pub mod rows
 pub mod desks
 pub mod HeadlineLaw
+pub mod WrongRows

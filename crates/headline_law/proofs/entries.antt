@@ -5,7 +5,10 @@ pub mod JournalLaws
 pub mod ResponseEntries
 pub mod EntryOrigins
 pub mod TagStates
+pub mod EntryChanges
 pub mod CommitLaws
+pub mod CommitPlaces
 pub mod Admissions
+pub mod Failures
 pub mod FailedLaws
 pub mod HoldsEachOnce

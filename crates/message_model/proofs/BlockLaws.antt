@@ -1,5 +1,5 @@
 -- Numbers and block values are read as they are written, and the blocks of a body are its parts.
-use Rattle.std.proofs.Common.{◌≡◌, ℕ, zero, suc, ◌+◌, ◌*◌, ◌/◌, ◌%◌, ◌^◌, ◌<◌, ◌≤◌, Bool, true, false, ◌&&◌, ltb, leb, eqb, List, [], ◌∷◌, ◌++◌, length, take, drop, Some, None, refl, sym, ap, subst, ◌∙◌, arith, inl, inr}
+use Rattle.std.proofs.Common.{◌≡◌, ℕ, zero, suc, ◌+◌, ◌*◌, ◌/◌, ◌%◌, ◌^◌, ◌<◌, ◌≤◌, Bool, true, false, ◌&&◌, ltb, leb, eqb, List, [], ◌∷◌, ◌++◌, length, take, drop, Some, None, refl, sym, ap, subst, ◌∙◌, append-nil, arith, inl, inr}
 use Rattle.std.proofs.lemmas.Bool.{cases_lt, cases_eq, ltb-true, ltb-false, lt-ltb, le-ltb, eqb-false, ne_eqb, and_parts, le-leb, leb-true}
 use Rattle.std.proofs.lemmas.List.{take-append-drop, length-take, length-drop, drop-drop, drop_all}
 use Rattle.std.proofs.Math.Nat.{add-mul, one-mul}
@@ -107,6 +107,54 @@ block_found value b fits few e =
     let there : IsFound value b = subst (λ (c : Block). IsFound value c) (same_Some _ b p.1) found in
     (there.block, ap uint_bytes there.bits)
 
+-- A number is read as it is written, however great it is.
+pub uint_again : (n : ℕ) → uint_of (uint_bytes n) ≡ n
+unfolding uint_bytes
+uint_again n =
+    elim (cases_eq n 0) [
+      | inl none ↦ subst (λ (k : ℕ). uint_of (uint_bytes k) ≡ k) (sym none) refl
+      | inr some ↦
+          let positive : eqb n 0 ≡ false = ne_eqb n 0 some in
+          elim (cases_lt n 256) [
+            | inl one ↦ rw (positive, lt-ltb n 256 one) (omega arith)
+            | inr more ↦ elim (cases_lt n 65536) [
+              | inl two ↦ rw (positive, le-ltb n 256 more, lt-ltb n 65536 two) (omega arith)
+              | inr three ↦ rw (positive, le-ltb n 256 more, le-ltb n 65536 three) (omega arith)
+            ]
+          ]
+    ]
+
+-- So a block is, whatever its number is.
+pub block_read_again : (b : Block) → b.szx < 7 → block_read (block_value b) ≡ Some b
+unfolding block_read block_value
+block_read_again b szx =
+    let bit : more_bit b.more < 2 = more_bit-lt b.more in
+    let low : block_bits b % 8 ≡ b.szx = omega arith in
+    let middle : block_bits b / 8 % 2 ≡ more_bit b.more = omega arith in
+    let high : block_bits b / 16 ≡ b.num = omega arith in
+    let free : eqb b.szx 7 ≡ false = ne_eqb b.szx 7 (λ same. absurd (omega arith)) in
+    let read : block_from (block_bits b) ≡ Some b = rw (low, free, middle, high, more_bit_is_set b.more) refl in
+    ap block_from (uint_again (block_bits b)) ∙ read
+
+-- The exponent of a block that is read is not the reserved one.
+pub block_read-szx : (value : List ℕ) (b : Block) → block_read value ≡ Some b → b.szx < 7
+unfolding block_read
+block_read-szx value b e =
+    let p = not_refused (eqb (uint_of value % 8) 7) _ b e in
+    let free : uint_of value % 8 ≡ 7 → ⊥ = eqb-false (uint_of value % 8) 7 p.0 in
+    subst (λ (c : Block). c.szx < 7) (same_Some _ b p.1) (below_seven (uint_of value % 8) (omega arith) free)
+
+-- A block has at most 1,024 octets.
+pub block_size-most : (szx : ℕ) → szx < 7 → block_size szx ≤ 1024
+block_size-most zero small = omega arith
+block_size-most (suc zero) small = omega arith
+block_size-most (suc (suc zero)) small = omega arith
+block_size-most (suc (suc (suc zero))) small = omega arith
+block_size-most (suc (suc (suc (suc zero)))) small = omega arith
+block_size-most (suc (suc (suc (suc (suc zero))))) small = omega arith
+block_size-most (suc (suc (suc (suc (suc (suc zero)))))) small = omega arith
+block_size-most (suc (suc (suc (suc (suc (suc (suc n))))))) small = absurd (omega (arith, small))
+
 -- ---- blocks of a body
 
 piece_of : (body : List ℕ) (num size : ℕ) → IsPiece body num size (take size (drop (num * size) body)) (ltb ((num + 1) * size) (length body))
@@ -132,6 +180,21 @@ unfolding block_of
 block_of_piece body num szx x e =
     let p = not_refused (ltb 0 num && leb (length body) (num * block_size szx)) _ x e in
     subst (λ (y : List ℕ × Bool). IsPiece body num (block_size szx) y.0 y.1) (pair_same _ x p.1) (piece_of body num (block_size szx))
+
+-- The first block is the whole body where no more follow, and then the body is no longer than a block.
+pub block_of_whole : (body : List ℕ) (szx : ℕ) (piece : List ℕ) → block_of body 0 szx ≡ Some (piece, false) → (piece ≡ body) × (length body ≤ block_size szx)
+block_of_whole body szx piece e =
+    let p : IsPiece body 0 (block_size szx) piece false = block_of_piece body 0 szx (piece, false) e in
+    let front : drop (0 * block_size szx) body ≡ body = ap (λ (k : ℕ). drop k body) (let none : 0 * block_size szx ≡ 0 = omega arith in none) in
+    let same : body ≡ piece = sym front ∙ (p.offset ∙ (ap (λ (rest : List ℕ). piece ++ rest) (p.last refl) ∙ append-nil piece)) in
+    (sym same, subst (λ (b : List ℕ). length b ≤ block_size szx) (sym same) p.most)
+
+-- And a body that is no longer than a block is its first block, which no more follow.
+pub block_of_short : (body : List ℕ) (szx : ℕ) → length body ≤ block_size szx → (piece : List ℕ × Bool) → block_of body 0 szx ≡ Some piece → piece.1 ≡ false
+unfolding block_of
+block_of_short body szx short piece e =
+    let last : ltb ((0 + 1) * block_size szx) (length body) ≡ false = le-ltb ((0 + 1) * block_size szx) (length body) (omega (arith, short, one-mul (block_size szx))) in
+    subst (λ (x : List ℕ × Bool). x.1 ≡ false) (same_Some _ piece e) last
 
 -- There is none exactly where the number is above 0 and begins at the body's end or past it.
 -- An end theorem: nothing here cites it.

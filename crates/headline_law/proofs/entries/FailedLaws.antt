@@ -10,20 +10,21 @@ use Rattle.event_model.proofs.NotedLaws.{has_event-noted, last_event-before, Fou
 use Rattle.journal_model.specs.declared.rows.Row.{Row}
 use Rattle.journal_model.specs.Journal.{events, latest}
 use Rattle.journal_model.specs.Machine.{IsJournal}
-use Rattle.journal_model.specs.Headline.{Within, admits}
+use Rattle.journal_model.specs.Headline.{Within, admits, EndedWithoutMemory}
 use Rattle.headline_law.proofs.entries.RowLaws.{row-moment_latest}
-use Rattle.headline_law.proofs.entries.JournalLaws.{Made, newest, latest-row, latest-before}
+use Rattle.headline_law.proofs.entries.JournalLaws.{Made, newest, each_row, latest-row, latest-before}
 use Rattle.headline_law.proofs.entries.Admissions.{row_admits}
+use Rattle.headline_law.proofs.entries.Failures.{ended_without_memory}
 
 -- a row within a journal is its newest, or within the rows before that
-within_cases : (x : Row) (rest before : List Row) (r : Row) → Within (x ∷ rest) before r → ((x ≡ r) × (rest ≡ before)) ⊎ Within rest before r
+pub within_cases : (x : Row) (rest before : List Row) (r : Row) → Within (x ∷ rest) before r → ((x ≡ r) × (rest ≡ before)) ⊎ Within rest before r
 within_cases x rest before r within = by within.later within.whole
   where
     by : (later : List Row) → x ∷ rest ≡ later ++ r ∷ before → ((x ≡ r) × (rest ≡ before)) ⊎ Within rest before r
     by [] whole = let first : x ≡ r = cc in let others : rest ≡ before = cc in inl (first, others)
     by (y ∷ later) whole = let others : rest ≡ later ++ r ∷ before = cc in inr (record { later = later; whole = others })
 
-nothing_within : (before : List Row) (r : Row) → Within [] before r → ⊥
+pub nothing_within : (before : List Row) (r : Row) → Within [] before r → ⊥
 nothing_within before r within = by within.later within.whole
   where
     by : (later : List Row) → [] ≡ later ++ r ∷ before → ⊥
@@ -125,19 +126,35 @@ newest_failed before earlier r other peer mid it further now then close more = b
         let low : last.row_of.moment.0 ≤ latest before = moment-latest before last.rows_before last.row_of last.within in
         more last.rows_before last.row_of last.within between last.admitted (omega (arith, low, not_below, close))
 
--- of two admissions with one peer and Message ID that are less than the lifetime of an exchange apart, the earlier failed
-pub journal-failed : (rows before earlier : List Row) (r other : Row) (peer : Peer) (mid : ℕ) → IsJournal rows → Within rows before r → Within before earlier other
-    → admits peer mid r ≡ true → admits peer mid other ≡ true → r.moment.0 < other.moment.0 + exchange_lifetime → has_event (is_failure_of (length earlier)) (events rows) ≡ true
-journal-failed [] before earlier r other peer mid journal within further now then close = absurd (nothing_within before r within)
-journal-failed (x ∷ rest) before earlier r other peer mid journal within further now then close =
+-- what failed before a row that stands among rows failed among them
+failed_within : (rows before earlier : List Row) (r : Row) → Within rows before r → Failed before earlier → Failed rows earlier
+failed_within rows before earlier r within failed = subst (λ all. Failed all earlier) (sym within.whole) (after within.later)
+  where
+    after : (later : List Row) → Failed (later ++ r ∷ before) earlier
+    after [] = has_event-more (is_failure_of (length earlier)) r before failed
+    after (x ∷ later) = has_event-more (is_failure_of (length earlier)) x (later ++ r ∷ before) (after later)
+
+-- of two admissions with one peer and Message ID that are less than the lifetime of an exchange apart, the earlier failed before the later one
+journal-failed_before : (rows before earlier : List Row) (r other : Row) (peer : Peer) (mid : ℕ) → IsJournal rows → Within rows before r → Within before earlier other
+    → admits peer mid r ≡ true → admits peer mid other ≡ true → r.moment.0 < other.moment.0 + exchange_lifetime → Failed before earlier
+journal-failed_before [] before earlier r other peer mid journal within further now then close = absurd (nothing_within before r within)
+journal-failed_before (x ∷ rest) before earlier r other peer mid journal within further now then close =
     by (within_cases x rest before r within) (newest rest x journal)
-    (λ between y inside deeper also near. journal-failed rest between earlier y other peer mid (newest rest x journal).journal inside deeper also then near)
+    (λ between y inside deeper also near. failed_within rest between earlier y inside (journal-failed_before rest between earlier y other peer mid (newest rest x journal).journal inside deeper also then near))
+    (λ inside. journal-failed_before rest before earlier r other peer mid (newest rest x journal).journal inside further now then close)
   where
     by : ((x ≡ r) × (rest ≡ before)) ⊎ Within rest before r → Made rest x
         → ((between : List Row) (y : Row) → Within rest between y → Within between earlier other → admits peer mid y ≡ true → y.moment.0 < other.moment.0 + exchange_lifetime → Failed rest earlier)
-        → has_event (is_failure_of (length earlier)) (events (x ∷ rest)) ≡ true
-    by (inl same) it more =
-        has_event-more (is_failure_of (length earlier)) x rest
+        → (Within rest before r → Failed before earlier) → Failed before earlier
+    by (inl same) it more deeper =
+        subst (λ rows. Failed rows earlier) same.1
         (newest_failed rest earlier x other peer mid it (subst (λ rows. Within rows earlier other) (sym same.1) further)
         (subst (λ (y : Row). admits peer mid y ≡ true) (sym same.0) now) then (subst (λ (y : Row). y.moment.0 < other.moment.0 + exchange_lifetime) (sym same.0) close) more)
-    by (inr inside) it more = has_event-more (is_failure_of (length earlier)) x rest (more before r inside further now close)
+    by (inr inside) it more deeper = deeper inside
+
+-- and so it ended in 5.00, which was sent
+pub journal-failed : (rows before earlier : List Row) (r other : Row) (peer : Peer) (mid : ℕ) → IsJournal rows → Within rows before r → Within before earlier other
+    → admits peer mid r ≡ true → admits peer mid other ≡ true → r.moment.0 < other.moment.0 + exchange_lifetime → EndedWithoutMemory before (length earlier)
+journal-failed rows before earlier r other peer mid journal within further now then close =
+    ended_without_memory before (length earlier) (each_row rows before r journal within).journal
+    (journal-failed_before rows before earlier r other peer mid journal within further now then close)

@@ -10,8 +10,10 @@ use Rattle.journal_model.specs.Machine.{IsJournal}
 use Rattle.journal_model.specs.Headline.{Within, Commits, IsCompletion, is_code_of_change, code_sent, names_location, answers_change, HoldsEachOnce}
 use Rattle.headline_law.proofs.entries.JournalLaws.{Made, each_row, journal-HasHistory, journal-single}
 use Rattle.headline_law.proofs.entries.ChangeEntries.{ChangeEntry, ChangeEntry-one, ChangeEntry-none, commit-ChangeEntry}
+use Rattle.headline_law.proofs.entries.EntryChanges.{journal-entry}
 use Rattle.headline_law.proofs.entries.RowLaws.{row-origin}
 use Rattle.headline_law.proofs.entries.CommitLaws.{journal-once}
+use Rattle.headline_law.proofs.entries.CommitPlaces.{journal-place}
 use Rattle.headline_law.proofs.entries.FailedLaws.{journal-failed}
 
 -- the row of a commit has an entry exactly where its answer reports a change
@@ -34,14 +36,16 @@ journal-HoldsEachOnce rows journal = record {
   legal = (journal-HasHistory rows journal).legal;
   single = λ before r within. journal-single rows before r journal within;
   origin = λ before r within some. origin before r within some;
+  entry = λ before r entry within is. journal-entry rows before r entry journal within is;
   answered = λ before r place within commits reports. ChangeEntry-one (entries before) r.moment.0 r.notes (answers_change r) (commit_entry rows before r place journal within commits) reports;
   enters_none = λ before r place within commits reports. ChangeEntry-none (entries before) r.moment.0 r.notes (answers_change r) (commit_entry rows before r place journal within commits) reports;
+  place = λ before r place within commits. journal-place rows before r place journal within commits;
   once = λ before earlier r other place within further commits again. journal-once rows before earlier r other place journal within further commits again;
   failed = λ before earlier r other peer mid within further now then close. journal-failed rows before earlier r other peer mid journal within further now then close;
 }
   where
-    origin : (before : List Row) (r : Row) → Within rows before r → 0 < length (entries_of r) → ((place : ℕ) × Commits r place) ⊎ IsCompletion r
+    origin : (before : List Row) (r : Row) → Within rows before r → 0 < length (entries_of r) → ((place : ℕ) × Commits r place) ⊎ IsCompletion before r
     origin before r within some =
         let it : Made before r = each_row rows before r journal within in
-        subst (λ (x : Row). ((place : ℕ) × Commits x place) ⊎ IsCompletion x) (sym it.is)
+        subst (λ (x : Row). ((place : ℕ) × Commits x place) ⊎ IsCompletion before x) (sym it.is)
         (row-origin before it.step it.starved (subst (λ (x : Row). 0 < length (entries_of x)) it.is some))

@@ -43,6 +43,11 @@ entries-row before r = refl
 pub entries-none_noted : (rows : List Row) (r : Row) → entries_in r.notes ≡ [] → entries (r ∷ rows) ≡ entries rows
 entries-none_noted rows r quiet = entries-row rows r ∙ (ap (λ more. entries rows ++ more) quiet ∙ append-nil (entries rows))
 
+-- the entries up to a row hold those before it
+pub entries-IsPrefix-row : (before : List Row) (r : Row) → IsFront (entries before) (entries (r ∷ before))
+unfolding entries
+entries-IsPrefix-row before r = (entries_of r, refl)
+
 -- the greatest moment with one row more
 pub latest-row : (before : List Row) (r : Row) → r.moment.0 ≤ latest (r ∷ before)
 unfolding latest

@@ -39,6 +39,17 @@ EntryHeard-after : (peer : Peer) (history : List Entry) (moment : ℕ) (notes mo
 EntryHeard-after peer history moment notes more h (silent g) = silent (none-append notes more h g)
 EntryHeard-after peer history moment notes more h (ends g next) = ends (ends_after peer notes more g) (NotesNext-after history moment notes more h next)
 
+-- a response that belongs to no fetch
+pub no_fetch-entries_in : (rows : List Row) (moment : ℕ) (s : Step) (m : Message) → fetch_of s m (events rows) ≡ None → entries_in (response_effects rows moment s m).notes ≡ []
+unfolding response_effects
+no_fetch-entries_in rows moment s m none = rw none (foreign m.kind)
+  where
+    foreign : (k : Kind4) → entries_in (strange s m k).notes ≡ []
+    foreign Con = refl
+    foreign Non = refl
+    foreign Ack = refl
+    foreign Rst = refl
+
 -- a response
 pub response_effects-EntryHeard : (rows : List Row) (moment : ℕ) (s : Step) (m : Message) → EntryHeard s.peer (entries rows) moment (response_effects rows moment s m).notes
 unfolding response_effects

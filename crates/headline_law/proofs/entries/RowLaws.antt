@@ -1,13 +1,12 @@
 -- Laws of rows: at most one entry, which comes next after the entries before, in the row of a commit or of a response that completed a fetch; and moments do not fall.
-use Rattle.std.proofs.Common.{◌≡◌, ◌⊎◌, inl, inr, ℕ, ◌<◌, ◌≤◌, Bool, true, List, length, ap, arith}
-use Rattle.std.specs.List.{list_any}
+use Rattle.std.proofs.Common.{◌≡◌, ◌⊎◌, inl, inr, ℕ, ◌<◌, ◌≤◌, Bool, List, length, ap, arith}
 use Rattle.std.proofs.Math.Nat.{le-max_right}
 use Rattle.journal_model.specs.declared.steps.Step.{Step}
 use Rattle.journal_model.specs.declared.steps.StepKind.TheVariants as step
 use Rattle.journal_model.specs.declared.rows.Row.{Row}
 use Rattle.journal_model.specs.Journal.{entries, entries_of, latest}
 use Rattle.journal_model.specs.Rows.{effects, row_moment, row}
-use Rattle.journal_model.specs.Headline.{Commits, is_end_of_fetch, IsCompletion}
+use Rattle.journal_model.specs.Headline.{Commits, IsCompletion}
 use Rattle.journal_model.proofs.EntriesNoted.{entries_in, NotesNext, NotesNext-single}
 use Rattle.headline_law.proofs.entries.EntryOrigins.{EntryOrigin, nowhere, commit, completion, effects-EntryOrigin, EntryOrigin-NotesNext}
 
@@ -15,7 +14,7 @@ use Rattle.headline_law.proofs.entries.EntryOrigins.{EntryOrigin, nowhere, commi
 pub row-NotesNext : (rows : List Row) (s : Step) (starved : Bool) → NotesNext (entries rows) (row rows s starved).moment.0 (row rows s starved).notes
 unfolding row
 row-NotesNext rows s starved =
-    EntryOrigin-NotesNext s.kind s.peer (entries rows) (row_moment rows s) (effects s.kind starved rows (row_moment rows s) s).notes (effects-EntryOrigin s.kind starved rows (row_moment rows s) s)
+    EntryOrigin-NotesNext s.kind rows (row_moment rows s) s (effects s.kind starved rows (row_moment rows s) s).notes (effects-EntryOrigin s.kind starved rows (row_moment rows s) s)
 
 -- a row has at most one entry
 pub row-single : (rows : List Row) (s : Step) (starved : Bool) → length (entries_of (row rows s starved)) ≤ 1
@@ -23,15 +22,18 @@ row-single rows s starved = NotesNext-single (entries rows) (row rows s starved)
 
 -- an entry stands in the row of a commit, or of a response that completed a fetch
 pub row-origin : (rows : List Row) (s : Step) (starved : Bool) → 0 < length (entries_of (row rows s starved))
-    → ((place : ℕ) × Commits (row rows s starved) place) ⊎ IsCompletion (row rows s starved)
+    → ((place : ℕ) × Commits (row rows s starved) place) ⊎ IsCompletion rows (row rows s starved)
 unfolding row
 row-origin rows s starved some = by (effects-EntryOrigin s.kind starved rows (row_moment rows s) s)
   where
-    by : EntryOrigin s.kind s.peer (entries rows) (row_moment rows s) (effects s.kind starved rows (row_moment rows s) s).notes
-        → ((place : ℕ) × (s.kind ≡ step.Commit place)) ⊎ ((s.kind ≡ step.Admit) × (list_any (is_end_of_fetch s.peer) (effects s.kind starved rows (row_moment rows s) s).notes ≡ true))
+    by : EntryOrigin s.kind rows (row_moment rows s) s (effects s.kind starved rows (row_moment rows s) s).notes
+        → ((place : ℕ) × (s.kind ≡ step.Commit place)) ⊎ IsCompletion rows (row rows s starved)
     by (nowhere h) = absurd (let no : length (entries_in (effects s.kind starved rows (row_moment rows s) s).notes) ≡ 0 = ap length h in omega (arith, some, no))
     by (commit place e next) = inl (place, e)
-    by (completion e h next) = inr (e, h)
+    by (completion e m read responds request fetch h next) = inr (record {
+      answers = record { kind = e; message = m; read = read; response = responds; request = request; fetch = fetch };
+      ended = h;
+    })
 
 -- the moment of a row is not below those of the rows before it
 pub row-moment_latest : (rows : List Row) (s : Step) (starved : Bool) → latest rows ≤ (row rows s starved).moment.0

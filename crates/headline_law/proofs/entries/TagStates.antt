@@ -1,4 +1,4 @@
--- Equally tagged answers come from one state.
+-- Equal tags at two rows mean one state.
 use Rattle.std.proofs.Common.{◌≡◌, ◌≤◌, List, ◌∷◌, arith, subst, sym}
 use Rattle.std.proofs.Math.Nat.{max-le, le_refl}
 use Rattle.rd_base.specs.declared.queries.Query.{Query}
@@ -8,7 +8,7 @@ use Rattle.history_model.proofs.TagLaws.{tag_from_tells, listing-live}
 use Rattle.journal_model.specs.declared.rows.Row.{Row}
 use Rattle.journal_model.specs.Journal.{entries, latest}
 use Rattle.journal_model.specs.Machine.{IsJournal, made}
-use Rattle.journal_model.specs.Headline.{Within, TagsDecideStates}
+use Rattle.journal_model.specs.Headline.{Within}
 use Rattle.headline_law.proofs.entries.JournalLaws.{Made, each_row, HasHistory, journal-HasHistory, journal-moments, entries-IsFront}
 
 -- a row with the rows before it is a journal
@@ -26,7 +26,7 @@ in_time rows before r journal within =
     omega (arith, here.in_time, last)
 
 -- where the tags at two rows are equal, so are the histories and the live registrations
-tags_tell : (rows before other_before : List Row) (r other : Row) → IsJournal rows → Within rows before r → Within rows other_before other
+pub tags_tell : (rows before other_before : List Row) (r other : Row) → IsJournal rows → Within rows before r → Within rows other_before other
     → tag (entries (r ∷ before)) r.moment.0 ≡ tag (entries (other ∷ other_before)) other.moment.0
     → (entries (r ∷ before) ≡ entries (other ∷ other_before)) × (live (entries (r ∷ before)) r.moment.0 ≡ live (entries (other ∷ other_before)) other.moment.0)
 tags_tell rows before other_before r other journal here there same =
@@ -34,18 +34,11 @@ tags_tell rows before other_before r other journal here there same =
     (journal-HasHistory rows journal).legal (entries-IsFront rows before r here) (entries-IsFront rows other_before other there)
     (in_time rows before r journal here) (in_time rows other_before other journal there) same
 
--- equally tagged answers come from one state
-pub journal-TagsDecideStates : (rows : List Row) → IsJournal rows → TagsDecideStates rows
-journal-TagsDecideStates rows journal = record {
-  histories = λ before other_before r other here there same. (tags_tell rows before other_before r other journal here there same).0;
-  records = λ before other_before r other here there same. (tags_tell rows before other_before r other journal here there same).1;
-}
-
--- and so they carry blocks of one listing, for an equal query
+-- and so the listings of a query are equal
 -- An end theorem: nothing here cites it.
 pub journal-listings : (rows before other_before : List Row) (r other : Row) (query : Query) → IsJournal rows → Within rows before r → Within rows other_before other
     → tag (entries (r ∷ before)) r.moment.0 ≡ tag (entries (other ∷ other_before)) other.moment.0
     → listing query (entries (r ∷ before)) r.moment.0 ≡ listing query (entries (other ∷ other_before)) other.moment.0
 journal-listings rows before other_before r other query journal here there same =
     listing-live query (entries (r ∷ before)) (entries (other ∷ other_before)) r.moment.0 other.moment.0
-    ((journal-TagsDecideStates rows journal).records before other_before r other here there same)
+    (tags_tell rows before other_before r other journal here there same).1

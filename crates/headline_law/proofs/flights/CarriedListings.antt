@@ -18,8 +18,9 @@ use Rattle.journal_model.specs.declared.steps.StepKind.TheVariants as step
 use Rattle.journal_model.specs.declared.rows.Row.{Row}
 use Rattle.journal_model.specs.Journal.{events, entries}
 use Rattle.journal_model.specs.Ticks.{notices_again}
-use Rattle.journal_model.specs.Headline.{Placed, has_listing, former_noted, former_of_notice, former_at, observer_named, query_answered, FormedAs}
-use Rattle.headline_law.proofs.sends.BodyAnswers.{Bears, bears_carries}
+use Rattle.journal_model.specs.Headline.{Placed, is_content, is_tagged, answers_lookup, former_noted, former_of_notice, former_at, asked_by_observer, observer_named, asked_at, FormedAs}
+use Rattle.headline_law.proofs.entries.JournalLaws.{entries-IsPrefix-row}
+use Rattle.headline_law.proofs.sends.BodyAnswers.{wanted_by_observer, Bears, bears_carries}
 use Rattle.rd_base.proofs.lemmas.Among.{Among, all_among, among_all, find_only}
 use Rattle.headline_law.proofs.notes.LookupNotes.{OfWatched, observers_all}
 use Rattle.headline_law.proofs.flights.NoticesAgain.{events_after_again, again_none}
@@ -28,7 +29,8 @@ use Rattle.rd_base.proofs.lemmas.Each.{each_failing}
 
 -- whatever listing a datagram of a row is read to have was formed as the headline says
 abbrev pub Carried : Placed → Peer × List ℕ → Type 0
-Carried here d = (m : Message) → reading d.1 ≡ Ok m → has_listing m ≡ true → FormedAs here d.0 m
+Carried here d =
+    (m : Message) → reading d.1 ≡ Ok m → is_content m ≡ true → (answers_lookup here.row.step.kind (reading here.row.step.datagram) || is_tagged m) ≡ true → FormedAs here d.0 m
 
 -- ---- which note names the row that formed a body
 
@@ -99,14 +101,15 @@ observer_named-Some rows o stands =
 
 -- a message that an observer is sent, as the headline has it
 pub observer_formed : (here former : Placed) (o : Observer) (d : Peer × List ℕ) (m : Message) → here.row.step.kind ≡ step.Tick → Among o (observers (events here.before)) → d.0 ≡ o.peer
-    → Bears o.token (listing o.query (entries (former.row ∷ former.before)) former.row.moment.0) (tag (entries (former.row ∷ former.before)) former.row.moment.0) m
+    → Bears (wanted_by_observer o) (listing o.query (entries (former.row ∷ former.before)) former.row.moment.0) (tag (entries (former.row ∷ former.before)) former.row.moment.0) m
     → former_noted d.0 m.mid here.row.notes here ≡ Some former → FormedAs here d.0 m
 observer_formed here former o d m tick stands same bears formed = record {
   former = former;
   formed = subst (λ k. former_at k d.0 m.mid here ≡ Some former) (sym tick) formed;
-  query = o.query;
-  asked = subst (λ k. query_answered k (d.0, m.token) here ≡ Some o.query) (sym tick)
-      (ap (λ (name : RequestName). option_map (λ (x : Observer). x.query) (observer_named name here.before)) (ap₂ (λ p t. (p, t)) same bears.token_is)
-      ∙ ap (λ found. option_map (λ (x : Observer). x.query) found) (observer_named-Some here.before o stands));
-  carries = bears_carries o.token o.query (entries (former.row ∷ former.before)) former.row.moment.0 m bears;
+  asked = asked_by_observer o;
+  asks = subst (λ k. asked_at k (d.0, m.token) here ≡ Some (asked_by_observer o)) (sym tick)
+      (ap (λ (name : RequestName). option_map (λ (x : Observer). asked_by_observer x) (observer_named name here.before)) (ap₂ (λ p t. (p, t)) same bears.token_is)
+      ∙ ap (λ found. option_map (λ (x : Observer). asked_by_observer x) found) (observer_named-Some here.before o stands));
+  carries = bears_carries (wanted_by_observer o) o.query (entries (former.row ∷ former.before)) former.row.moment.0 m bears;
+  holds_seen = entries-IsPrefix-row former.before former.row;
 }

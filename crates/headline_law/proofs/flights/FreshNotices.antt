@@ -19,7 +19,7 @@ use Rattle.event_model.proofs.NotedLaws.{event_at, noted-append}
 use Rattle.journal_model.specs.declared.rows.Row.{Row}
 use Rattle.journal_model.specs.Journal.{events}
 use Rattle.journal_model.specs.Effects.{Effects}
-use Rattle.journal_model.specs.Headline.{has_listing, forms_notice}
+use Rattle.journal_model.specs.Headline.{is_content, forms_notice}
 use Rattle.rd_base.proofs.lemmas.Among.{Among}
 use Rattle.journal_model.proofs.FlightKeys.{flight_key, is_landing, key_same_all, key_formed}
 use Rattle.headline_law.proofs.flights.WaitedPeers.{changes_observers, observers_same, Waits, flies_key}
@@ -62,8 +62,8 @@ with_notice {done = done} new drew = record {
 pub so_far_noticed : (rows : List Row) (moment word : ℕ) (done : Effects) (new : NewNotice rows moment word done) (drew : ℕ) → TickSoFar rows moment word done → TickSoFar rows moment word (with_notice new drew)
 so_far_noticed rows moment word done new drew it = record {
   stand = ap observers split ∙ (observers_same (length rows) moment word (notes_of new) Before changing ∙ it.stand);
-  sends = each_append (λ (d : Peer × List ℕ). (m : Message) → reading d.1 ≡ Ok m → has_listing m ≡ true → Waits d.0 After) done.sent ((new.observer.peer, new.octets) ∷ [])
-      (each_weaker (λ (d : Peer × List ℕ). (m : Message) → reading d.1 ≡ Ok m → has_listing m ≡ true → Waits d.0 Before) (λ (d : Peer × List ℕ). (m : Message) → reading d.1 ≡ Ok m → has_listing m ≡ true → Waits d.0 After) (λ d h m e listed. on d.0 (h m e listed)) done.sent it.sends) ((λ m e listed. x_waits), tt);
+  sends = each_append (λ (d : Peer × List ℕ). (m : Message) → reading d.1 ≡ Ok m → is_content m ≡ true → Waits d.0 After) done.sent ((new.observer.peer, new.octets) ∷ [])
+      (each_weaker (λ (d : Peer × List ℕ). (m : Message) → reading d.1 ≡ Ok m → is_content m ≡ true → Waits d.0 Before) (λ (d : Peer × List ℕ). (m : Message) → reading d.1 ≡ Ok m → is_content m ≡ true → Waits d.0 After) (λ d h m e listed. on d.0 (h m e listed)) done.sent it.sends) ((λ m e listed. x_waits), tt);
   waits_on = λ peer w. on peer (it.waits_on peer w);
   origins = each_append (λ (d : Peer × List ℕ). AgainSent rows moment d ⊎ FreshSent rows moment word d) done.sent ((new.observer.peer, new.octets) ∷ []) it.origins
       (inr (record { observer = new.observer; stands = new.stands; of_peer = refl; body = new.notice; free = λ w. new.free (it.waits_on new.observer.peer w) }), tt);
@@ -147,7 +147,7 @@ so_far_noticed rows moment word done new drew it = record {
     known_flying o stands flies = flying o (subst (Among o) (sym it.stand) stands) (flies_key o (noted (length rows) moment word done.notes (events rows)) ∙ flies)
 
     -- nothing was sent to it before
-    none_before : (d : Peer × List ℕ) → ((m : Message) → reading d.1 ≡ Ok m → has_listing m ≡ true → Waits d.0 (noted (length rows) moment word done.notes (events rows)))
+    none_before : (d : Peer × List ℕ) → ((m : Message) → reading d.1 ≡ Ok m → is_content m ≡ true → Waits d.0 (noted (length rows) moment word done.notes (events rows)))
         → is_same_peer d.0 new.observer.peer ≡ true → IsNoticeOf rows moment new.observer d.1
     none_before d h same m e listed =
         absurd (new.free (subst (λ p. Waits p (noted (length rows) moment word done.notes (events rows))) ((is_same_peer-Decides d.0 new.observer.peer).0 same) (h m e listed)))
@@ -160,7 +160,7 @@ so_far_noticed rows moment word done new drew it = record {
         (or_left (is_same_peer new.observer.peer new.observer.peer && new.mid == new.mid) (list_any (forms_notice new.observer.peer new.mid) new.kept)
         (and_from (is_same_peer new.observer.peer new.observer.peer) (new.mid == new.mid) (is_same_peer-refl new.observer.peer) (eqb-refl new.mid))))
         (each_append (λ (d : Peer × List ℕ). is_same_peer d.0 new.observer.peer ≡ true → IsNoticeOf rows moment new.observer d.1) done.sent ((new.observer.peer, new.octets) ∷ [])
-        (each_weaker (λ (d : Peer × List ℕ). (m : Message) → reading d.1 ≡ Ok m → has_listing m ≡ true → Waits d.0 Before) (λ (d : Peer × List ℕ). is_same_peer d.0 new.observer.peer ≡ true → IsNoticeOf rows moment new.observer d.1) none_before done.sent it.sends) ((λ same. new.notice), tt))
+        (each_weaker (λ (d : Peer × List ℕ). (m : Message) → reading d.1 ≡ Ok m → is_content m ≡ true → Waits d.0 Before) (λ (d : Peer × List ℕ). is_same_peer d.0 new.observer.peer ≡ true → IsNoticeOf rows moment new.observer d.1) none_before done.sent it.sends) ((λ same. new.notice), tt))
 
     -- the others
     flight_so_far : (o : Observer) → Among o (observers (events_after_again rows moment word)) → FlightSoFar rows moment word o done → FlightSoFar rows moment word o (with_notice new drew)

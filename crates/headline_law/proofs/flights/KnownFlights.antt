@@ -16,7 +16,7 @@ use Rattle.event_model.proofs.NotedLaws.{Found, last_event-here}
 use Rattle.journal_model.specs.declared.rows.Row.{Row}
 use Rattle.journal_model.specs.Journal.{events, entries, row_at}
 use Rattle.journal_model.specs.Headline.{Placed, last_row, forms_notice, former_of_notice}
-use Rattle.headline_law.proofs.sends.BodyAnswers.{IsBodyOf}
+use Rattle.headline_law.proofs.sends.BodyAnswers.{wanted_by_observer, IsBodyOf}
 use Rattle.journal_model.proofs.EventRows.{found_in}
 use Rattle.headline_law.proofs.notes.LookupNotes.{OfWatched, observers_all}
 use Rattle.journal_model.proofs.FlightKeys.{flight_key, key_before_all, is_notice, key_none}
@@ -29,7 +29,7 @@ pub record NoticeOf (rows : List Row) (o : Observer) (mid place : ℕ) : Type 0 
   pub below : place < length rows
   pub at_place : row_at place rows ≡ Some placed.row
   pub sent : AllByRecursion (λ (d : Peer × List ℕ). is_same_peer d.0 o.peer ≡ true
-      → IsBodyOf o.token (listing o.query (entries (placed.row ∷ placed.before)) placed.row.moment.0) (tag (entries (placed.row ∷ placed.before)) placed.row.moment.0) d.1) placed.row.sent
+      → IsBodyOf (wanted_by_observer o) (listing o.query (entries (placed.row ∷ placed.before)) placed.row.moment.0) (tag (entries (placed.row ∷ placed.before)) placed.row.moment.0) d.1) placed.row.sent
 
 -- whatever notice is in flight to an observer
 abbrev pub FlightKnown : List Row → Observer → Type 0

@@ -17,7 +17,7 @@ use Rattle.event_model.proofs.NotedLaws.{noted-append}
 use Rattle.journal_model.specs.declared.rows.Row.{Row}
 use Rattle.journal_model.specs.Journal.{events, entries, row_at}
 use Rattle.journal_model.specs.Headline.{last_row, forms_notice}
-use Rattle.headline_law.proofs.sends.BodyAnswers.{IsBodyOf, none_of_any, other_code}
+use Rattle.headline_law.proofs.sends.BodyAnswers.{wanted_by_observer, IsBodyOf, none_of_any, other_code}
 use Rattle.rd_base.proofs.lemmas.Among.{Among, all_among, among_all}
 use Rattle.journal_model.proofs.FlightKeys.{flight_key, is_landing, key_same_all}
 use Rattle.headline_law.proofs.flights.WaitedPeers.{changes_observers, observers_same}
@@ -70,11 +70,11 @@ formed_here rows r t o mid noted_so sent = record {
   at_place = rw (eqb-refl (length rows)) refl;
   sent = subst (AllByRecursion To) (sym t.sent)
       (each_append To t.notified.sent t.requests.sent (each_weaker (λ (d : Peer × List ℕ). is_same_peer d.0 o.peer ≡ true → IsNoticeOf rows r.moment.0 o d.1) To (λ d h same. as_row rows r o d.1 t.same_entries (h same)) t.notified.sent sent)
-      (each_weaker (λ (d : Peer × List ℕ). IsPlain d.1) To (λ d plain same. none_of_any o.token (listing o.query (entries (r ∷ rows)) r.moment.0) (tag (entries (r ∷ rows)) r.moment.0) d.1 (other_code d.1 plain.no_content)) t.requests.sent t.plain));
+      (each_weaker (λ (d : Peer × List ℕ). IsPlain d.1) To (λ d plain same. none_of_any (wanted_by_observer o) (listing o.query (entries (r ∷ rows)) r.moment.0) (tag (entries (r ∷ rows)) r.moment.0) d.1 (other_code d.1 plain.no_content)) t.requests.sent t.plain));
 }
   where
     To : Peer × List ℕ → Type 0
-    To d = is_same_peer d.0 o.peer ≡ true → IsBodyOf o.token (listing o.query (entries (r ∷ rows)) r.moment.0) (tag (entries (r ∷ rows)) r.moment.0) d.1
+    To d = is_same_peer d.0 o.peer ≡ true → IsBodyOf (wanted_by_observer o) (listing o.query (entries (r ∷ rows)) r.moment.0) (tag (entries (r ∷ rows)) r.moment.0) d.1
 
     here : list_any (forms_notice o.peer mid) r.notes ≡ true
     here = subst (λ ns. list_any (forms_notice o.peer mid) ns ≡ true) (sym t.notes)

@@ -1,10 +1,9 @@
 -- All notices of a tick, one after the other.
-use Rattle.std.proofs.Common.{◌≡◌, ◌⊎◌, inl, ℕ, ◌+◌, ◌&&◌, ◌≤◌, Bool, true, false, not, cond, List, [], ◌∷◌, ◌++◌, length, fold, Some, Ok, refl, sym, ap, subst, ◌∙◌, nat_le}
+use Rattle.std.proofs.Common.{◌≡◌, ◌⊎◌, inl, ℕ, ◌+◌, ◌&&◌, Bool, true, false, not, cond, List, [], ◌∷◌, ◌++◌, fold, Some, Ok, refl, sym, ap, subst, ◌∙◌, nat_le}
 use Rattle.std.specs.List.{list_any, AllByRecursion}
 use Rattle.std.proofs.lemmas.Bool.{false≢true, and_parts}
 use Rattle.rd_base.specs.declared.peers.Peer.{Peer}
-use Rattle.message_model.specs.declared.messages.Kind4.TheVariants.{Con}
-use Rattle.message_model.specs.Message.{longest_token, Message}
+use Rattle.message_model.specs.Message.{Message}
 use Rattle.history_model.specs.Listing.{listing, tag}
 use Rattle.event_model.specs.declared.notes.Note.{Note}
 use Rattle.event_model.specs.declared.notes.Note.TheVariants as note
@@ -19,15 +18,16 @@ use Rattle.journal_model.specs.declared.rows.Row.{Row}
 use Rattle.journal_model.specs.Journal.{entries}
 use Rattle.journal_model.specs.Effects.{Effects, mid_of}
 use Rattle.journal_model.specs.Bodies.{is_long}
-use Rattle.journal_model.specs.Ticks.{max_notices, first_block, block_shown, listing_for, is_unchanged, is_looked_at, events_with, ticking, noticed_unless, noticed_if, notice_next, notices_again, notices}
-use Rattle.headline_law.proofs.sends.BodyAnswers.{tag-length, body_bears}
+use Rattle.journal_model.specs.Ticks.{max_notices, first_block, listing_for, is_unchanged, is_looked_at, events_with, ticking, noticed_unless, noticed_if, notice_next, notices_again, notices}
+use Rattle.headline_law.proofs.notes.LookupNotes.{IsAsking}
+use Rattle.headline_law.proofs.sends.BodyAnswers.{tag-length, notice_bears}
 use Rattle.rd_base.proofs.lemmas.Among.{Among, all_among, among_all}
 use Rattle.journal_model.proofs.FlightKeys.{is_landing}
 use Rattle.headline_law.proofs.flights.WaitedPeers.{changes_observers, Waits, waited}
 use Rattle.headline_law.proofs.flights.NoticesAgain.{again_peer, AgainSent, AgainNoted, again_notes, again_sends, again_none, events_after_again, again_key, again_waits}
 use Rattle.headline_law.proofs.flights.TickNotices.{is_notice_to, as_before, TickSoFar, so_far_quiet, FreshSent}
 use Rattle.message_model.specs.Reading.{reading}
-use Rattle.journal_model.specs.Headline.{has_listing}
+use Rattle.journal_model.specs.Headline.{is_content}
 use Rattle.headline_law.proofs.flights.FreshNotices.{NewNotice, so_far_noticed}
 use Rattle.rd_base.proofs.lemmas.Each.{each_weaker}
 
@@ -35,7 +35,7 @@ use Rattle.rd_base.proofs.lemmas.Each.{each_weaker}
 pub tick_begins : (rows : List Row) (moment word : ℕ) → TickSoFar rows moment word (notices_again rows moment)
 tick_begins rows moment word = record {
   stand = refl;
-  sends = each_weaker (AgainSent rows moment) (λ (d : Peer × List ℕ). (m : Message) → reading d.1 ≡ Ok m → has_listing m ≡ true → Waits d.0 (events_after_again rows moment word)) (λ d a m e listed. subst (λ p. Waits p (events_after_again rows moment word)) (sym (again_peer rows moment d a)) (again_waits rows moment word a.observer a.flight_is a.again))
+  sends = each_weaker (AgainSent rows moment) (λ (d : Peer × List ℕ). (m : Message) → reading d.1 ≡ Ok m → is_content m ≡ true → Waits d.0 (events_after_again rows moment word)) (λ d a m e listed. subst (λ p. Waits p (events_after_again rows moment word)) (sym (again_peer rows moment d a)) (again_waits rows moment word a.observer a.flight_is a.again))
       (notices_again rows moment).sent (again_sends rows moment);
   waits_on = λ peer w. w;
   origins = each_weaker (AgainSent rows moment) (λ (d : Peer × List ℕ). AgainSent rows moment d ⊎ FreshSent rows moment word d) (λ d a. inl a) (notices_again rows moment).sent (again_sends rows moment);
@@ -56,9 +56,9 @@ kept_again rows moment true peer key body current = (tt, tt)
 kept_again rows moment false peer key body current = tt
 
 -- one observer
-tick_step : (rows : List Row) (moment : ℕ) (s : Step) (x : Observer) (done : Effects) → Among x (observers (events_after_again rows moment s.word)) → length x.token ≤ longest_token
+tick_step : (rows : List Row) (moment : ℕ) (s : Step) (x : Observer) (done : Effects) → Among x (observers (events_after_again rows moment s.word)) → IsAsking x
     → TickSoFar rows moment s.word done → TickSoFar rows moment s.word (notice_next (ticking rows moment s) done x)
-tick_step rows moment s x done stands small it = looked (is_looked_at (ticking rows moment s) done x) refl
+tick_step rows moment s x done stands asking it = looked (is_looked_at (ticking rows moment s) done x) refl
   where
     not_waited : is_looked_at (ticking rows moment s) done x ≡ true → Waits x.peer (events_with (ticking rows moment s) done) → ⊥
     not_waited e w =
@@ -81,8 +81,8 @@ tick_step rows moment s x done stands small it = looked (is_looked_at (ticking r
       stands = stands;
       only = only;
       free = not_waited e;
-      notice = body_bears Con (mid_of s.worker (s.drawn + done.drew)) x.token (tag (entries rows) moment) (Some (observe_value (events_with (ticking rows moment s) done)))
-          (block_shown x (listing x.query (entries rows) moment)) (listing x.query (entries rows) moment) small (tag-length (entries rows) moment);
+      notice = notice_bears (mid_of s.worker (s.drawn + done.drew)) (tag (entries rows) moment) (Some (observe_value (events_with (ticking rows moment s) done)))
+          x (listing x.query (entries rows) moment) asking.token (tag-length (entries rows) moment) asking.szx;
       forms_none = λ o. kept_does (is_forming_for (name_of o)) (λ p k b c. refl) (is_long (first_block x) (listing x.query (entries rows) moment)) x.peer x.key _ _;
       lands_none = kept_does is_landing (λ p k b c. refl) (is_long (first_block x) (listing x.query (entries rows) moment)) x.peer x.key _ _;
       changes_none = kept_does changes_observers (λ p k b c. refl) (is_long (first_block x) (listing x.query (entries rows) moment)) x.peer x.key _ _;
@@ -107,17 +107,17 @@ tick_step rows moment s x done stands small it = looked (is_looked_at (ticking r
     looked false e = so_far_quiet rows moment s.word done [] (done.drew + 0) (λ o. refl) refl refl (λ peer. refl) tt it
 
 -- all of them
-tick_folds : (rows : List Row) (moment : ℕ) (s : Step) (left : List Observer) (done : Effects) → AllByRecursion (λ x. Among x (observers (events_after_again rows moment s.word)) × (length x.token ≤ longest_token)) left
+tick_folds : (rows : List Row) (moment : ℕ) (s : Step) (left : List Observer) (done : Effects) → AllByRecursion (λ x. Among x (observers (events_after_again rows moment s.word)) × IsAsking x) left
     → TickSoFar rows moment s.word done → TickSoFar rows moment s.word (fold (notice_next (ticking rows moment s)) done left)
 tick_folds rows moment s [] done known it = it
 tick_folds rows moment s (x ∷ left) done known it =
     tick_folds rows moment s left (notice_next (ticking rows moment s) done x) known.1 (tick_step rows moment s x done known.0.0 known.0.1 it)
 
 -- after its notices
-pub tick_notifies : (rows : List Row) (moment : ℕ) (s : Step) → ((x : Observer) → Among x (observers (events_after_again rows moment s.word)) → length x.token ≤ longest_token)
+pub tick_notifies : (rows : List Row) (moment : ℕ) (s : Step) → ((x : Observer) → Among x (observers (events_after_again rows moment s.word)) → IsAsking x)
     → TickSoFar rows moment s.word (notices (ticking rows moment s) (notices_again rows moment))
 unfolding notices
-tick_notifies rows moment s small =
+tick_notifies rows moment s asking =
     tick_folds rows moment s (observers (events_after_again rows moment s.word)) (notices_again rows moment)
-    (among_all (λ x. Among x (observers (events_after_again rows moment s.word)) × (length x.token ≤ longest_token)) (observers (events_after_again rows moment s.word)) (λ x stands. (stands, small x stands)))
+    (among_all (λ x. Among x (observers (events_after_again rows moment s.word)) × IsAsking x) (observers (events_after_again rows moment s.word)) (λ x stands. (stands, asking x stands)))
     (tick_begins rows moment s.word)

@@ -20,8 +20,8 @@ use Rattle.journal_model.specs.Journal.{events, entries}
 use Rattle.journal_model.specs.Effects.{Effects}
 use Rattle.journal_model.specs.Ticks.{notices}
 use Rattle.journal_model.specs.Ticks.{notices_again}
-use Rattle.journal_model.specs.Headline.{has_listing, forms_notice}
-use Rattle.headline_law.proofs.sends.BodyAnswers.{IsBodyOf}
+use Rattle.journal_model.specs.Headline.{is_content, forms_notice}
+use Rattle.headline_law.proofs.sends.BodyAnswers.{wanted_by_observer, IsBodyOf}
 use Rattle.rd_base.proofs.lemmas.Among.{Among}
 use Rattle.journal_model.proofs.FlightKeys.{flight_key, is_landing, key_same_all}
 use Rattle.headline_law.proofs.flights.WaitedPeers.{changes_observers, observers_same, Waits, flies_key}
@@ -36,7 +36,7 @@ is_notice_to peer _ = false
 
 -- the datagram has whatever listing it has from the listing of an observer now
 abbrev pub IsNoticeOf : List Row → ℕ → Observer → List ℕ → Type 0
-IsNoticeOf rows moment o octets = IsBodyOf o.token (listing o.query (entries rows) moment) (tag (entries rows) moment) octets
+IsNoticeOf rows moment o octets = IsBodyOf (wanted_by_observer o) (listing o.query (entries rows) moment) (tag (entries rows) moment) octets
 
 -- what a tick did so far to an observer that stands: its flight is as before, and where it has one its peer got no notice; or a notice was formed for it
 pub data FlightSoFar (rows : List Row) (moment word : ℕ) (o : Observer) (done : Effects) : Type 0 where
@@ -56,7 +56,7 @@ pub record FreshSent (rows : List Row) (moment word : ℕ) (d : Peer × List ℕ
 -- what holds of a tick so far
 pub record TickSoFar (rows : List Row) (moment word : ℕ) (done : Effects) : Type 0 where
   pub stand : observers (noted (length rows) moment word done.notes (events rows)) ≡ observers (events_after_again rows moment word)
-  pub sends : AllByRecursion (λ (d : Peer × List ℕ). (m : Message) → reading d.1 ≡ Ok m → has_listing m ≡ true → Waits d.0 (noted (length rows) moment word done.notes (events rows))) done.sent
+  pub sends : AllByRecursion (λ (d : Peer × List ℕ). (m : Message) → reading d.1 ≡ Ok m → is_content m ≡ true → Waits d.0 (noted (length rows) moment word done.notes (events rows))) done.sent
   pub waits_on : (peer : Peer) → Waits peer (events_after_again rows moment word) → Waits peer (noted (length rows) moment word done.notes (events rows))
   pub origins : AllByRecursion (λ (d : Peer × List ℕ). AgainSent rows moment d ⊎ FreshSent rows moment word d) done.sent
   pub flights_so_far : (o : Observer) → Among o (observers (events_after_again rows moment word)) → FlightSoFar rows moment word o done
@@ -71,8 +71,8 @@ pub so_far_quiet : (rows : List Row) (moment word : ℕ) (done : Effects) (more 
     → TickSoFar rows moment word (record { sent = done.sent ++ []; notes = done.notes ++ more; drew = drew })
 so_far_quiet rows moment word done more drew forming landing changing notices agains it = record {
   stand = ap observers split ∙ (observers_same (length rows) moment word more Before changing ∙ it.stand);
-  sends = subst (AllByRecursion (λ (d : Peer × List ℕ). (m : Message) → reading d.1 ≡ Ok m → has_listing m ≡ true → Waits d.0 After)) (sym (append-nil done.sent))
-      (each_weaker (λ (d : Peer × List ℕ). (m : Message) → reading d.1 ≡ Ok m → has_listing m ≡ true → Waits d.0 Before) (λ (d : Peer × List ℕ). (m : Message) → reading d.1 ≡ Ok m → has_listing m ≡ true → Waits d.0 After) (λ d h m e listed. on d.0 (h m e listed)) done.sent it.sends);
+  sends = subst (AllByRecursion (λ (d : Peer × List ℕ). (m : Message) → reading d.1 ≡ Ok m → is_content m ≡ true → Waits d.0 After)) (sym (append-nil done.sent))
+      (each_weaker (λ (d : Peer × List ℕ). (m : Message) → reading d.1 ≡ Ok m → is_content m ≡ true → Waits d.0 Before) (λ (d : Peer × List ℕ). (m : Message) → reading d.1 ≡ Ok m → is_content m ≡ true → Waits d.0 After) (λ d h m e listed. on d.0 (h m e listed)) done.sent it.sends);
   waits_on = λ peer w. on peer (it.waits_on peer w);
   origins = subst (AllByRecursion (λ (d : Peer × List ℕ). AgainSent rows moment d ⊎ FreshSent rows moment word d)) (sym (append-nil done.sent)) it.origins;
   flights_so_far = λ o stands. flight_so_far o (it.flights_so_far o stands);

@@ -1,6 +1,6 @@
 -- What commits and responses note.
-use Rattle.std.proofs.Common.{◌≡◌, ℕ, ◌+◌, Bool, true, false, List, [], ◌∷◌, ◌++◌, length, Option, Some, None, refl, nat_lt, nat_le}
-use Rattle.std.proofs.lemmas.Bool.{and_from}
+use Rattle.std.proofs.Common.{◌≡◌, ℕ, ◌+◌, ◌==◌, Bool, true, false, List, [], ◌∷◌, ◌++◌, length, Option, Some, None, refl, nat_lt, nat_le}
+use Rattle.std.proofs.lemmas.Bool.{and_from, and_parts, false≢true}
 use Rattle.rd_base.specs.declared.parameters.RegParams.{RegParams}
 use Rattle.rd_base.specs.declared.peers.Peer.{Peer}
 use Rattle.message_model.specs.declared.blocks.Block.{Block}
@@ -87,34 +87,59 @@ registering-notes kind entered piece finished rows moment s m = by (sent_block m
         let upload : Option (List ℕ) = live_upload moment (s.peer, key_in m) (events rows) in
         after (collected_before b upload) upload b
 
--- a commit
-pub commit_effects-notes : (rows : List Row) (moment place : ℕ) (s : Step) (m : Message) → are of_commit (commit_effects rows moment place s m).notes ≡ true
-unfolding commit_effects answering
-commit_effects-notes rows moment place s m = by (path_in m)
-  where
-    settled : (done : Outcome) → are of_commit done.notes ≡ true → are of_commit (settling place s m done).notes ≡ true
-    settled done h = are-append of_commit done.notes _ h refl
+-- a write that is done settles it, and notes its change
+abbrev pub of_done : Note → Bool
+of_done (note.Settled place reply) = true
+of_done (note.Entered entry) = true
+of_done (note.Piece peer key number octets) = true
+of_done (note.Finished peer key) = true
+of_done (note.Asked peer token mid params number) = true
+of_done _ = false
 
-    simple : (running too_many : Bool) → are of_commit (simple_unless running too_many (events rows) place s m).notes ≡ true
+-- a commit of a write that is done
+pub commit_effects-done : (rows : List Row) (moment place : ℕ) (s : Step) (m : Message) → are of_done (commit_effects rows moment place s m).notes ≡ true
+unfolding commit_effects answering
+commit_effects-done rows moment place s m = by (path_in m)
+  where
+    settled : (done : Outcome) → are of_done done.notes ≡ true → are of_done (settling place s m done).notes ≡ true
+    settled done h = are-append of_done done.notes _ h refl
+
+    simple : (running too_many : Bool) → are of_done (simple_unless running too_many (events rows) place s m).notes ≡ true
     simple true too_many = refl
     simple false true = refl
     simple false false = refl
 
-    location : (w : Method) (number : ℕ) → are of_commit (on_location w rows moment place s m number).notes ≡ true
+    location : (w : Method) (number : ℕ) → are of_done (on_location w rows moment place s m number).notes ≡ true
     location get number = refl
-    location post number = settled (updating rows moment s m number) (change_made-notes of_commit (λ entry. refl) (entries rows) _ _ refl)
+    location post number = settled (updating rows moment s m number) (change_made-notes of_done (λ entry. refl) (entries rows) _ _ refl)
     location put number = refl
-    location delete number = settled (removing rows moment s number) (change_made-notes of_commit (λ entry. refl) (entries rows) _ _ refl)
+    location delete number = settled (removing rows moment s number) (change_made-notes of_done (λ entry. refl) (entries rows) _ _ refl)
     location other_method number = refl
 
-    by : (p : Path) → are of_commit (write_done p rows moment place s m).notes ≡ true
+    by : (p : Path) → are of_done (write_done p rows moment place s m).notes ≡ true
     by path.Core = refl
     by path.SimpleRd = simple (is_fetching s.peer (events rows)) (nat_le max_fetches (length (fetches (events rows))))
-    by path.Rd = settled (registering rows moment s m) (registering-notes of_commit (λ entry. refl) (λ peer key number octets. refl) (λ peer key. refl) rows moment s m)
+    by path.Rd = settled (registering rows moment s m) (registering-notes of_done (λ entry. refl) (λ peer key number octets. refl) (λ peer key. refl) rows moment s m)
     by (path.Location number) = location (method_of m.code) number
     by path.Res = refl
     by path.Ep = refl
     by path.Other = refl
+
+-- so it notes what commits note
+pub commit_effects-notes : (rows : List Row) (moment place : ℕ) (s : Step) (m : Message) → are of_commit (commit_effects rows moment place s m).notes ≡ true
+commit_effects-notes rows moment place s m = each (commit_effects rows moment place s m).notes (commit_effects-done rows moment place s m)
+  where
+    one : (n : Note) → of_done n ≡ true → of_commit n ≡ true
+    one (note.Settled place reply) h = refl
+    one (note.Entered entry) h = refl
+    one (note.Piece peer key number octets) h = refl
+    one (note.Finished peer key) h = refl
+    one (note.Asked peer token mid params number) h = refl
+    one _ h = absurd (false≢true h)
+
+    each : (notes : List Note) → are of_done notes ≡ true → are of_commit notes ≡ true
+    each [] h = refl
+    each (n ∷ notes) h = let parts = and_parts (of_done n) (are of_done notes) h in and_from (of_commit n) (are of_commit notes) (one n parts.0) (each notes parts.1)
 
 -- a response
 pub response_effects-notes : (rows : List Row) (moment : ℕ) (s : Step) (m : Message) → are of_response (response_effects rows moment s m).notes ≡ true

@@ -1,5 +1,5 @@
 -- What is noted of lookups: answers are kept under the key of a request that asks for their query, and observers ask for theirs.
-use Rattle.std.proofs.Common.{◌≡◌, ℕ, ◌≤◌, ◌==◌, ◌&&◌, ◌||◌, Bool, true, false, not, cond, List, [], ◌∷◌, ◌++◌, length, filter, Option, Some, None, refl, sym, ap, subst, ◌∙◌}
+use Rattle.std.proofs.Common.{◌≡◌, ℕ, ◌≤◌, ◌<◌, ◌==◌, ◌&&◌, ◌||◌, Bool, true, false, not, cond, List, [], ◌∷◌, ◌++◌, length, filter, Option, Some, None, refl, sym, ap, subst, ◌∙◌}
 use Rattle.std.specs.List.{AllByRecursion}
 use Rattle.std.proofs.lemmas.Bool.{false≢true}
 use Rattle.rd_base.specs.declared.peers.Peer.{Peer}
@@ -7,7 +7,7 @@ use Rattle.rd_base.specs.declared.queries.Query.{Query}
 use Rattle.message_model.specs.declared.requests.Path.{Path}
 use Rattle.message_model.specs.declared.requests.Path.TheVariants as path
 use Rattle.message_model.specs.Message.{Message, longest_token}
-use Rattle.message_model.specs.Blocks.{block_of}
+use Rattle.message_model.specs.Blocks.{reserved_szx, block_of}
 use Rattle.message_model.specs.Request.{path_in, queries_in, observe_in}
 use Rattle.message_model.specs.RequestKey.{key_in}
 use Rattle.message_model.proofs.KeyLaws.{FitsKey, IsSameRequest, key_of_once}
@@ -31,6 +31,7 @@ use Rattle.journal_model.specs.Requests.{kind_of, query_of, asked_block, number_
 use Rattle.journal_model.specs.Looks.{look_effects}
 use Rattle.journal_model.specs.Lookups.{listing_now, block_now, block_of_kept, later_block, removal, without, addition, observer_of, keeping, observed_if, observed, unobserved, observation_effects, first_block_effects, block_effects, lookup_effects}
 use Rattle.journal_model.proofs.StepNotes.{look_effects-notes}
+use Rattle.headline_law.proofs.sends.BodyAnswers.{szx-usable, request-usable}
 
 -- a request with this key asks for this query
 pub record Asks (key : List ℕ) (query : Query) : Type 0 where
@@ -70,10 +71,11 @@ asks_once key query m it fits same =
     it.query_is
     ∙ (ap (λ (p : Path). lookup_values (kind_of p) (queries_in it.request)) one.path ∙ ap (λ (qs : List (List ℕ)). lookup_values (kind_of (path_in m)) qs) one.queries)
 
--- an observer asks for its query
+-- an observer asks for its query, in blocks of a size that there is
 pub record IsAsking (o : Observer) : Type 0 where
   pub asks : Asks o.key o.query
   pub token : length o.token ≤ longest_token
+  pub szx : o.szx < reserved_szx
 
 -- an answer is the listing of the query of its key, from a history at a moment
 pub record KeptAt (history : List Entry) (moment : ℕ) (key body current : List ℕ) : Type 0 where
@@ -125,7 +127,7 @@ lookup_notes_as_asked rows moment s m lookup small = by (is_later_block m)
     added true =
         each_append (NoteAsAsked (entries rows) moment) (removal (s.peer, m.token) (observers (events rows))) (addition (observer_of s m) (listing_now rows moment m).body ++ keeping s m (listing_now rows moment m))
         (removed (is_observer (s.peer, m.token) (observers (events rows))) s.peer m.token)
-        (record { asks = asks; token = small }, (tt, keeps (is_long (asked_block m) (listing_now rows moment m).body)))
+        (record { asks = asks; token = small; szx = szx-usable (asked_block m) (request-usable m) }, (tt, keeps (is_long (asked_block m) (listing_now rows moment m).body)))
     added false =
         each_append (NoteAsAsked (entries rows) moment) (removal (s.peer, m.token) (observers (events rows))) (keeping s m (listing_now rows moment m))
         (removed (is_observer (s.peer, m.token) (observers (events rows))) s.peer m.token) (keeps (is_long (asked_block m) (listing_now rows moment m).body))

@@ -35,8 +35,8 @@ pub data StepNoted (kind : StepKind) (starved : Bool) (rows : List Row) (moment 
   write : (m : Message) → kind ≡ step.Admit → notes ≡ (write_effects (events rows) moment s m).notes → StepNoted kind starved rows moment s notes
   lookup : (m : Message) → kind ≡ step.Admit → notes ≡ (lookup_effects rows moment s m).notes → StepNoted kind starved rows moment s notes
   empty : kind ≡ step.Admit → are of_empty notes ≡ true → StepNoted kind starved rows moment s notes
-  response : (m : Message) → kind ≡ step.Admit → notes ≡ (response_effects rows moment s m).notes → StepNoted kind starved rows moment s notes
-  commit : (m : Message) (place : ℕ) → kind ≡ step.Commit place → notes ≡ (commit_effects rows moment place s m).notes → StepNoted kind starved rows moment s notes
+  response : (m : Message) → kind ≡ step.Admit → reading s.datagram ≡ Ok m → role_of m.kind m.code ≡ role.Response → notes ≡ (response_effects rows moment s m).notes → StepNoted kind starved rows moment s notes
+  commit : (m : Message) (place : ℕ) → kind ≡ step.Commit place → reading s.datagram ≡ Ok m → notes ≡ (commit_effects rows moment place s m).notes → StepNoted kind starved rows moment s notes
   failed : (place : ℕ) → kind ≡ step.Commit place → notes ≡ note.Failed place ∷ [] → StepNoted kind starved rows moment s notes
   keep : (m : Message) (body tag : List ℕ) → kind ≡ step.Keep body tag → notes ≡ (keep_effects s m body tag).notes → StepNoted kind starved rows moment s notes
   tick : kind ≡ step.Tick → notes ≡ (tick_effects starved rows moment s).notes → StepNoted kind starved rows moment s notes
@@ -58,32 +58,32 @@ request-StepNoted (Some refusal) starved rows moment s m = nothing (refusal_note
 request-StepNoted None starved rows moment s m = served-StepNoted (path_in m) starved rows moment s m
 
 -- a message as it is heard
-role-StepNoted : (r : Role) (starved : Bool) (rows : List Row) (moment : ℕ) (s : Step) (m : Message) → StepNoted step.Admit starved rows moment s (message_effects r starved rows moment s m).notes
+role-StepNoted : (r : Role) (starved : Bool) (rows : List Row) (moment : ℕ) (s : Step) (m : Message) → reading s.datagram ≡ Ok m → role_of m.kind m.code ≡ r → StepNoted step.Admit starved rows moment s (message_effects r starved rows moment s m).notes
 unfolding answering
-role-StepNoted role.Ping starved rows moment s m = nothing refl
-role-StepNoted role.Acknowledgement starved rows moment s m = empty refl (acknowledged-notes s.peer m.mid (events rows))
-role-StepNoted role.Reset starved rows moment s m = empty refl (reset-notes s.peer m.mid (events rows))
-role-StepNoted role.Request true rows moment s m = nothing refl
-role-StepNoted role.Request false rows moment s m = request-StepNoted (refusal_of_request m) false rows moment s m
-role-StepNoted role.Response true rows moment s m = nothing refl
-role-StepNoted role.Response false rows moment s m = response m refl refl
-role-StepNoted role.Ignored starved rows moment s m = nothing refl
+role-StepNoted role.Ping starved rows moment s m read is = nothing refl
+role-StepNoted role.Acknowledgement starved rows moment s m read is = empty refl (acknowledged-notes s.peer m.mid (events rows))
+role-StepNoted role.Reset starved rows moment s m read is = empty refl (reset-notes s.peer m.mid (events rows))
+role-StepNoted role.Request true rows moment s m read is = nothing refl
+role-StepNoted role.Request false rows moment s m read is = request-StepNoted (refusal_of_request m) false rows moment s m
+role-StepNoted role.Response true rows moment s m read is = nothing refl
+role-StepNoted role.Response false rows moment s m read is = response m refl read is refl
+role-StepNoted role.Ignored starved rows moment s m read is = nothing refl
 
 -- any step
 pub effects-StepNoted : (kind : StepKind) (starved : Bool) (rows : List Row) (moment : ℕ) (s : Step) → StepNoted kind starved rows moment s (effects kind starved rows moment s).notes
 unfolding effects answering
-effects-StepNoted step.Admit starved rows moment s = by (reading s.datagram)
+effects-StepNoted step.Admit starved rows moment s = by (reading s.datagram) refl
   where
-    by : (read : Result Message Unread) → StepNoted step.Admit starved rows moment s (heard starved rows moment s read).notes
-    by (Err fault) = nothing (unread_notes s fault)
-    by (Ok m) = role-StepNoted (role_of m.kind m.code) starved rows moment s m
+    by : (read : Result Message Unread) → reading s.datagram ≡ read → StepNoted step.Admit starved rows moment s (heard starved rows moment s read).notes
+    by (Err fault) e = nothing (unread_notes s fault)
+    by (Ok m) e = role-StepNoted (role_of m.kind m.code) starved rows moment s m e refl
 effects-StepNoted step.Look starved rows moment s = nothing (looked_notes starved (entries rows) moment s (reading s.datagram))
-effects-StepNoted (step.Commit place) starved rows moment s = by starved (reading s.datagram)
+effects-StepNoted (step.Commit place) starved rows moment s = by starved (reading s.datagram) refl
   where
-    by : (b : Bool) (read : Result Message Unread) → StepNoted (step.Commit place) starved rows moment s (done b rows moment place s read).notes
-    by b (Err fault) = nothing refl
-    by true (Ok m) = failed place refl refl
-    by false (Ok m) = commit m place refl refl
+    by : (b : Bool) (read : Result Message Unread) → reading s.datagram ≡ read → StepNoted (step.Commit place) starved rows moment s (done b rows moment place s read).notes
+    by b (Err fault) e = nothing refl
+    by true (Ok m) e = failed place refl refl
+    by false (Ok m) e = commit m place refl e refl
 effects-StepNoted (step.Keep body tag) starved rows moment s = by starved (reading s.datagram)
   where
     by : (b : Bool) (read : Result Message Unread) → StepNoted (step.Keep body tag) starved rows moment s (kept_body b s read body tag).notes

@@ -1,8 +1,7 @@
 -- Each lookup answers the listing of the history at the row that formed it, in each journal of the machine.
-use Rattle.std.proofs.Common.{◌≡◌, ◌≤◌, Bool, true, false, List, [], ◌∷◌, ◌++◌, length, refl, sym, ap, subst, ◌∙◌}
+use Rattle.std.proofs.Common.{◌≡◌, Bool, true, false, List, [], ◌∷◌, ◌++◌, length, refl, sym, ap, subst, ◌∙◌}
 use Rattle.std.specs.List.{list_any, AllByRecursion}
-use Rattle.std.proofs.lemmas.Bool.{false≢true}
-use Rattle.message_model.specs.Message.{longest_token}
+use Rattle.std.proofs.lemmas.Bool.{false≢true, and_parts}
 use Rattle.message_model.specs.Reading.{reading}
 use Rattle.rd_base.proofs.lemmas.Each.{each_weaker}
 use Rattle.event_model.specs.declared.notes.Note.{Note}
@@ -18,7 +17,7 @@ use Rattle.journal_model.specs.Effects.{Effects}
 use Rattle.journal_model.specs.Ticks.{ticking, notices_again, notices, requests_again, tick_effects}
 use Rattle.journal_model.specs.Rows.{effects, row_moment, row}
 use Rattle.journal_model.specs.Machine.{MayMake, MayBegin, IsJournal, begun, made}
-use Rattle.journal_model.specs.Headline.{former_of_body, AnswersAsFormed}
+use Rattle.journal_model.specs.Headline.{former_of_body, FormedAs, is_content, Sent, is_listing, AnswersAsFormed}
 use Rattle.journal_model.proofs.NoteKinds.{of_tick, none_of}
 use Rattle.journal_model.proofs.StepNotes.{requests_again-notes, tick_effects-notes}
 use Rattle.journal_model.proofs.EntriesNoted.{entries_in}
@@ -27,6 +26,7 @@ use Rattle.headline_law.proofs.entries.QuietSteps.{tick_effects-entries_in}
 use Rattle.headline_law.proofs.observers.ObserversKnow.{IsNoTick, step_observer_notes}
 use Rattle.headline_law.proofs.sends.TickSends.{requests_plain}
 use Rattle.headline_law.proofs.sends.ValidLaw.{before_all, journal_sends, looks_are_validated}
+use Rattle.headline_law.proofs.rows.Validations.{sent_validates}
 use Rattle.headline_law.proofs.sends.RowSends.{Before}
 use Rattle.journal_model.proofs.EventRows.{AllRows, row_within}
 use Rattle.rd_base.proofs.lemmas.Among.{Among, all_among, all_at_index}
@@ -93,8 +93,8 @@ tick_of rows r starved past all tick sent notes = by starved sent notes
         never (note.Used peer key) h = absurd (false≢true h)
         never _ h = refl
 
-    small : (o : Observer) → Among o (observers (events_after_again rows r.moment.0 r.step.word)) → length o.token ≤ longest_token
-    small o stands = (all_among IsAsking o (observers (events_after_again rows r.moment.0 r.step.word)) (stood rows r.moment.0 r.step.word IsAsking all.asking) stands).token
+    asking : (o : Observer) → Among o (observers (events_after_again rows r.moment.0 r.step.word)) → IsAsking o
+    asking o stands = all_among IsAsking o (observers (events_after_again rows r.moment.0 r.step.word)) (stood rows r.moment.0 r.step.word IsAsking all.asking) stands
 
     with_parts : (notified : Effects) → TickSoFar rows r.moment.0 r.step.word notified → r.sent ≡ notified.sent ++ (requests_again rows r.moment.0).sent → r.notes ≡ notified.notes ++ (requests_again rows r.moment.0).notes → TickRow rows r
     with_parts notified so_far sends noted = record {
@@ -113,7 +113,7 @@ tick_of rows r starved past all tick sent notes = by starved sent notes
 
     by : (b : Bool) → r.sent ≡ (tick_effects b rows r.moment.0 r.step).sent → r.notes ≡ (tick_effects b rows r.moment.0 r.step).notes → TickRow rows r
     by true s n = with_parts (notices_again rows r.moment.0) (tick_begins rows r.moment.0 r.step.word) s n
-    by false s n = with_parts (notices (ticking rows r.moment.0 r.step) (notices_again rows r.moment.0)) (tick_notifies rows r.moment.0 r.step small) s n
+    by false s n = with_parts (notices (ticking rows r.moment.0 r.step) (notices_again rows r.moment.0)) (tick_notifies rows r.moment.0 r.step asking) s n
 
 -- what is known is known with a row of a tick
 tick_step : (rows : List Row) (r : Row) (starved : Bool) → Before rows → CarriesAll rows → r.step.kind ≡ step.Tick → r.sent ≡ (tick_effects starved rows r.moment.0 r.step).sent
@@ -157,10 +157,16 @@ unfolding events observers
 journal_carries [] begun = record { each = tt; asking = tt; flights = tt }
 journal_carries (r ∷ before) (made {rows} {s} starved journal may) = row_step before s starved journal may (journal_carries before journal)
 
+-- each answer was formed as the headline says
+pub answer_formed : (rows : List Row) → IsJournal rows → (sent : Sent rows) → is_listing sent ≡ true → FormedAs sent.here sent.peer sent.message
+answer_formed rows journal sent listed =
+    let parts = and_parts (is_content sent.message) _ listed in
+    all_at_index (Carried sent.here) sent.here.row.sent (sent.peer, sent.octets) sent.among (row_within RowCarries rows sent.here.before sent.here.row (journal_carries rows journal).each sent.within).carried sent.message sent.read parts.0 parts.1
+
 -- each lookup answers the listing of the history at the row that formed it, and 2.03 is sent exactly where a look names the tag
 pub answers_as_formed : (rows : List Row) → IsJournal rows → AnswersAsFormed rows
 answers_as_formed rows journal = record {
-  carried = λ before r peer octets m within among read listed.
-      all_at_index (Carried (record { row = r; before = before })) r.sent (peer, octets) among (row_within RowCarries rows before r (journal_carries rows journal).each within).carried m read listed;
+  carried = λ sent listed. answer_formed rows journal sent listed;
+  validated = λ sent valid. sent_validates rows journal sent valid;
   valid = λ before r within fed. looks_are_validated rows before r journal within fed;
 }

@@ -25,19 +25,19 @@ use Rattle.journal_model.specs.Sought.{sought_at}
 use Rattle.journal_model.specs.Looks.{names_tag, unless_long, unless_valid, look_for, look, body_held, held_after, keep_effects}
 use Rattle.journal_model.specs.Rows.{effects, row_moment, row}
 use Rattle.journal_model.specs.Machine.{Job, job_of, MayBegin, hears, goes, ticks, is_look_datagram, is_look_reading, IsJournal}
-use Rattle.journal_model.specs.Headline.{Placed, look_of, former_of_body, former_at, query_read, query_answered, Carries}
+use Rattle.journal_model.specs.Headline.{Placed, look_of, former_of_body, former_at, asked_at, Carries}
 use Rattle.journal_model.proofs.EntriesNoted.{entries_in}
 use Rattle.journal_model.proofs.StepNotes.{keep_effects-notes}
 use Rattle.headline_law.proofs.notes.SilentSteps.{looked_notes}
-use Rattle.headline_law.proofs.entries.JournalLaws.{Made, each_row, entries-none_noted}
+use Rattle.headline_law.proofs.entries.JournalLaws.{Made, each_row, entries-none_noted, entries-IsPrefix-row}
 use Rattle.journal_model.proofs.Jobs.{KeepsOf, keeps_of}
 use Rattle.message_model.proofs.ReadingLaws.{header_read}
-use Rattle.headline_law.proofs.sends.BodyAnswers.{Bears, IsBodyOf, tag-length, same_message, bears_carries}
-use Rattle.headline_law.proofs.sends.LookupSends.{keep_bears}
+use Rattle.headline_law.proofs.sends.BodyAnswers.{wanted_by, asking, Bears, tag-length, same_message, bears_carries}
+use Rattle.headline_law.proofs.sends.LookupSends.{IsAnswerOf, keep_bears}
 use Rattle.headline_law.proofs.notes.LookupNotes.{look_fits, KeptAt}
 use Rattle.headline_law.proofs.sends.ValidLaw.{LooksAt, a_look_reads, looked_a_look}
 use Rattle.headline_law.proofs.flights.CarriedListings.{Carried}
-use Rattle.headline_law.proofs.rows.RowCarries.{NoteAsFormed, RowCarries}
+use Rattle.headline_law.proofs.rows.RowCarries.{NoteAsFormed, RowCarries, asked_in-own}
 use Rattle.rd_base.proofs.lemmas.Each.{each_weaker}
 
 -- ---- a row of a keep
@@ -171,7 +171,7 @@ keep_of rows s m body current journal may kind read = record {
 pub keep_row : (rows : List Row) (r : Row) (m : Message) (body current : List ℕ) → IsJournal rows → MayBegin rows r.step → r.step.kind ≡ step.Keep body current → reading r.step.datagram ≡ Ok m
     → r.sent ≡ (keep_effects r.step m body current).sent → r.notes ≡ (keep_effects r.step m body current).notes → RowCarries rows r
 keep_row rows r m body current journal may kind read sent notes = record {
-  carried = subst (AllByRecursion (Carried here)) (sym sent) (each_weaker (λ (d : Peer × List ℕ). IsBodyOf m.token body current d.1) (Carried here) one (keep_effects r.step m body current).sent (keep_bears r.step m body current small short));
+  carried = subst (AllByRecursion (Carried here)) (sym sent) (each_weaker (IsAnswerOf r.step.peer (wanted_by m) body current) (Carried here) one (keep_effects r.step m body current).sent (keep_bears r.step m body current small short));
   noted = subst (AllByRecursion (NoteAsFormed here)) (sym (notes ∙ keep_effects-notes r.step m body current)) (record { former = it.look; formed = ap (λ k. former_of_body k here) kind ∙ it.found; is_kept = it.is_kept }, tt);
 }
   where
@@ -187,14 +187,15 @@ keep_row rows r m body current journal may kind read sent notes = record {
     short : length current ≡ 8
     short = ap length it.is_kept.tag_is ∙ tag-length (entries (it.look.row ∷ it.look.before)) it.look.row.moment.0
 
-    one : (d : Peer × List ℕ) → IsBodyOf m.token body current d.1 → Carried here d
-    one d bears n e listed = record {
+    one : (d : Peer × List ℕ) → IsAnswerOf r.step.peer (wanted_by m) body current d → Carried here d
+    one d bears n e listed _ = record {
       former = it.look;
       formed = ap (λ k. former_at k d.0 n.mid here) kind ∙ it.found;
-      query = query_of m;
-      asked = ap (λ k. query_answered k (d.0, n.token) here) kind ∙ ap query_read read;
-      carries = subst (λ q. Carries n q (entries (it.look.row ∷ it.look.before)) it.look.row.moment.0) it.query_is
-          (bears_carries m.token it.is_kept.query (entries (it.look.row ∷ it.look.before)) it.look.row.moment.0 n
-          (subst (λ t. Bears m.token (listing it.is_kept.query (entries (it.look.row ∷ it.look.before)) it.look.row.moment.0) t n) it.is_kept.tag_is
-          (subst (λ b. Bears m.token b current n) it.is_kept.body_is (bears n e listed))));
+      asked = asking (wanted_by m) (query_of m);
+      asks = ap (λ k. asked_at k (d.0, n.token) here) kind ∙ asked_in-own r.step.peer m (d.0, n.token) (reading r.step.datagram) read bears.0 (bears.1 n e listed).token_is;
+      holds_seen = entries-IsPrefix-row it.look.before it.look.row;
+      carries = subst (λ q. Carries n (asking (wanted_by m) q) (entries (it.look.row ∷ it.look.before)) it.look.row.moment.0) it.query_is
+          (bears_carries (wanted_by m) it.is_kept.query (entries (it.look.row ∷ it.look.before)) it.look.row.moment.0 n
+          (subst (λ t. Bears (wanted_by m) (listing it.is_kept.query (entries (it.look.row ∷ it.look.before)) it.look.row.moment.0) t n) it.is_kept.tag_is
+          (subst (λ b. Bears (wanted_by m) b current n) it.is_kept.body_is (bears.1 n e listed))));
     }

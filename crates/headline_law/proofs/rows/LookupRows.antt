@@ -19,18 +19,18 @@ use Rattle.journal_model.specs.declared.rows.Row.{Row}
 use Rattle.journal_model.specs.Journal.{is_heard, events, entries}
 use Rattle.journal_model.specs.Requests.{query_of, is_lookup}
 use Rattle.journal_model.specs.Lookups.{lookup_effects}
-use Rattle.journal_model.specs.Headline.{Placed, former_of_body, former_of_kept, former_noted, query_read, Carries}
+use Rattle.journal_model.specs.Headline.{Placed, former_of_body, former_of_kept, former_noted, Carries}
 use Rattle.journal_model.proofs.EntriesNoted.{entries_in}
 use Rattle.headline_law.proofs.entries.QuietSteps.{lookup_effects-entries_in}
 use Rattle.message_model.proofs.ReadingLaws.{header_read}
-use Rattle.headline_law.proofs.sends.BodyAnswers.{Bears, IsBodyOf, tag-length, bears_carries}
-use Rattle.headline_law.proofs.sends.LookupSends.{AreListings, AreBodiesOf, names_earlier_row, LookupOutcome, now, kept, lookup_outcome}
+use Rattle.headline_law.proofs.sends.BodyAnswers.{wanted_by, asking, Bears, tag-length, bears_carries}
+use Rattle.headline_law.proofs.sends.LookupSends.{IsAnswerOf, AreListings, AreBodiesOf, names_earlier_row, LookupOutcome, now, kept, lookup_outcome}
 use Rattle.journal_model.proofs.EventRows.{AllRows, row_of, row_within, said_by}
 use Rattle.headline_law.proofs.notes.LookupNotes.{asks_once, lookup_fits, KeptAt, NotesAsAsked, lookup_notes_as_asked}
 use Rattle.headline_law.proofs.flights.CarriedListings.{Carried}
-use Rattle.headline_law.proofs.rows.RowCarries.{KeptAsFormed, NoteAsFormed, RowCarries, heard_former, heard_query, heard_forms_itself, now_carried, own_notes_as_formed}
+use Rattle.headline_law.proofs.rows.RowCarries.{KeptAsFormed, NoteAsFormed, RowCarries, heard_former, heard_asked, asked_in-own, lookup_no_discovery, heard_forms_itself, now_carried, own_notes_as_formed}
 use Rattle.rd_base.proofs.lemmas.Among.{all_among}
-use Rattle.headline_law.proofs.entries.JournalLaws.{entries-none_noted}
+use Rattle.headline_law.proofs.entries.JournalLaws.{entries-none_noted, entries-IsPrefix-row}
 use Rattle.rd_base.proofs.lemmas.Each.{each_weaker}
 
 -- ---- kept answers
@@ -82,31 +82,32 @@ kept_from rows moment name answer all e =
 
 -- one that reads a kept answer
 used_carried : (rows : List Row) (r : Row) (m : Message) (answer : Answer) → is_heard r.step.kind ≡ true → reading r.step.datagram ≡ Ok m → is_lookup (path_in m) ≡ true
-    → r.notes ≡ note.Used r.step.peer (key_in m) ∷ [] → KeptFrom rows (r.step.peer, key_in m) answer → AreBodiesOf m.token answer.body answer.tag r.sent → AllByRecursion (Carried (record { row = r; before = rows })) r.sent
+    → r.notes ≡ note.Used r.step.peer (key_in m) ∷ [] → KeptFrom rows (r.step.peer, key_in m) answer → AreBodiesOf r.step.peer (wanted_by m) answer.body answer.tag r.sent → AllByRecursion (Carried (record { row = r; before = rows })) r.sent
 used_carried rows r m answer heard read lookup notes from all =
-    each_weaker (λ (d : Peer × List ℕ). IsBodyOf m.token answer.body answer.tag d.1) (Carried (record { row = r; before = rows })) one r.sent all
+    each_weaker (IsAnswerOf r.step.peer (wanted_by m) answer.body answer.tag) (Carried (record { row = r; before = rows })) one r.sent all
   where
     same_query : from.is_kept.query ≡ query_of m
     same_query = asks_once (key_in m) from.is_kept.query m from.is_kept.asks (lookup_fits (path_in m) lookup) refl
 
-    one : (d : Peer × List ℕ) → IsBodyOf m.token answer.body answer.tag d.1 → Carried (record { row = r; before = rows }) d
-    one d body n e listed = record {
+    one : (d : Peer × List ℕ) → IsAnswerOf r.step.peer (wanted_by m) answer.body answer.tag d → Carried (record { row = r; before = rows }) d
+    one d body n e listed _ = record {
       former = from.former;
       formed = heard_former r.step.kind d.0 n.mid (record { row = r; before = rows }) heard
           ∙ (ap (λ ns. former_noted d.0 n.mid ns (record { row = r; before = rows })) notes ∙ from.formed);
-      query = query_of m;
-      asked = heard_query r.step.kind (d.0, n.token) (record { row = r; before = rows }) heard ∙ ap query_read read;
-      carries = subst (λ q. Carries n q (entries (from.former.row ∷ from.former.before)) from.former.row.moment.0) same_query
-          (bears_carries m.token from.is_kept.query (entries (from.former.row ∷ from.former.before)) from.former.row.moment.0 n
-          (subst (λ t. Bears m.token (listing from.is_kept.query (entries (from.former.row ∷ from.former.before)) from.former.row.moment.0) t n) from.is_kept.tag_is
-          (subst (λ b. Bears m.token b answer.tag n) from.is_kept.body_is (body n e listed))));
+      asked = asking (wanted_by m) (query_of m);
+      asks = heard_asked r.step.kind (d.0, n.token) (record { row = r; before = rows }) heard ∙ asked_in-own r.step.peer m (d.0, n.token) (reading r.step.datagram) read body.0 (body.1 n e listed).token_is;
+      holds_seen = entries-IsPrefix-row from.former.before from.former.row;
+      carries = subst (λ q. Carries n (asking (wanted_by m) q) (entries (from.former.row ∷ from.former.before)) from.former.row.moment.0) same_query
+          (bears_carries (wanted_by m) from.is_kept.query (entries (from.former.row ∷ from.former.before)) from.former.row.moment.0 n
+          (subst (λ t. Bears (wanted_by m) (listing from.is_kept.query (entries (from.former.row ∷ from.former.before)) from.former.row.moment.0) t n) from.is_kept.tag_is
+          (subst (λ b. Bears (wanted_by m) b answer.tag n) from.is_kept.body_is (body.1 n e listed))));
     }
 
 -- any row of a lookup
 pub lookup_row : (rows : List Row) (r : Row) (m : Message) → AllRows RowCarries rows → is_heard r.step.kind ≡ true → reading r.step.datagram ≡ Ok m → is_lookup (path_in m) ≡ true
     → r.sent ≡ (lookup_effects rows r.moment.0 r.step m).sent → r.notes ≡ (lookup_effects rows r.moment.0 r.step m).notes → RowCarries rows r
 lookup_row rows r m all heard read lookup sent notes = record {
-  carried = by (lookup_outcome rows r.moment.0 r.step m small);
+  carried = by (lookup_outcome rows r.moment.0 r.step m small (lookup_no_discovery (path_in m) lookup));
   noted = own_notes_as_formed rows r (heard_forms_itself r.step.kind (record { row = r; before = rows }) heard) same_entries r.notes (subst (NotesAsAsked rows r.moment.0) (sym notes) (lookup_notes_as_asked rows r.moment.0 r.step m lookup small));
 }
   where
@@ -117,9 +118,9 @@ lookup_row rows r m all heard read lookup sent notes = record {
     same_entries = entries-none_noted rows r (ap entries_in notes ∙ lookup_effects-entries_in rows r.moment.0 r.step m)
 
     by : LookupOutcome rows r.moment.0 r.step m (lookup_effects rows r.moment.0 r.step m) → AllByRecursion (Carried (record { row = r; before = rows })) r.sent
-    by (now none listed) = now_carried rows r m heard read same_entries (ap (list_any names_earlier_row) notes ∙ none) (subst (AreListings m (entries rows) r.moment.0) (sym sent) listed)
+    by (now none listed) = now_carried rows r m heard read same_entries (ap (list_any names_earlier_row) notes ∙ none) (subst (AreListings r.step.peer m (entries rows) r.moment.0) (sym sent) listed)
     by (kept answer found used bodies) =
         let from = kept_from rows r.moment.0 (r.step.peer, key_in m) answer all found in
         used_carried rows r m answer heard read lookup (notes ∙ used) from
-        (subst (AreBodiesOf m.token answer.body answer.tag) (sym sent)
+        (subst (AreBodiesOf r.step.peer (wanted_by m) answer.body answer.tag) (sym sent)
         (bodies (ap length from.is_kept.tag_is ∙ tag-length (entries (from.former.row ∷ from.former.before)) from.former.row.moment.0)))

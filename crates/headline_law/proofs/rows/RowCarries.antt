@@ -1,32 +1,37 @@
 -- A row that is no tick: what it sends was formed as the headline says, and so was what it keeps.
-use Rattle.std.proofs.Common.{◌≡◌, ℕ, true, false, List, [], ◌∷◌, Some, Ok, refl, sym, ap, subst, ◌∙◌}
+use Rattle.std.proofs.Common.{◌≡◌, ℕ, ◌≤◌, Bool, true, false, List, [], ◌∷◌, length, Some, Result, Ok, refl, sym, ap, ap₂, subst, ◌∙◌}
 use Rattle.std.specs.List.{list_any, AllByRecursion}
 use Rattle.std.proofs.lemmas.Bool.{false≢true}
 use Rattle.rd_base.specs.declared.peers.Peer.{Peer}
-use Rattle.message_model.specs.Message.{Message}
+use Rattle.message_model.specs.declared.messages.Unread.{Unread}
+use Rattle.message_model.specs.declared.requests.Path.{Path}
+use Rattle.message_model.specs.declared.requests.Path.TheVariants as path
+use Rattle.message_model.specs.Message.{Message, longest_token}
+use Rattle.message_model.specs.Request.{path_in}
 use Rattle.message_model.specs.Reading.{reading}
 use Rattle.history_model.specs.Listing.{listing, tag}
 use Rattle.event_model.specs.declared.notes.Note.{Note}
 use Rattle.event_model.specs.declared.notes.Note.TheVariants as note
 use Rattle.event_model.specs.Same.{RequestName}
+use Rattle.event_model.proofs.SameLaws.{is_same_request-refl}
 use Rattle.journal_model.specs.declared.steps.StepKind.{StepKind}
 use Rattle.journal_model.specs.declared.steps.StepKind.TheVariants as step
 use Rattle.journal_model.specs.declared.rows.Row.{Row}
 use Rattle.journal_model.specs.Journal.{is_heard, entries}
-use Rattle.journal_model.specs.Requests.{query_of}
+use Rattle.journal_model.specs.Requests.{query_of, is_lookup, is_discovery}
 use Rattle.journal_model.specs.Looks.{look_effects}
-use Rattle.journal_model.specs.Headline.{Placed, former_of_body, former_noted, former_at, query_read, query_answered}
+use Rattle.journal_model.specs.Headline.{Placed, former_of_body, former_noted, former_at, asked_in, asked_at, names_lookup, answers_lookup}
 use Rattle.journal_model.proofs.EntriesNoted.{entries_in}
 use Rattle.journal_model.proofs.StepNotes.{look_effects-notes}
 use Rattle.message_model.proofs.ReadingLaws.{header_read}
-use Rattle.headline_law.proofs.sends.BodyAnswers.{Bears, IsBodyOf, other_code, bears_carries}
+use Rattle.headline_law.proofs.sends.BodyAnswers.{wanted_by, asking, Bears, IsUntagged, other_code, bears_carries}
 use Rattle.headline_law.proofs.sends.PlainSteps.{ArePlain, IsPlain}
-use Rattle.headline_law.proofs.sends.LookupSends.{AreListings, look_lists, names_earlier_row}
+use Rattle.headline_law.proofs.sends.LookupSends.{IsAnswerOf, AreListings, look_lists, look_discovers, names_earlier_row}
 use Rattle.headline_law.proofs.notes.LookupNotes.{IsAsking, KeptAt, NoteAsAsked, NotesAsAsked}
 use Rattle.headline_law.proofs.flights.CarriedListings.{Carried}
 use Rattle.headline_law.proofs.sends.StepOutcomes.{is_keeping}
 use Rattle.std.proofs.lemmas.Bool.{or_parts}
-use Rattle.headline_law.proofs.entries.JournalLaws.{entries-none_noted}
+use Rattle.headline_law.proofs.entries.JournalLaws.{entries-none_noted, entries-IsPrefix-row}
 use Rattle.rd_base.proofs.lemmas.Each.{each_weaker, each_failing}
 
 -- an answer that is kept at a row: the listing of the query of its key, at the row that formed it
@@ -60,7 +65,7 @@ keeps_nothing here notes none = each_failing is_keeping (NoteAsFormed here) by n
 -- so it is of a row of plain messages
 pub plain_row : (rows : List Row) (r : Row) → ArePlain r.sent → list_any is_keeping r.notes ≡ false → RowCarries rows r
 plain_row rows r plain none = record {
-  carried = each_weaker (λ (d : Peer × List ℕ). IsPlain d.1) (Carried (record { row = r; before = rows })) (λ d p m e listed. absurd (false≢true (sym (other_code d.1 p.no_content m e) ∙ listed))) r.sent plain;
+  carried = each_weaker (λ (d : Peer × List ℕ). IsPlain d.1) (Carried (record { row = r; before = rows })) (λ d p m e listed _. absurd (false≢true (sym (other_code d.1 p.no_content m e) ∙ listed))) r.sent plain;
   noted = keeps_nothing (record { row = r; before = rows }) r.notes none;
 }
 
@@ -74,13 +79,19 @@ heard_former (step.Commit place) peer mid here h = absurd (false≢true h)
 heard_former (step.Keep body current) peer mid here h = absurd (false≢true h)
 heard_former step.Tick peer mid here h = absurd (false≢true h)
 
--- the query is that of the request
-pub heard_query : (k : StepKind) (name : RequestName) (here : Placed) → is_heard k ≡ true → query_answered k name here ≡ query_read (reading here.row.step.datagram)
-heard_query step.Admit name here h = refl
-heard_query step.Look name here h = refl
-heard_query (step.Commit place) name here h = absurd (false≢true h)
-heard_query (step.Keep body current) name here h = absurd (false≢true h)
-heard_query step.Tick name here h = absurd (false≢true h)
+-- what is asked for is what the request asks for
+pub heard_asked : (k : StepKind) (name : RequestName) (here : Placed) → is_heard k ≡ true → asked_at k name here ≡ asked_in name here.row.step.peer (reading here.row.step.datagram)
+heard_asked step.Admit name here h = refl
+heard_asked step.Look name here h = refl
+heard_asked (step.Commit place) name here h = absurd (false≢true h)
+heard_asked (step.Keep body current) name here h = absurd (false≢true h)
+heard_asked step.Tick name here h = absurd (false≢true h)
+
+-- where the answer has its peer and its token
+pub asked_in-own : (peer : Peer) (m : Message) (name : RequestName) (read : Result Message Unread) → read ≡ Ok m → name.0 ≡ peer → name.1 ≡ m.token → asked_in name peer read ≡ Some (asking (wanted_by m) (query_of m))
+asked_in-own peer m name read is same_peer same_token =
+    ap (asked_in name peer) is
+    ∙ subst (λ (x : RequestName). asked_in x peer (Ok m) ≡ Some (asking (wanted_by m) (query_of m))) (ap₂ (λ p t. (p, t)) (sym same_peer) (sym same_token)) (rw (is_same_request-refl (peer, m.token)) refl)
 
 -- and what such a row keeps, it formed itself
 pub heard_forms_itself : (k : StepKind) (here : Placed) → is_heard k ≡ true → former_of_body k here ≡ Some here
@@ -103,18 +114,19 @@ noted_now peer mid (n ∷ notes) here none =
 
 -- the listing now
 pub now_carried : (rows : List Row) (r : Row) (m : Message) → is_heard r.step.kind ≡ true → reading r.step.datagram ≡ Ok m → entries (r ∷ rows) ≡ entries rows → list_any names_earlier_row r.notes ≡ false
-    → AreListings m (entries rows) r.moment.0 r.sent → AllByRecursion (Carried (record { row = r; before = rows })) r.sent
+    → AreListings r.step.peer m (entries rows) r.moment.0 r.sent → AllByRecursion (Carried (record { row = r; before = rows })) r.sent
 now_carried rows r m hears read same_entries none all =
-    each_weaker (λ (d : Peer × List ℕ). IsBodyOf m.token (listing (query_of m) (entries rows) r.moment.0) (tag (entries rows) r.moment.0) d.1) (Carried (record { row = r; before = rows })) one r.sent all
+    each_weaker (IsAnswerOf r.step.peer (wanted_by m) (listing (query_of m) (entries rows) r.moment.0) (tag (entries rows) r.moment.0)) (Carried (record { row = r; before = rows })) one r.sent all
   where
-    one : (d : Peer × List ℕ) → IsBodyOf m.token (listing (query_of m) (entries rows) r.moment.0) (tag (entries rows) r.moment.0) d.1 → Carried (record { row = r; before = rows }) d
-    one d body n e listed = record {
+    one : (d : Peer × List ℕ) → IsAnswerOf r.step.peer (wanted_by m) (listing (query_of m) (entries rows) r.moment.0) (tag (entries rows) r.moment.0) d → Carried (record { row = r; before = rows }) d
+    one d body n e listed _ = record {
       former = record { row = r; before = rows };
       formed = heard_former r.step.kind d.0 n.mid (record { row = r; before = rows }) hears ∙ noted_now d.0 n.mid r.notes (record { row = r; before = rows }) none;
-      query = query_of m;
-      asked = heard_query r.step.kind (d.0, n.token) (record { row = r; before = rows }) hears ∙ ap query_read read;
-      carries = bears_carries m.token (query_of m) (entries (r ∷ rows)) r.moment.0 n
-          (subst (λ history. Bears m.token (listing (query_of m) history r.moment.0) (tag history r.moment.0) n) (sym same_entries) (body n e listed));
+      asked = asking (wanted_by m) (query_of m);
+      asks = heard_asked r.step.kind (d.0, n.token) (record { row = r; before = rows }) hears ∙ asked_in-own r.step.peer m (d.0, n.token) (reading r.step.datagram) read body.0 (body.1 n e listed).token_is;
+      carries = bears_carries (wanted_by m) (query_of m) (entries (r ∷ rows)) r.moment.0 n
+          (subst (λ history. Bears (wanted_by m) (listing (query_of m) history r.moment.0) (tag history r.moment.0) n) (sym same_entries) (body.1 n e listed));
+      holds_seen = entries-IsPrefix-row rows r;
     }
 
 -- what a row keeps that forms its own answers
@@ -131,14 +143,51 @@ own_notes_as_formed rows r formed same_entries (n ∷ notes) h = (by n h.0, own_
     by (note.Watched o) k = k
     by _ k = tt
 
+-- a discovery is no lookup
+discovery_no_lookup : (p : Path) → is_discovery p ≡ true → is_lookup p ≡ false
+discovery_no_lookup path.Core h = refl
+discovery_no_lookup path.Res h = absurd (false≢true h)
+discovery_no_lookup path.Ep h = absurd (false≢true h)
+discovery_no_lookup path.SimpleRd h = refl
+discovery_no_lookup path.Rd h = refl
+discovery_no_lookup (path.Location number) h = refl
+discovery_no_lookup path.Other h = refl
+
+-- and a lookup is no discovery
+pub lookup_no_discovery : (p : Path) → is_lookup p ≡ true → is_discovery p ≡ false
+lookup_no_discovery p h = by (is_discovery p) refl
+  where
+    by : (b : Bool) → is_discovery p ≡ b → b ≡ false
+    by true e = absurd (false≢true (sym (discovery_no_lookup p e) ∙ h))
+    by false e = refl
+
 -- a row of a look
 pub look_row : (rows : List Row) (r : Row) (m : Message) → is_heard r.step.kind ≡ true → reading r.step.datagram ≡ Ok m → r.sent ≡ (look_effects (entries rows) r.moment.0 r.step m).sent
     → r.notes ≡ (look_effects (entries rows) r.moment.0 r.step m).notes → RowCarries rows r
 look_row rows r m hears read sent notes = record {
-  carried = now_carried rows r m hears read (entries-none_noted rows r (ap entries_in none)) (ap (list_any names_earlier_row) none)
-      (subst (AreListings m (entries rows) r.moment.0) (sym sent) (look_lists (entries rows) r.moment.0 r.step m (header_read r.step.datagram m read).token));
+  carried = by (is_discovery (path_in m)) refl;
   noted = subst (AllByRecursion (NoteAsFormed (record { row = r; before = rows }))) (sym none) tt;
 }
   where
     none : r.notes ≡ []
     none = notes ∙ look_effects-notes (entries rows) r.moment.0 r.step m
+
+    small : length m.token ≤ longest_token
+    small = (header_read r.step.datagram m read).token
+
+    -- a discovery is no lookup
+    no_lookup : (k : StepKind) → is_heard k ≡ true → is_discovery (path_in m) ≡ true → answers_lookup k (reading r.step.datagram) ≡ false
+    no_lookup step.Admit h discovers = ap names_lookup read ∙ discovery_no_lookup (path_in m) discovers
+    no_lookup step.Look h discovers = ap names_lookup read ∙ discovery_no_lookup (path_in m) discovers
+    no_lookup (step.Commit place) h discovers = absurd (false≢true h)
+    no_lookup (step.Keep body current) h discovers = absurd (false≢true h)
+    no_lookup step.Tick h discovers = absurd (false≢true h)
+
+    by : (b : Bool) → is_discovery (path_in m) ≡ b → AllByRecursion (Carried (record { row = r; before = rows })) r.sent
+    by true discovers =
+        each_weaker (λ (d : Peer × List ℕ). IsUntagged d.1) (Carried (record { row = r; before = rows }))
+        (λ d none n e content listed. absurd (false≢true (sym (rw (no_lookup r.step.kind hears discovers, none n e content) refl) ∙ listed))) r.sent
+        (subst (AllByRecursion (λ (d : Peer × List ℕ). IsUntagged d.1)) (sym sent) (look_discovers (entries rows) r.moment.0 r.step m small discovers))
+    by false lists =
+        now_carried rows r m hears read (entries-none_noted rows r (ap entries_in none)) (ap (list_any names_earlier_row) none)
+        (subst (AreListings r.step.peer m (entries rows) r.moment.0) (sym sent) (look_lists (entries rows) r.moment.0 r.step m small lists))

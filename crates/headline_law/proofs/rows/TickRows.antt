@@ -19,7 +19,7 @@ use Rattle.journal_model.specs.Journal.{events, entries, row_at}
 use Rattle.journal_model.specs.Effects.{Effects}
 use Rattle.journal_model.specs.Headline.{former_noted}
 use Rattle.journal_model.proofs.NoteKinds.{of_resent, are, none_of}
-use Rattle.headline_law.proofs.sends.BodyAnswers.{IsBodyOf, other_code}
+use Rattle.headline_law.proofs.sends.BodyAnswers.{wanted_by_observer, IsBodyOf, other_code}
 use Rattle.headline_law.proofs.sends.PlainSteps.{IsPlain, ArePlain}
 use Rattle.headline_law.proofs.sends.TickSends.{FoundSent, sent_by-FoundSent, mid_of_confirmable}
 use Rattle.rd_base.proofs.lemmas.Among.{all_among}
@@ -57,7 +57,7 @@ requests_none test resent ceased notes h = none_of of_resent test never notes h
 
 -- a notice that is sent again
 again_carried : (rows : List Row) (r : Row) → (t : TickRow rows r) → (d : Peer × List ℕ) → AgainSent rows r.moment.0 d → Carried (record { row = r; before = rows }) d
-again_carried rows r t d a m e listed =
+again_carried rows r t d a m e listed _ =
     observer_formed (record { row = r; before = rows }) notice.placed a.observer d m t.tick a.again.stands (again_peer rows r.moment.0 d a) (found.holds found.to_peer m e listed)
     (subst (λ p. former_noted p m.mid r.notes (record { row = r; before = rows }) ≡ Some notice.placed) (sym (again_peer rows r.moment.0 d a))
     (subst (λ n. former_noted a.observer.peer n r.notes (record { row = r; before = rows }) ≡ Some notice.placed) (sym (mid_of_confirmable a.flight_is.mid d.1 m found.confirmable e))
@@ -68,7 +68,7 @@ again_carried rows r t d a m e listed =
 
     To : Peer × List ℕ → Type 0
     To x = is_same_peer x.0 a.observer.peer ≡ true
-        → IsBodyOf a.observer.token (listing a.observer.query (entries (notice.placed.row ∷ notice.placed.before)) notice.placed.row.moment.0) (tag (entries (notice.placed.row ∷ notice.placed.before)) notice.placed.row.moment.0) x.1
+        → IsBodyOf (wanted_by_observer a.observer) (listing a.observer.query (entries (notice.placed.row ∷ notice.placed.before)) notice.placed.row.moment.0) (tag (entries (notice.placed.row ∷ notice.placed.before)) notice.placed.row.moment.0) x.1
 
     found : FoundSent To a.observer.peer a.flight_is.mid d
     found = sent_by-FoundSent To (row_at a.flight_is.formed.place rows) a.observer.peer a.flight_is.mid d
@@ -82,12 +82,12 @@ again_carried rows r t d a m e listed =
 
 -- the listing of a row that notes no entry
 pub as_row : (rows : List Row) (r : Row) (o : Observer) (octets : List ℕ) → entries (r ∷ rows) ≡ entries rows → IsNoticeOf rows r.moment.0 o octets
-    → IsBodyOf o.token (listing o.query (entries (r ∷ rows)) r.moment.0) (tag (entries (r ∷ rows)) r.moment.0) octets
-as_row rows r o octets same_entries h = subst (λ history. IsBodyOf o.token (listing o.query history r.moment.0) (tag history r.moment.0) octets) (sym same_entries) h
+    → IsBodyOf (wanted_by_observer o) (listing o.query (entries (r ∷ rows)) r.moment.0) (tag (entries (r ∷ rows)) r.moment.0) octets
+as_row rows r o octets same_entries h = subst (λ history. IsBodyOf (wanted_by_observer o) (listing o.query history r.moment.0) (tag history r.moment.0) octets) (sym same_entries) h
 
 -- a new notice
 fresh_carried : (rows : List Row) (r : Row) → (t : TickRow rows r) → (d : Peer × List ℕ) → FreshSent rows r.moment.0 r.step.word d → Carried (record { row = r; before = rows }) d
-fresh_carried rows r t d f m e listed =
+fresh_carried rows r t d f m e listed _ =
     observer_formed (record { row = r; before = rows }) (record { row = r; before = rows }) f.observer d m t.tick (stood_before rows r.moment.0 r.step.word f.observer f.stands) f.of_peer
     (as_row rows r f.observer d.1 t.same_entries f.body m e listed)
     (noted_here d.0 m.mid r.notes (record { row = r; before = rows }) t.unused none)
@@ -114,7 +114,7 @@ pub tick_carried : (rows : List Row) (r : Row) → TickRow rows r → AllByRecur
 tick_carried rows r t =
     subst (AllByRecursion (Carried (record { row = r; before = rows }))) (sym t.sent)
     (each_append (Carried (record { row = r; before = rows })) t.notified.sent t.requests.sent (each_weaker (λ (d : Peer × List ℕ). AgainSent rows r.moment.0 d ⊎ FreshSent rows r.moment.0 r.step.word d) (Carried (record { row = r; before = rows })) one t.notified.sent t.so_far.origins)
-    (each_weaker (λ (d : Peer × List ℕ). IsPlain d.1) (Carried (record { row = r; before = rows })) (λ d plain m e listed. absurd (false≢true (sym (other_code d.1 plain.no_content m e) ∙ listed))) t.requests.sent t.plain))
+    (each_weaker (λ (d : Peer × List ℕ). IsPlain d.1) (Carried (record { row = r; before = rows })) (λ d plain m e listed _. absurd (false≢true (sym (other_code d.1 plain.no_content m e) ∙ listed))) t.requests.sent t.plain))
   where
     one : (d : Peer × List ℕ) → AgainSent rows r.moment.0 d ⊎ FreshSent rows r.moment.0 r.step.word d → Carried (record { row = r; before = rows }) d
     one d (inl a) = again_carried rows r t d a

@@ -20,53 +20,72 @@ use Rattle.journal_model.specs.declared.rows.Row.{Row}
 use Rattle.journal_model.specs.Journal.{events, entries}
 use Rattle.journal_model.specs.Effects.{Effects, answer_kind, answer_mid, answering}
 use Rattle.journal_model.specs.Bodies.{is_long}
-use Rattle.journal_model.specs.Requests.{query_of, asked_block, number_of, szx_of, is_later_block, register, deregister}
+use Rattle.journal_model.specs.Requests.{query_of, asked_block, number_of, szx_of, is_discovery, is_later_block, register, deregister}
 use Rattle.journal_model.specs.Sought.{sought_at}
 use Rattle.message_model.specs.declared.requests.Path.{Path}
 use Rattle.message_model.specs.declared.requests.Path.TheVariants as path
 use Rattle.message_model.specs.Request.{path_in}
 use Rattle.journal_model.specs.Looks.{names_tag, unless_long, unless_valid, look_for, look, look_sent, look_effects, keep_effects}
 use Rattle.journal_model.specs.Lookups.{listing_now, block_now, block_of_kept, later_block, removal, without, keeping, observed_if, observed, unobserved, observation_effects, first_block_effects, block_effects, lookup_effects}
-use Rattle.headline_law.proofs.sends.BodyAnswers.{IsBodyOf, other_code, none_of_any, tag-length, part_bears, body_bears, body_untagged}
+use Rattle.headline_law.proofs.sends.BodyAnswers.{Wanted, wanted_by, request-usable, IsBodyOf, IsUntagged, other_code, none_of_any, tag-length, part_bears, body_bears, body_untagged}
 use Rattle.journal_model.proofs.StepNotes.{look_effects-notes}
 
--- whatever listing is sent is of this body under this tag, to this token
-abbrev pub AreBodiesOf : List ℕ → List ℕ → List ℕ → List (Peer × List ℕ) → Type 0
-AreBodiesOf token body tag sent = AllByRecursion (λ (d : Peer × List ℕ). IsBodyOf token body tag d.1) sent
+-- a datagram goes to a peer, and each 2.05 has the block of this body that is wanted, under this tag
+abbrev pub IsAnswerOf : Peer → Wanted → List ℕ → List ℕ → Peer × List ℕ → Type 0
+IsAnswerOf peer wanted body tag d = (d.0 ≡ peer) × IsBodyOf wanted body tag d.1
 
--- the listing of a request, from a history at a moment
-abbrev pub AreListings : Message → List Entry → ℕ → List (Peer × List ℕ) → Type 0
-AreListings m history moment sent = AreBodiesOf m.token (listing (query_of m) history moment) (tag history moment) sent
+-- so is all that is sent
+abbrev pub AreBodiesOf : Peer → Wanted → List ℕ → List ℕ → List (Peer × List ℕ) → Type 0
+AreBodiesOf peer wanted body tag sent = AllByRecursion (IsAnswerOf peer wanted body tag) sent
+
+-- the listing of a request of a peer, from a history at a moment
+abbrev pub AreListings : Peer → Message → List Entry → ℕ → List (Peer × List ℕ) → Type 0
+AreListings peer m history moment sent = AreBodiesOf peer (wanted_by m) (listing (query_of m) history moment) (tag history moment) sent
 
 -- a look
-pub look_lists : (history : List Entry) (moment : ℕ) (s : Step) (m : Message) → length m.token ≤ longest_token → AreListings m history moment (look_effects history moment s m).sent
+pub look_lists : (history : List Entry) (moment : ℕ) (s : Step) (m : Message) → length m.token ≤ longest_token → is_discovery (path_in m) ≡ false → AreListings s.peer m history moment (look_effects history moment s m).sent
 unfolding look_effects look answering spelling header_spelling
-look_lists history moment s m small = by (path_in m)
+look_lists history moment s m small lists = by (path_in m) lists
   where
     fresh : Answer
     fresh = record { body = listing (query_of m) history moment; tag = tag history moment }
 
-    long : (b : Bool) → AreListings m history moment (look_sent s m (Some (unless_long b m fresh))).sent
+    long : (b : Bool) → AreListings s.peer m history moment (look_sent s m (Some (unless_long b m fresh))).sent
     long true = tt
-    long false = (body_bears (answer_kind m.kind) (answer_mid s m m.kind) m.token (tag history moment) None (asked_block m) (listing (query_of m) history moment) small (tag-length history moment), tt)
+    long false = ((refl, body_bears (answer_kind m.kind) (answer_mid s m m.kind) m.token (tag history moment) None (asked_block m) (listing (query_of m) history moment) small (tag-length history moment) (request-usable m)), tt)
 
-    valid : (b : Bool) → AreListings m history moment (look_sent s m (Some (unless_valid b m fresh))).sent
-    valid true = (none_of_any m.token (listing (query_of m) history moment) (tag history moment) _ (other_code _ refl), tt)
+    valid : (b : Bool) → AreListings s.peer m history moment (look_sent s m (Some (unless_valid b m fresh))).sent
+    valid true = ((refl, none_of_any (wanted_by m) (listing (query_of m) history moment) (tag history moment) _ (other_code _ refl)), tt)
     valid false = long (is_long (asked_block m) (listing (query_of m) history moment))
 
-    by : (p : Path) → AreListings m history moment (look_sent s m (option_map (look_for history moment m) (sought_at p (query_of m)))).sent
-    by path.SimpleRd = tt
-    by path.Rd = tt
-    by (path.Location number) = tt
-    by path.Other = tt
-    by path.Res = valid (names_tag (tag history moment) m)
-    by path.Ep = valid (names_tag (tag history moment) m)
-    by path.Core = (none_of_any m.token (listing (query_of m) history moment) (tag history moment) _ (body_untagged (answer_kind m.kind) (answer_mid s m m.kind) m.token None (asked_block m) (discovery (query_of m)) small), tt)
+    by : (p : Path) → is_discovery p ≡ false → AreListings s.peer m history moment (look_sent s m (option_map (look_for history moment m) (sought_at p (query_of m)))).sent
+    by path.Core e = absurd cc
+    by path.SimpleRd e = tt
+    by path.Rd e = tt
+    by (path.Location number) e = tt
+    by path.Other e = tt
+    by path.Res e = valid (names_tag (tag history moment) m)
+    by path.Ep e = valid (names_tag (tag history moment) m)
+
+-- a look that discovers sends no tag
+pub look_discovers : (history : List Entry) (moment : ℕ) (s : Step) (m : Message) → length m.token ≤ longest_token → is_discovery (path_in m) ≡ true
+    → AllByRecursion (λ (d : Peer × List ℕ). IsUntagged d.1) (look_effects history moment s m).sent
+unfolding look_effects look answering
+look_discovers history moment s m small discovers = by (path_in m) discovers
+  where
+    by : (p : Path) → is_discovery p ≡ true → AllByRecursion (λ (d : Peer × List ℕ). IsUntagged d.1) (look_sent s m (option_map (look_for history moment m) (sought_at p (query_of m)))).sent
+    by path.Core e = (body_untagged (answer_kind m.kind) (answer_mid s m m.kind) m.token None (asked_block m) (discovery (query_of m)) small, tt)
+    by path.SimpleRd e = tt
+    by path.Rd e = tt
+    by (path.Location number) e = tt
+    by path.Other e = tt
+    by path.Res e = absurd cc
+    by path.Ep e = absurd cc
 
 -- a keep
-pub keep_bears : (s : Step) (m : Message) (body tag : List ℕ) → length m.token ≤ longest_token → length tag ≡ 8 → AreBodiesOf m.token body tag (keep_effects s m body tag).sent
+pub keep_bears : (s : Step) (m : Message) (body tag : List ℕ) → length m.token ≤ longest_token → length tag ≡ 8 → AreBodiesOf s.peer (wanted_by m) body tag (keep_effects s m body tag).sent
 unfolding keep_effects answering
-keep_bears s m body tag small short = (body_bears (answer_kind m.kind) (answer_mid s m m.kind) m.token tag None (asked_block m) body small short, tt)
+keep_bears s m body tag small short = ((refl, body_bears (answer_kind m.kind) (answer_mid s m m.kind) m.token tag None (asked_block m) body small short (request-usable m)), tt)
 
 -- the note names an earlier row: what was formed there is sent now
 abbrev pub names_earlier_row : Note → Bool
@@ -76,24 +95,24 @@ names_earlier_row _ = false
 
 -- what a lookup sends: of the listing now, or of the kept answer, which it then uses
 pub data LookupOutcome (rows : List Row) (moment : ℕ) (s : Step) (m : Message) (e : Effects) : Type 0 where
-  now : list_any names_earlier_row e.notes ≡ false → AreListings m (entries rows) moment e.sent → LookupOutcome rows moment s m e
+  now : list_any names_earlier_row e.notes ≡ false → AreListings s.peer m (entries rows) moment e.sent → LookupOutcome rows moment s m e
   kept : (answer : Answer) → kept_answer moment (s.peer, key_in m) (events rows) ≡ Some answer → e.notes ≡ note.Used s.peer (key_in m) ∷ []
-      → (length answer.tag ≡ 8 → AreBodiesOf m.token answer.body answer.tag e.sent) → LookupOutcome rows moment s m e
+      → (length answer.tag ≡ 8 → AreBodiesOf s.peer (wanted_by m) answer.body answer.tag e.sent) → LookupOutcome rows moment s m e
 
 -- so it is of each lookup that the journal takes part in
-pub lookup_outcome : (rows : List Row) (moment : ℕ) (s : Step) (m : Message) → length m.token ≤ longest_token → LookupOutcome rows moment s m (lookup_effects rows moment s m)
+pub lookup_outcome : (rows : List Row) (moment : ℕ) (s : Step) (m : Message) → length m.token ≤ longest_token → is_discovery (path_in m) ≡ false → LookupOutcome rows moment s m (lookup_effects rows moment s m)
 unfolding lookup_effects later_block observed unobserved answering
-lookup_outcome rows moment s m small = by (is_later_block m)
+lookup_outcome rows moment s m small lists = by (is_later_block m)
   where
     now_block : (part : Option (List ℕ × Bool)) → block_of (listing (query_of m) (entries rows) moment) (number_of (asked_block m)) (szx_of (asked_block m)) ≡ part
         → LookupOutcome rows moment s m (block_now s m (listing_now rows moment m) part)
     now_block None cut = now refl
-        (part_bears (answer_kind m.kind) (answer_mid s m m.kind) m.token (tag (entries rows) moment) None (asked_block m) (listing (query_of m) (entries rows) moment) _ _ None small (tag-length (entries rows) moment) cut, tt)
+        ((refl, part_bears (answer_kind m.kind) (answer_mid s m m.kind) (tag (entries rows) moment) None (asked_block m) m.token (listing (query_of m) (entries rows) moment) None small (tag-length (entries rows) moment) (request-usable m) cut), tt)
     now_block (Some part) cut = now refl
-        (part_bears (answer_kind m.kind) (answer_mid s m m.kind) m.token (tag (entries rows) moment) None (asked_block m) (listing (query_of m) (entries rows) moment) _ _ (Some part) small (tag-length (entries rows) moment) cut, tt)
+        ((refl, part_bears (answer_kind m.kind) (answer_mid s m m.kind) (tag (entries rows) moment) None (asked_block m) m.token (listing (query_of m) (entries rows) moment) (Some part) small (tag-length (entries rows) moment) (request-usable m) cut), tt)
 
     later : (found : Option Answer) → kept_answer moment (s.peer, key_in m) (events rows) ≡ found → LookupOutcome rows moment s m (block_of_kept s m (listing_now rows moment m) found)
-    later (Some answer) e = kept answer e refl (λ short. (body_bears (answer_kind m.kind) (answer_mid s m m.kind) m.token answer.tag None (asked_block m) answer.body small short, tt))
+    later (Some answer) e = kept answer e refl (λ short. ((refl, body_bears (answer_kind m.kind) (answer_mid s m m.kind) m.token answer.tag None (asked_block m) answer.body small short (request-usable m)), tt))
     later None e = now_block (block_of (listing (query_of m) (entries rows) moment) (number_of (asked_block m)) (szx_of (asked_block m))) refl
 
     removed : (b : Bool) (peer : Peer) (token : List ℕ) → list_any names_earlier_row (cond b (note.Unwatched peer token ∷ []) []) ≡ false
@@ -113,13 +132,13 @@ lookup_outcome rows moment s m small = by (is_later_block m)
     added : (b : Bool) → LookupOutcome rows moment s m (observed_if b rows s m (listing_now rows moment m))
     added true = now
         (list_any-append names_earlier_row (removal (s.peer, m.token) (observers (events rows))) _ ∙ rw (ends, keeping_now) refl)
-        (body_bears (answer_kind m.kind) (answer_mid s m m.kind) m.token (tag (entries rows) moment) (Some (observe_value (events rows))) (asked_block m) (listing (query_of m) (entries rows) moment) small (tag-length (entries rows) moment), tt)
+        ((refl, body_bears (answer_kind m.kind) (answer_mid s m m.kind) m.token (tag (entries rows) moment) (Some (observe_value (events rows))) (asked_block m) (listing (query_of m) (entries rows) moment) small (tag-length (entries rows) moment) (request-usable m)), tt)
     added false = now
         (list_any-append names_earlier_row (removal (s.peer, m.token) (observers (events rows))) _ ∙ rw (ends, keeping_now) refl)
-        (body_bears (answer_kind m.kind) (answer_mid s m m.kind) m.token (tag (entries rows) moment) None (asked_block m) (listing (query_of m) (entries rows) moment) small (tag-length (entries rows) moment), tt)
+        ((refl, body_bears (answer_kind m.kind) (answer_mid s m m.kind) m.token (tag (entries rows) moment) None (asked_block m) (listing (query_of m) (entries rows) moment) small (tag-length (entries rows) moment) (request-usable m)), tt)
 
     only_looked : LookupOutcome rows moment s m (look_effects (entries rows) moment s m)
-    only_looked = now (ap (list_any names_earlier_row) (look_effects-notes (entries rows) moment s m)) (look_lists (entries rows) moment s m small)
+    only_looked = now (ap (list_any names_earlier_row) (look_effects-notes (entries rows) moment s m)) (look_lists (entries rows) moment s m small lists)
 
     valued : (b c : Bool) → LookupOutcome rows moment s m (observation_effects b c rows moment s m)
     valued true c = added (has_room_for (query_of m) (without (s.peer, m.token) (observers (events rows))))

@@ -1,0 +1,130 @@
+-- A commit is of a row that admitted its write, by the same worker and with the same datagram of the same peer.
+use Rattle.std.proofs.Common.{◌≡◌, ℕ, ◌==◌, Bool, true, false, cond, List, [], ◌∷◌, length, Option, Some, None, Result, Ok, Err, refl, sym, ap, subst, ◌∙◌, eqb-true}
+use Rattle.std.specs.List.{list_any}
+use Rattle.rd_base.specs.declared.peers.Peer.{Peer}
+use Rattle.rd_base.proofs.lemmas.Numbers.{eqb-refl}
+use Rattle.message_model.specs.declared.messages.Unread.{Unread}
+use Rattle.message_model.specs.Message.{Message}
+use Rattle.message_model.specs.Reading.{reading}
+use Rattle.event_model.specs.declared.notes.Note.{Note}
+use Rattle.event_model.specs.declared.notes.Note.TheVariants as note
+use Rattle.event_model.specs.Repeats.{is_admission_of}
+use Rattle.event_model.proofs.SameLaws.{is_same_peer-refl}
+use Rattle.journal_model.specs.declared.steps.Step.{Step}
+use Rattle.journal_model.specs.declared.steps.StepKind.{StepKind}
+use Rattle.journal_model.specs.declared.steps.StepKind.TheVariants as step
+use Rattle.journal_model.specs.declared.rows.Row.{Row}
+use Rattle.journal_model.specs.Rows.{row}
+use Rattle.journal_model.specs.Machine.{is_look_datagram, Job, write_job, keep_kind, keep_job, job_after, job_of, MayBegin, hears, goes, ticks, IsJournal}
+use Rattle.journal_model.specs.Headline.{Within, Commits, admits, AdmittedAt}
+use Rattle.headline_law.proofs.entries.JournalLaws.{Made, each_row}
+
+-- the row at a place admitted the write of a job of a worker
+record JobFrom (rows : List Row) (worker place : ℕ) (job : Job) : Type 0 where
+  before : List Row
+  row : Row
+  within : Within rows before row
+  place_is : length before ≡ place
+  peer : Peer
+  mid : ℕ
+  admitted : admits peer mid row ≡ true
+  worker_is : row.step.worker ≡ worker
+  from_peer : row.step.peer ≡ job.peer
+  datagram : row.step.datagram ≡ job.datagram
+
+-- with one row more
+from_more : (r : Row) (rows : List Row) (worker place : ℕ) (job : Job) → JobFrom rows worker place job → JobFrom (r ∷ rows) worker place job
+from_more r rows worker place job it = record {
+  before = it.before;
+  row = it.row;
+  within = record { later = r ∷ it.within.later; whole = ap (λ (all : List Row). r ∷ all) it.within.whole };
+  place_is = it.place_is;
+  peer = it.peer;
+  mid = it.mid;
+  admitted = it.admitted;
+  worker_is = it.worker_is;
+  from_peer = it.from_peer;
+  datagram = it.datagram;
+}
+
+-- the kind of a job, where there is one
+abbrev kind_of : Option Job → StepKind
+kind_of None = step.Tick
+kind_of (Some j) = j.kind
+
+-- an admission leaves the job of its own place
+from_admission : (before : List Row) (r : Row) (place : ℕ) (notes : List Note) (job : Job) → r.notes ≡ notes → write_job notes r before ≡ Some job → job.kind ≡ step.Commit place → JobFrom (r ∷ before) r.step.worker place job
+from_admission before r place (note.Admitted peer mid ∷ notes) job noted e commits =
+    let kinds : step.Commit (length before) ≡ step.Commit place = ap kind_of e ∙ commits in
+    let same : record { kind = step.Commit (length before); peer = r.step.peer; datagram = r.step.datagram } ≡ job = cc in
+    record {
+      before = before;
+      row = r;
+      within = record { later = []; whole = refl };
+      place_is = cc;
+      peer = peer;
+      mid = mid;
+      admitted = ap (list_any (is_admission_of peer mid)) noted ∙ rw (is_same_peer-refl peer, eqb-refl mid) refl;
+      worker_is = refl;
+      from_peer = ap (λ (j : Job). j.peer) same;
+      datagram = ap (λ (j : Job). j.datagram) same;
+    }
+from_admission before r place _ job noted e commits = absurd (let h : None ≡ Some job = e in cc)
+
+-- a look leaves none
+no_write : (before : List Row) (r : Row) (place : ℕ) (sent : List (Peer × List ℕ)) (job : Job) → keep_job sent r before ≡ Some job → job.kind ≡ step.Commit place → ⊥
+no_write before r place [] job e commits = kept (reading r.step.datagram) (ap kind_of e ∙ commits)
+  where
+    kept : (read : Result Message Unread) → keep_kind read before r.moment.0 ≡ step.Commit place → ⊥
+    kept (Err fault) h = absurd cc
+    kept (Ok m) h = absurd cc
+no_write before r place (d ∷ sent) job e commits = absurd (let h : None ≡ Some job = e in cc)
+
+-- each job to commit a write is of a row that admitted it
+job_from : (worker : ℕ) (rows : List Row) (place : ℕ) (job : Job) → job_of worker rows ≡ Some job → job.kind ≡ step.Commit place → JobFrom rows worker place job
+unfolding job_of
+job_from worker [] place job e commits = absurd (let h : None ≡ Some job = e in cc)
+job_from worker (r ∷ before) place job e commits = by (r.step.worker == worker) refl e (λ h. job_from worker before place job h commits)
+  where
+    own : (kind : StepKind) → r.step.worker ≡ worker → job_after kind r before (job_of worker before) ≡ Some job → (job_of worker before ≡ Some job → JobFrom before worker place job) → JobFrom (r ∷ before) worker place job
+    own step.Admit same h more = subst (λ w. JobFrom (r ∷ before) w place job) same (from_admission before r place r.notes job refl h commits)
+    own step.Look same h more = absurd (no_write before r place r.sent job h commits)
+    own (step.Commit q) same h more = absurd (let no : None ≡ Some job = h in cc)
+    own (step.Keep body tag) same h more = absurd (let no : None ≡ Some job = h in cc)
+    own step.Tick same h more = from_more r before worker place job (more h)
+
+    by : (b : Bool) → (r.step.worker == worker) ≡ b → cond b (job_after r.step.kind r before (job_of worker before)) (job_of worker before) ≡ Some job
+        → (job_of worker before ≡ Some job → JobFrom before worker place job) → JobFrom (r ∷ before) worker place job
+    by true same h more = own r.step.kind (eqb-true r.step.worker worker same) h more
+    by false other h more = from_more r before worker place job (more h)
+
+-- so is each commit that may be made
+begun_admitted : (rows : List Row) (s : Step) (place : ℕ) → MayBegin rows s → s.kind ≡ step.Commit place → AdmittedAt rows place s
+begun_admitted rows s place (hears none heard) e = absurd (by (is_look_datagram s.datagram) (sym heard ∙ e))
+  where
+    by : (b : Bool) → cond b step.Look step.Admit ≡ step.Commit place → ⊥
+    by true h = let no : step.Look ≡ step.Commit place = h in absurd cc
+    by false h = let no : step.Admit ≡ step.Commit place = h in absurd cc
+begun_admitted rows s place (goes holds) e =
+    let it : JobFrom rows s.worker place (record { kind = s.kind; peer = s.peer; datagram = s.datagram }) = job_from s.worker rows place (record { kind = s.kind; peer = s.peer; datagram = s.datagram }) holds e in
+    record {
+      before = it.before;
+      row = it.row;
+      within = it.within;
+      place_is = it.place_is;
+      peer = it.peer;
+      mid = it.mid;
+      admitted = it.admitted;
+      worker = it.worker_is;
+      from_peer = it.from_peer;
+      datagram = it.datagram;
+    }
+begun_admitted rows s place (ticks tick) e = absurd (let h : step.Tick ≡ step.Commit place = sym tick ∙ e in cc)
+
+-- in each journal
+pub journal-place : (rows before : List Row) (r : Row) (place : ℕ) → IsJournal rows → Within rows before r → Commits r place → AdmittedAt before place r.step
+unfolding row
+journal-place rows before r place journal within commits =
+    let it : Made before r = each_row rows before r journal within in
+    subst (λ (x : Row). AdmittedAt before place x.step) (sym it.is)
+    (begun_admitted before it.step place it.may.begin (ap (λ (x : Row). x.step.kind) (sym it.is) ∙ commits))

@@ -1,0 +1,139 @@
+-- Equal tags that are read in two answers to equal queries mean blocks of one listing.
+use Rattle.std.proofs.Common.{◌≡◌, ℕ, ◌&&◌, ◌==◌, Bool, true, false, cond, List, [], ◌∷◌, ◌++◌, Option, Some, None, option_map, option_and_then, refl, sym, ap, subst, ◌∙◌, append_assoc}
+use Rattle.std.specs.Prelude.{is_some}
+use Rattle.std.specs.List.{list_any}
+use Rattle.std.proofs.lemmas.Option.{same_Some}
+use Rattle.rd_base.specs.declared.peers.Peer.{Peer}
+use Rattle.rd_base.specs.declared.queries.Query.{Query}
+use Rattle.message_model.specs.Request.{etags_in}
+use Rattle.history_model.specs.Listing.{listing, tag}
+use Rattle.history_model.proofs.TagLaws.{listing-live}
+use Rattle.event_model.specs.declared.notes.Note.{Note}
+use Rattle.event_model.specs.declared.notes.Note.TheVariants as note
+use Rattle.event_model.specs.Same.{RequestName, is_same_peer}
+use Rattle.event_model.specs.KeptAnswers.{answer_kept}
+use Rattle.journal_model.specs.declared.steps.StepKind.{StepKind}
+use Rattle.journal_model.specs.declared.steps.StepKind.TheVariants as step
+use Rattle.journal_model.specs.declared.rows.Row.{Row}
+use Rattle.journal_model.specs.Journal.{entries}
+use Rattle.journal_model.specs.Machine.{IsJournal}
+use Rattle.journal_model.specs.Requests.{asked_block}
+use Rattle.journal_model.specs.Headline.{Within, Placed, last_row, former_of_body, former_of_kept, former_of_notice, former_noted, former_at, FormedAs, Asked, IsBlockOf, Sent, is_listing, query_of_sent, AreBlocksOfOne, TagsDecideStates}
+use Rattle.headline_law.proofs.entries.TagStates.{tags_tell}
+use Rattle.headline_law.proofs.rows.AnswersAsFormed.{answer_formed}
+
+-- ---- the row that formed a body stands in the journal
+
+-- a row stands among rows
+abbrev Stands : List Row → Placed → Type 0
+Stands rows p = Within rows p.before p.row
+
+-- the newest row stands among them
+stands_newest : (p : Placed) → Stands (p.row ∷ p.before) p
+stands_newest p = record { later = []; whole = refl }
+
+-- what stands among the rows before stands among them
+stands_more : (x : Row) (rows : List Row) (p : Placed) → Stands rows p → Stands (x ∷ rows) p
+stands_more x rows p h = record { later = x ∷ h.later; whole = ap (λ (all : List Row). x ∷ all) h.whole }
+
+-- what stands among the rows up to one that stands among others
+stands_through : (rows : List Row) (here p : Placed) → Stands rows here → Stands (here.row ∷ here.before) p → Stands rows p
+stands_through rows here p outer inner = record {
+  later = outer.later ++ inner.later;
+  whole = outer.whole ∙ (ap (λ (all : List Row). outer.later ++ all) inner.whole ∙ sym (append_assoc outer.later inner.later (p.row ∷ p.before)));
+}
+
+-- the last row of a kind does
+stands_last : (test : Row → Bool) (rows : List Row) (p : Placed) → last_row test rows ≡ Some p → Stands rows p
+unfolding last_row
+stands_last test [] p e = absurd (let no : None ≡ Some p = e in cc)
+stands_last test (r ∷ before) p e = by (test r) e (λ h. stands_last test before p h)
+  where
+    by : (b : Bool) → cond b (Some (record { row = r; before = before })) (last_row test before) ≡ Some p → (last_row test before ≡ Some p → Stands before p) → Stands (r ∷ before) p
+    by true h more = subst (λ (x : Placed). Stands (r ∷ before) x) (same_Some (record { row = r; before = before }) p h) (record { later = []; whole = refl })
+    by false h more = stands_more r before p (more h)
+
+-- the row that formed what a row kept
+stands_body : (k : StepKind) (here p : Placed) → former_of_body k here ≡ Some p → Stands (here.row ∷ here.before) p
+stands_body (step.Keep body tag) here p e = stands_more here.row here.before p (stands_last _ here.before p e)
+stands_body step.Admit here p e = subst (λ (x : Placed). Stands (here.row ∷ here.before) x) (same_Some here p e) (stands_newest here)
+stands_body step.Look here p e = subst (λ (x : Placed). Stands (here.row ∷ here.before) x) (same_Some here p e) (stands_newest here)
+stands_body (step.Commit place) here p e = subst (λ (x : Placed). Stands (here.row ∷ here.before) x) (same_Some here p e) (stands_newest here)
+stands_body step.Tick here p e = subst (λ (x : Placed). Stands (here.row ∷ here.before) x) (same_Some here p e) (stands_newest here)
+
+-- the row that formed a kept answer
+stands_kept : (name : RequestName) (rows : List Row) (p : Placed) → former_of_kept name rows ≡ Some p → Stands rows p
+stands_kept name rows p e = by (last_row (λ r. list_any (λ n. is_some (answer_kept name n)) r.notes) rows) refl e
+  where
+    by : (o : Option Placed) → last_row (λ r. list_any (λ n. is_some (answer_kept name n)) r.notes) rows ≡ o → option_and_then (λ (q : Placed). former_of_body q.row.step.kind q) o ≡ Some p → Stands rows p
+    by None found h = absurd (let no : None ≡ Some p = h in cc)
+    by (Some q) found h = stands_through rows q p (stands_last _ rows q found) (stands_body q.row.step.kind q p h)
+
+-- the row that the notes of a row name
+stands_noted : (peer : Peer) (mid : ℕ) (notes : List Note) (here p : Placed) → former_noted peer mid notes here ≡ Some p → Stands (here.row ∷ here.before) p
+stands_noted peer mid [] here p e = subst (λ (x : Placed). Stands (here.row ∷ here.before) x) (same_Some here p e) (stands_newest here)
+stands_noted peer mid (n ∷ notes) here p e = by n e (λ h. stands_noted peer mid notes here p h)
+  where
+    again : (b : Bool) → cond b (former_of_notice peer mid here.before) (former_noted peer mid notes here) ≡ Some p → (former_noted peer mid notes here ≡ Some p → Stands (here.row ∷ here.before) p) → Stands (here.row ∷ here.before) p
+    again true h more = stands_more here.row here.before p (stands_last _ here.before p h)
+    again false h more = more h
+
+    by : (x : Note) → former_noted peer mid (x ∷ notes) here ≡ Some p → (former_noted peer mid notes here ≡ Some p → Stands (here.row ∷ here.before) p) → Stands (here.row ∷ here.before) p
+    by (note.Used q key) h more = stands_more here.row here.before p (stands_kept (q, key) here.before p h)
+    by (note.Again q m) h more = again (is_same_peer q peer && m == mid) h more
+    by _ h more = more h
+
+-- the row that formed what a row sends
+stands_former : (k : StepKind) (peer : Peer) (mid : ℕ) (here p : Placed) → former_at k peer mid here ≡ Some p → Stands (here.row ∷ here.before) p
+stands_former (step.Keep body tag) peer mid here p e = stands_more here.row here.before p (stands_last _ here.before p e)
+stands_former step.Admit peer mid here p e = stands_noted peer mid here.row.notes here p e
+stands_former step.Look peer mid here p e = stands_noted peer mid here.row.notes here p e
+stands_former (step.Commit place) peer mid here p e = stands_noted peer mid here.row.notes here p e
+stands_former step.Tick peer mid here p e = stands_noted peer mid here.row.notes here p e
+
+-- ---- the law
+
+-- two answers with equal tags, to equal queries
+answers_share : (rows : List Row) → IsJournal rows → (one other : Sent rows) → is_listing one ≡ true → is_listing other ≡ true → etags_in one.message ≡ etags_in other.message → query_of_sent one ≡ query_of_sent other
+    → AreBlocksOfOne one.message other.message
+answers_share rows journal one other listed also same_tags same_queries = record {
+  body = listing f.asked.query (entries (f.former.row ∷ f.former.before)) f.former.row.moment.0;
+  first = f.carries.block.block;
+  second = subst (λ body. IsBlockOf (asked_block other.message) body other.message.payload) (sym same_listings) g.carries.block.block;
+}
+  where
+    f : FormedAs one.here one.peer one.message
+    f = answer_formed rows journal one listed
+
+    g : FormedAs other.here other.peer other.message
+    g = answer_formed rows journal other also
+
+    here : Stands rows f.former
+    here = stands_through rows one.here f.former one.within (stands_former one.here.row.step.kind one.peer one.message.mid one.here f.former f.formed)
+
+    there : Stands rows g.former
+    there = stands_through rows other.here g.former other.within (stands_former other.here.row.step.kind other.peer other.message.mid other.here g.former g.formed)
+
+    first_of : List (List ℕ) → List ℕ
+    first_of [] = []
+    first_of (t ∷ tags) = t
+
+    same_tag : tag (entries (f.former.row ∷ f.former.before)) f.former.row.moment.0 ≡ tag (entries (g.former.row ∷ g.former.before)) g.former.row.moment.0
+    same_tag = ap first_of (sym f.carries.tag ∙ (same_tags ∙ g.carries.tag))
+
+    same_query : f.asked.query ≡ g.asked.query
+    same_query = same_Some f.asked.query g.asked.query (sym (ap (option_map (λ (a : Asked). a.query)) f.asks) ∙ (same_queries ∙ ap (option_map (λ (a : Asked). a.query)) g.asks))
+
+    same_listings : listing f.asked.query (entries (f.former.row ∷ f.former.before)) f.former.row.moment.0 ≡ listing g.asked.query (entries (g.former.row ∷ g.former.before)) g.former.row.moment.0
+    same_listings =
+        listing-live f.asked.query (entries (f.former.row ∷ f.former.before)) (entries (g.former.row ∷ g.former.before)) f.former.row.moment.0 g.former.row.moment.0
+        (tags_tell rows f.former.before g.former.before f.former.row g.former.row journal here there same_tag).1
+        ∙ ap (λ (q : Query). listing q (entries (g.former.row ∷ g.former.before)) g.former.row.moment.0) same_query
+
+-- equally tagged answers come from one state, and carry blocks of one listing
+pub journal-TagsDecideStates : (rows : List Row) → IsJournal rows → TagsDecideStates rows
+journal-TagsDecideStates rows journal = record {
+  histories = λ before other_before r other here there same. (tags_tell rows before other_before r other journal here there same).0;
+  records = λ before other_before r other here there same. (tags_tell rows before other_before r other journal here there same).1;
+  answers = λ one other listed also same_tags same_queries. answers_share rows journal one other listed also same_tags same_queries;
+}
