@@ -8,14 +8,13 @@ use Rattle.event_model.specs.Fetches.{fetches_running}
 use Rattle.journal_model.specs.declared.rows.Row.{Row}
 use Rattle.journal_model.specs.Journal.{events, now}
 use Rattle.journal_model.specs.Ticks.{octets_sent}
-use Rattle.journal_model.specs.Meantime.{is_never}
-use Rattle.trace_model.specs.Steps.{traced}
+use Rattle.trace_model.specs.Steps.{journal}
 use Rattle.trace_model.proofs.OnLiterals.{output_on_literals}
 use Rattle.trace_model.proofs.OutputLines.{lines, many, standing}
 
 -- the journal of a trace of one worker
 abbrev journal_of : List (List ℕ) → List Row
-journal_of trace = (traced is_never 1 (lines trace)).journal
+journal_of trace = journal 1 (lines trace)
 
 -- ---- exchanges
 
