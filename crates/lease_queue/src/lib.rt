@@ -2,12 +2,13 @@
 #![tactic(auto)]
 
 mod lapses;
+mod lease_lists;
 mod leases;
 mod queue;
 
 pub use lapses::LapsedIter;
 pub use leases::Lease;
-pub use queue::{LeaseQueue, Swept};
+pub use queue::LeaseQueue;
 
 #[cfg(test)]
 mod tests;
