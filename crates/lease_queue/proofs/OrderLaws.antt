@@ -1,5 +1,9 @@
 -- The order of leases is strict, and of two leases that differ one stands before the other.
-use Rattle.std.proofs.Common.{◌≡◌, ℕ, ◌==◌, ◌&&◌, ◌||◌, nat_lt, nat_le, true, false, not, ap, ◌∙◌, arith}
+use Rattle.std.proofs.Common.{◌≡◌, ℕ, ◌<◌, ◌==◌, ◌&&◌, ◌||◌, nat_lt, nat_le, true, false, not, refl, ap, ◌∙◌, arith}
+use Rattle.std.specs.declared.cmp.Ordering.{Ordering}
+use Rattle.std.specs.declared.cmp.Ordering.TheVariants.{Less, Equal, Greater}
+use Rattle.std.specs.Ordering.{MatchOrdering, ordering_then, nat_cmp, is_le}
+use Rattle.std.specs.Cmp.{ranks}
 use Rattle.std.proofs.lemmas.Bool.{and_parts, eqb-true}
 use Rattle.std.proofs.lemmas.Bool.Decides.{nat_tests}
 use Rattle.lease_queue.specs.declared.leases.Lease.{Lease}
@@ -22,12 +26,6 @@ differ_numbers a m b n p = grind (arith, nat_tests)
 neither_numbers : (a m b n : ℕ) → (nat_lt a b || ((a == b) && nat_lt m n)) ≡ false → ((a == b) && (m == n)) ≡ false → (nat_lt b a || ((b == a) && nat_lt n m)) ≡ true
 neither_numbers a m b n p q = grind (arith, nat_tests)
 
-lapse_numbers : (a m b n now : ℕ) → (nat_lt a b || ((a == b) && nat_lt m n)) ≡ true → nat_le b now ≡ true → nat_le a now ≡ true
-lapse_numbers a m b n now p q = grind (arith, nat_tests)
-
-after_numbers : (c k a m b n : ℕ) → (nat_lt a b || ((a == b) && nat_lt m n)) ≡ true → not (nat_lt c b || ((c == b) && nat_lt k n)) ≡ true → not (nat_lt c a || ((c == a) && nat_lt k m)) ≡ true
-after_numbers c k a m b n p q = grind (arith, nat_tests)
-
 -- ---- over leases
 
 pub before_trans : (x y z : Lease) → is_before x y ≡ true → is_before y z ≡ true → is_before x z ≡ true
@@ -45,14 +43,6 @@ before_differs x y = differ_numbers x.lapse.0 x.number y.lapse.0 y.number
 pub before_or_after : (x y : Lease) → is_before x y ≡ false → is_same x y ≡ false → is_before y x ≡ true
 before_or_after x y = neither_numbers x.lapse.0 x.number y.lapse.0 y.number
 
--- what stands before a lease that is not after z is not after z
-pub not_after_before : (z x y : Lease) → is_before x y ≡ true → not (is_before z y) ≡ true → not (is_before z x) ≡ true
-not_after_before z x y = after_numbers z.lapse.0 z.number x.lapse.0 x.number y.lapse.0 y.number
-
--- what stands before a lease that has lapsed has lapsed
-pub lapsed_before : (now : ℕ) (x y : Lease) → is_before x y ≡ true → has_lapsed now y ≡ true → has_lapsed now x ≡ true
-lapsed_before now x y = lapse_numbers x.lapse.0 x.number y.lapse.0 y.number now
-
 -- leases with equal parts are equal, and a lease has its own parts
 abbrev lease_of : ℕ → ℕ → Lease
 lease_of lapse number = record { lapse = record { 0 = lapse }; number = number }
@@ -67,3 +57,43 @@ same_numbers a m = grind (arith, nat_tests)
 
 pub same_itself : (x : Lease) → is_same x x ≡ true
 same_itself x = same_numbers x.lapse.0 x.number
+
+-- ---- the order by which the keys of a map are compared
+
+abbrev pub lease_cmp : Lease → Lease → Ordering
+lease_cmp x y = ordering_then (nat_cmp x.lapse.0 y.lapse.0) (nat_cmp x.number y.number)
+
+ranked_numbers : (a m b n : ℕ) (r s : Ordering) → MatchOrdering r (a < b) (a ≡ b) (b < a) → MatchOrdering s (m < n) (m ≡ n) (n < m) → MatchOrdering (ordering_then r s) ((nat_lt a b || ((a == b) && nat_lt m n)) ≡ true) (((a == b) && (m == n)) ≡ true) ((nat_lt b a || ((b == a) && nat_lt n m)) ≡ true)
+ranked_numbers a m b n Less s p q = grind (arith, nat_tests)
+ranked_numbers a m b n Equal Less p q = grind (arith, nat_tests)
+ranked_numbers a m b n Equal Equal p q = grind (arith, nat_tests)
+ranked_numbers a m b n Equal Greater p q = grind (arith, nat_tests)
+ranked_numbers a m b n Greater s p q = grind (arith, nat_tests)
+
+-- what an answer of the comparison says
+pub ranked : (x y : Lease) → MatchOrdering (lease_cmp x y) (is_before x y ≡ true) (is_same x y ≡ true) (is_before y x ≡ true)
+ranked x y = ranked_numbers x.lapse.0 x.number y.lapse.0 y.number (nat_cmp x.lapse.0 y.lapse.0) (nat_cmp x.number y.number) (ranks x.lapse.0 y.lapse.0) (ranks x.number y.number)
+
+-- no lease is below the least
+least_numbers : (a m : ℕ) (r s : Ordering) → MatchOrdering r (0 < a) (0 ≡ a) (a < 0) → MatchOrdering s (0 < m) (0 ≡ m) (m < 0) → is_le (ordering_then r s) ≡ true
+least_numbers a m Less s p q = refl
+least_numbers a m Equal Less p q = refl
+least_numbers a m Equal Equal p q = refl
+least_numbers a m Equal Greater p q = absurd (omega arith)
+least_numbers a m Greater s p q = absurd (omega arith)
+
+pub least_first : (x : Lease) → is_le (lease_cmp (record { lapse = record { 0 = 0 }; number = 0 }) x) ≡ true
+least_first x = least_numbers x.lapse.0 x.number (nat_cmp 0 x.lapse.0) (nat_cmp 0 x.number) (ranks 0 x.lapse.0) (ranks 0 x.number)
+
+differ_back_numbers : (a m b n : ℕ) → (nat_lt a b || ((a == b) && nat_lt m n)) ≡ true → ((b == a) && (n == m)) ≡ false
+differ_back_numbers a m b n p = grind (arith, nat_tests)
+
+pub differs_back : (x y : Lease) → is_before x y ≡ true → is_same y x ≡ false
+differs_back x y = differ_back_numbers x.lapse.0 x.number y.lapse.0 y.number
+
+unlapsed_numbers : (a m b n now : ℕ) → (nat_lt a b || ((a == b) && nat_lt m n)) ≡ true → nat_le a now ≡ false → nat_le b now ≡ false
+unlapsed_numbers a m b n now p q = grind (arith, nat_tests)
+
+-- what stands after a lease that has not lapsed has not lapsed
+pub unlapsed_after : (now : ℕ) (x y : Lease) → is_before x y ≡ true → has_lapsed now x ≡ false → has_lapsed now y ≡ false
+unlapsed_after now x y = unlapsed_numbers x.lapse.0 x.number y.lapse.0 y.number now

@@ -1,25 +1,20 @@
 -- Queues of leases: where they are cut, what is put and taken, and that they ascend.
-use Rattle.std.proofs.Common.{◌≡◌, ◌≢◌, zero, suc, Bool, true, false, not, cond, List, [], ◌∷◌, ◌++◌, filter, slice_index_or, refl, sym, ap, ◌∙◌, subst, ◌⊎◌, inl, inr, append_assoc, arith}
+use Rattle.std.proofs.Common.{◌≡◌, ◌≢◌, ℕ, suc, ◌≤◌, Bool, true, false, not, cond, List, [], ◌∷◌, ◌++◌, length, map, filter, refl, sym, ap, ◌∙◌, subst, ◌⊎◌, inl, inr, Option, Some, None, IfNone, append_assoc, append-nil, arith}
+use Rattle.std.specs.declared.cmp.Ordering.{Ordering}
+use Rattle.std.specs.declared.cmp.Ordering.TheVariants.{Less, Equal, Greater}
+use Rattle.std.specs.Ordering.{MatchOrdering, match_ordering, is_eq}
+use Rattle.std.specs.Map.{keys_of, remove_entry}
+use Rattle.std.specs.BTreeMap.{insert_entry, is_at}
+use Rattle.std.specs.BTreeMap.Range.{entries_from}
 use Rattle.std.specs.List.{AllByRecursion, Contains}
-use Rattle.std.specs.List.Sorted.{IsPartitionedBy}
 use Rattle.std.proofs.lemmas.Bool.{false≢true}
 use Rattle.std.proofs.lemmas.List.Elements.{All-contains, All-from_recursion, Contains-append_left, Contains-append_right, Contains-append_cases}
 use Rattle.lease_queue.specs.declared.leases.Lease.{Lease}
-use Rattle.lease_queue.specs.Leases.{is_before, is_same, IsAscending, earlier, later, with_lease, without_lease}
-use Rattle.lease_queue.proofs.OrderLaws.{before_trans, not_before_itself, not_before_back, before_differs, before_or_after, same_is, same_itself}
+use Rattle.lease_queue.specs.Leases.{is_before, is_same, IsAscending, earlier, later, with_lease, without_lease, has_lapsed, lapsed_at, unlapsed_at}
+use Rattle.lease_queue.proofs.OrderLaws.{lease_cmp, ranked, least_first, differs_back, unlapsed_after, before_trans, not_before_itself, not_before_back, before_differs, before_or_after, same_is, same_itself}
 use Rattle.rd_base.proofs.lemmas.Contains.{contains_none, contains_first, contains_later, contains_cases, contains_filter, filter_contains}
 use Rattle.rd_base.proofs.lemmas.Each.{each_weaker, each_filter, each_append, each_passes}
 use Rattle.rd_base.proofs.lemmas.Filters.{filter_all, filter_none}
-
--- a test that is passed by what stands before whatever passes it parts a queue
-pub partitioned : (test : Lease → Bool) → ((x y : Lease) → is_before x y ≡ true → test y ≡ true → test x ≡ true) → (xs : List Lease) → IsAscending xs → IsPartitionedBy test xs
-unfolding IsAscending
-partitioned test down [] up i j d along within p = absurd (omega arith)
-partitioned test down (x ∷ xs) up zero zero d along within p = p
-partitioned test down (x ∷ xs) up zero (suc j) d along within p =
-    down x (slice_index_or xs j d) (All-from_recursion (λ y. is_before x y ≡ true) xs up.0 j d (omega arith)) p
-partitioned test down (x ∷ xs) up (suc i) zero d along within p = absurd (omega arith)
-partitioned test down (x ∷ xs) up (suc i) (suc j) d along within p = partitioned test down xs up.1 i j d (omega arith) (omega arith) p
 
 -- ---- they ascend
 
@@ -52,34 +47,6 @@ ascends_with queue lease up =
 pub ascends_without : (queue : List Lease) (lease : Lease) → IsAscending queue → IsAscending (without_lease queue lease)
 unfolding without_lease
 ascends_without queue lease up = ascends_filter (λ x. not (is_same x lease)) queue up
-
--- ---- what is put: between the earlier and the later
-
-pub with_is : (queue : List Lease) (lease : Lease) → with_lease queue lease ≡ (earlier queue lease ++ lease ∷ []) ++ later queue lease
-unfolding with_lease
-with_is queue lease = rw append_assoc refl
-
--- ---- what is taken: the earlier and the later are left
-
-pub without_is : (queue : List Lease) (lease : Lease) → IsAscending queue → without_lease queue lease ≡ earlier queue lease ++ later queue lease
-unfolding without_lease IsAscending
-without_is [] lease up = refl
-without_is (x ∷ xs) lease up = by (is_before x lease) (is_same x lease) refl refl (without_is xs lease up.1)
-  where
-    none_earlier : is_before lease x ≡ true → earlier xs lease ≡ []
-    none_earlier h =
-        filter_none (λ y. is_before y lease) xs
-        (each_weaker (λ y. is_before x y ≡ true) (λ y. is_before y lease ≡ false) (λ y g. not_before_back lease y (before_trans lease x y h g)) xs up.0)
-
-    by : (b s : Bool) → is_before x lease ≡ b → is_same x lease ≡ s → without_lease xs lease ≡ earlier xs lease ++ later xs lease → without_lease (x ∷ xs) lease ≡ earlier (x ∷ xs) lease ++ later (x ∷ xs) lease
-    by true s b e more = rw (before_differs x lease b, b, not_before_back x lease b) (ap (λ rest. x ∷ rest) more)
-    by false true b e more =
-        let not_after : is_before lease x ≡ false = subst (λ z. is_before lease z ≡ false) (sym (same_is x lease e)) (not_before_itself lease) in
-        rw (e, b, not_after) more
-    by false false b e more =
-        let after = before_or_after x lease b e in
-        let none = none_earlier after in
-        rw (e, b, after, none) (ap (λ rest. x ∷ rest) (rw none at more))
 
 -- ---- nothing changes where it is there already, or is not there
 
@@ -158,3 +125,122 @@ without_kept queue lease other differs h = by (is_same other lease) refl
     by : (s : Bool) → is_same other lease ≡ s → Contains (without_lease queue lease) other
     by true e = absurd (differs (same_is other lease e))
     by false e = filter_contains (λ x. not (is_same x lease)) queue other h (ap not e)
+
+-- ---- the keys of a map, put and taken
+
+with_first : (x : Lease) (xs : List Lease) (lease : Lease) → IsAscending (x ∷ xs) → is_before lease x ≡ true → lease ∷ x ∷ xs ≡ with_lease (x ∷ xs) lease
+unfolding with_lease IsAscending
+with_first x xs lease up h =
+    let behind = each_weaker (λ y. is_before x y ≡ true) (λ y. is_before lease y ≡ true) (λ y g. before_trans lease x y h g) xs up.0 in
+    let none = filter_none (λ y. is_before y lease) xs (each_weaker (λ y. is_before lease y ≡ true) (λ y. is_before y lease ≡ false) (λ y g. not_before_back lease y g) xs behind) in
+    let all = filter_all (λ y. is_before lease y) xs behind in
+    rw (not_before_back lease x h, h, none, all) refl
+
+pub without_first : (x : Lease) (xs : List Lease) → IsAscending (x ∷ xs) → without_lease (x ∷ xs) x ≡ xs
+unfolding without_lease IsAscending
+without_first x xs up =
+    let all = filter_all (λ y. not (is_same y x)) xs (each_weaker (λ y. is_before x y ≡ true) (λ y. not (is_same y x) ≡ true) (λ y g. ap not (differs_back x y g)) xs up.0) in
+    rw (same_itself x) all
+
+module _ {X : Type 0} where
+  pub keys_with : (v : X) (es : List (Lease × X)) (lease : Lease) → IsAscending (keys_of es) → keys_of (insert_entry lease_cmp es lease v) ≡ with_lease (keys_of es) lease
+  unfolding with_lease IsAscending
+  keys_with v [] lease up = refl
+  keys_with v (e ∷ es) lease up = by (lease_cmp lease e.0) (ranked lease e.0) (keys_with v es lease up.1)
+    where
+      by : (r : Ordering) → MatchOrdering r (is_before lease e.0 ≡ true) (is_same lease e.0 ≡ true) (is_before e.0 lease ≡ true) → keys_of (insert_entry lease_cmp es lease v) ≡ with_lease (keys_of es) lease
+          → keys_of (match_ordering r ((lease, v) ∷ e ∷ es) ((e.0, v) ∷ es) (e ∷ insert_entry lease_cmp es lease v)) ≡ with_lease (e.0 ∷ keys_of es) lease
+      by Less h more = with_first e.0 (keys_of es) lease up h
+      by Equal h more =
+          sym (with_same (e.0 ∷ keys_of es) lease up (subst (λ z. Contains (e.0 ∷ keys_of es) z) (sym (same_is lease e.0 h)) (contains_first e.0 (keys_of es))))
+      by Greater h more = rw (h, not_before_back e.0 lease h) (ap (λ rest. e.0 ∷ rest) more)
+
+  pub keys_without : (es : List (Lease × X)) (lease : Lease) → IsAscending (keys_of es) → keys_of (remove_entry (is_at (lease_cmp lease)) es) ≡ without_lease (keys_of es) lease
+  unfolding without_lease IsAscending
+  keys_without [] lease up = refl
+  keys_without (e ∷ es) lease up = by (lease_cmp lease e.0) (ranked lease e.0) (keys_without es lease up.1)
+    where
+      by : (r : Ordering) → MatchOrdering r (is_before lease e.0 ≡ true) (is_same lease e.0 ≡ true) (is_before e.0 lease ≡ true) → keys_of (remove_entry (is_at (lease_cmp lease)) es) ≡ without_lease (keys_of es) lease
+          → keys_of (cond (is_eq r) es (e ∷ remove_entry (is_at (lease_cmp lease)) es)) ≡ without_lease (e.0 ∷ keys_of es) lease
+      by Less h more = rw (differs_back lease e.0 h) (ap (λ rest. e.0 ∷ rest) more)
+      by Equal h more = subst (λ z. keys_of es ≡ without_lease (e.0 ∷ keys_of es) z) (sym (same_is lease e.0 h)) (sym (without_first e.0 (keys_of es) up))
+      by Greater h more = rw (before_differs e.0 lease h) (ap (λ rest. e.0 ∷ rest) more)
+
+  -- all stand from the least on
+  pub from_least : (es : List (Lease × X)) → entries_from (lease_cmp (record { lapse = record { 0 = 0 }; number = 0 })) es ≡ es
+  from_least [] = refl
+  from_least (e ∷ es) = rw (least_first e.0) (ap (λ rest. e ∷ rest) (from_least es))
+
+  pub keys_count : (es : List (Lease × X)) → length (keys_of es) ≡ length es
+  keys_count [] = refl
+  keys_count (e ∷ es) = ap suc (keys_count es)
+
+-- ---- those that have lapsed stand in front
+
+none_lapsed : (now : ℕ) (xs : List Lease) → AllByRecursion (λ y. has_lapsed now y ≡ false) xs → lapsed_at now xs ≡ []
+unfolding lapsed_at
+none_lapsed now xs h = rw (filter_none (λ y. has_lapsed now y) xs h) refl
+
+not_lapsed : (now : ℕ) (x : Lease) (xs : List Lease) → IsAscending (x ∷ xs) → has_lapsed now x ≡ false → AllByRecursion (λ y. has_lapsed now y ≡ false) xs
+unfolding IsAscending
+not_lapsed now x xs up h = each_weaker (λ y. is_before x y ≡ true) (λ y. has_lapsed now y ≡ false) (λ y g. unlapsed_after now x y g h) xs up.0
+
+-- where the first has not lapsed none has
+pub lapsed_end : (now : ℕ) (x : Lease) (xs : List Lease) → IsAscending (x ∷ xs) → has_lapsed now x ≡ false → (lapsed_at now (x ∷ xs) ≡ []) × (lapsed_at now xs ≡ [])
+lapsed_end now x xs up h = (none_lapsed now (x ∷ xs) (h, not_lapsed now x xs up h), none_lapsed now xs (not_lapsed now x xs up h))
+
+pub lapsed_first : (now : ℕ) (x : Lease) (xs : List Lease) → has_lapsed now x ≡ true → lapsed_at now (x ∷ xs) ≡ x.number ∷ lapsed_at now xs
+unfolding lapsed_at
+lapsed_first now x xs h = rw h refl
+
+pub unlapsed_first : (now : ℕ) (x : Lease) (xs : List Lease) → has_lapsed now x ≡ true → unlapsed_at now (x ∷ xs) ≡ unlapsed_at now xs
+unfolding unlapsed_at
+unlapsed_first now x xs h = rw h refl
+
+pub unlapsed_end : (now : ℕ) (x : Lease) (xs : List Lease) → IsAscending (x ∷ xs) → has_lapsed now x ≡ false → unlapsed_at now (x ∷ xs) ≡ x ∷ xs
+unfolding unlapsed_at
+unlapsed_end now x xs up h =
+    filter_all (λ y. not (has_lapsed now y)) (x ∷ xs)
+    (each_weaker (λ y. has_lapsed now y ≡ false) (λ y. not (has_lapsed now y) ≡ true) (λ y g. ap not g) (x ∷ xs) (h, not_lapsed now x xs up h))
+
+pub ascends_rest : (x : Lease) (xs : List Lease) → IsAscending (x ∷ xs) → IsAscending xs
+unfolding IsAscending
+ascends_rest x xs up = up.1
+
+pub lapsed_empty : (now : ℕ) → lapsed_at now [] ≡ []
+unfolding lapsed_at
+lapsed_empty now = refl
+
+pub unlapsed_empty : (now : ℕ) → unlapsed_at now [] ≡ []
+unfolding unlapsed_at
+unlapsed_empty now = refl
+
+pub lapsed_within : (now : ℕ) (xs : List Lease) → length (lapsed_at now xs) ≤ length xs
+unfolding lapsed_at
+lapsed_within now [] = omega arith
+lapsed_within now (x ∷ xs) = by (has_lapsed now x) (lapsed_within now xs)
+  where
+    by : (t : Bool) → length (lapsed_at now xs) ≤ length xs → length (map (λ y. y.number) (cond t (x ∷ filter (has_lapsed now) xs) (filter (has_lapsed now) xs))) ≤ suc (length xs)
+    by true more = omega arith
+    by false more = omega arith
+
+-- ---- what a cursor says
+
+pub none_holds : {X P : Type 0} (r : Option X) → P → IfNone r P
+none_holds None p = p
+none_holds (Some x) p = tt
+
+pub numbers_on : (before : List ℕ) (number : ℕ) (after : List ℕ) → (before ++ number ∷ []) ++ after ≡ before ++ number ∷ after
+numbers_on before number after = append_assoc before (number ∷ []) after
+
+pub numbers_end : (before after : List ℕ) → after ≡ [] → before ≡ before ++ after
+numbers_end before after end = sym (ap (λ more. before ++ more) end ∙ append-nil before)
+
+-- what is left where the next lease has not lapsed, and where there is none
+pub nothing_left : (now : ℕ) (x : Lease) (xs all : List Lease) → all ≡ x ∷ xs → IsAscending all → has_lapsed now x ≡ false → (lapsed_at now all ≡ []) × (unlapsed_at now all ≡ all)
+nothing_left now x xs all is up h =
+    let ascends = subst IsAscending is up in
+    (ap (lapsed_at now) is ∙ (lapsed_end now x xs ascends h).0, ap (unlapsed_at now) is ∙ unlapsed_end now x xs ascends h ∙ sym is)
+
+pub none_left : (now : ℕ) (all : List Lease) → all ≡ [] → (lapsed_at now all ≡ []) × (unlapsed_at now all ≡ all)
+none_left now all is = (ap (lapsed_at now) is ∙ lapsed_empty now, ap (unlapsed_at now) is ∙ unlapsed_empty now ∙ sym is)

@@ -38,3 +38,7 @@ has_lapsed now lease = nat_le lease.lapse.0 now
 -- the numbers of the leases that have lapsed, in order
 unfoldable pub lapsed_at : ℕ → List Lease → List ℕ
 lapsed_at now queue = map (λ x. x.number) (filter (has_lapsed now) queue)
+
+-- the leases that have not lapsed, in order
+unfoldable pub unlapsed_at : ℕ → List Lease → List Lease
+unlapsed_at now queue = filter (λ x. not (has_lapsed now x)) queue

@@ -1,45 +1,71 @@
 //! The leases that have lapsed, one after another.
-ghost use Rattle.std.specs.Prelude.{◌≡◌, ◌+◌, ◌∷◌, [], map, IfSome, IfNone};
-ghost use Rattle.lease_queue.specs.declared.leases.Lease.{Lease};
+ghost use Rattle.std.specs.Prelude.{◌≡◌, ◌+◌, ◌<◌, ◌≤◌, ◌∷◌, [], length, IfSome, IfNone};
+ghost use Rattle.std.specs.Map.{keys_of};
+ghost use Rattle.lease_queue.specs.Leases.{IsAscending, lapsed_at};
 
 use crate::Lease;
-use rd_base::Steps;
+use crate::leases::has_lapsed;
+use chunk_map::RangeIter;
+use rd_base::{Moment, Steps};
 use std::marker::Model;
-use std::sync::ledger::Ledger;
+use std::sync::ledger::{Blank, Ledger};
 
 /// A cursor over numbers of leases: contracts see it as the numbers that are left, in order.
 #[derive(Drop)]
 pub struct LapsedIter<'a> {
-    /// The leases that are left.
-    left: &'a [Lease],
+    /// The leases that are left, those that have not lapsed too.
+    left: RangeIter<'a, Lease, ()>,
+    /// The moment at which they have lapsed.
+    now: Moment,
 }
 
 impl<'a> Model for LapsedIter<'a> {
-    ghost use Rattle.std.specs.Prelude.{ℕ, List, map};
-    ghost use Rattle.lease_queue.specs.declared.leases.Lease.{Lease};
+    ghost use Rattle.std.specs.Prelude.{ℕ, List};
+    ghost use Rattle.std.specs.Map.{keys_of};
+    ghost use Rattle.lease_queue.specs.Leases.{IsAscending, lapsed_at};
 
     ghost Value = { List ℕ };
 
-    ghost view = { λ c. map (λ (l : Lease). l.number) c.left.now };
+    ghost view = { λ c. lapsed_at c.now.0 (keys_of c.left) };
+
+    ghost invariant = { λ c. IsAscending (keys_of c.left) };
 }
 
 impl<'a> LapsedIter<'a> {
-    /// A cursor over the numbers of these leases.
-    pub(crate) fn over(leases: &'a [Lease]) -> LapsedIter<'a>
-        ensures { result ≡ map (λ (l : Lease). l.number) leases.now }
+    /// A cursor over the numbers of those of these leases that have lapsed at this moment.
+    pub(crate) fn over(left: RangeIter<'a, Lease, ()>, now: Moment) -> LapsedIter<'a>
+        requires { IsAscending (keys_of left) }
+        ensures { result ≡ lapsed_at now.0 (keys_of left.entry) }
     {
-        LapsedIter { left: leases }
+        LapsedIter { left, now }
     }
 
-    /// The next number; None exactly at the end. Each call counts one step, that at the end too.
+    /// The next number; None exactly at the end. Each call counts one step, that at the end too. Takes no memory.
     pub fn step<L: Ledger>(&mut self, steps: &mut Steps<L>) -> Option<u64>
         ensures next { IfSome result (λ number. self.old ≡ number ∷ self.new) }
         ensures end { IfNone result ((self.old ≡ []) × (self.new ≡ [])) }
         ensures counted { steps.new ≡ steps.old + 1 }
     {
-        steps.tick();
-        let (first, rest) = self.left.split_first()?;
-        self.left = rest;
-        Some(first.number)
+        let (lease, _) = self.left.step(steps)?;
+        if !has_lapsed(lease, self.now) {
+            return None;
+        }
+        Some(lease.number)
+    }
+
+    /// How many numbers are left, which are not more than `most`.
+    pub(crate) fn count<L: Ledger>(mut self, most: u64, blank: Blank) -> u64
+        requires bound { length self ≤ most }
+        requires name { blank.name ≡ L.name }
+        requires parts { blank.parts ≡ L.parts }
+        requires some { 0 < L.parts }
+        ensures { result ≡ length self.entry }
+    {
+        let mut steps = Steps::<L>::new(blank);
+        let mut count = 0;
+        while let Some(_) = self.step(&mut steps) {
+            count += 1;
+        }
+        count
     }
 }

@@ -1,8 +1,9 @@
 //! Leases and their order.
-ghost use Rattle.std.specs.Prelude.{◌≡◌};
+ghost use Rattle.std.specs.Prelude.{◌≡◌, IfOk};
 ghost use Rattle.lease_queue.specs.Leases as order;
 
-use rd_base::Moment;
+use chunk_map::Shared;
+use rd_base::{Moment, Starved};
 
 /// A lease: the moment at which it lapses, and the number of its registration. Leases are ordered by their lapse,
 /// those of one lapse by their number.
@@ -14,9 +15,16 @@ pub struct Lease {
     pub number: u64,
 }
 
-/// Whether the first lease stands before the second.
-pub(crate) fn is_before(lease: &Lease, other: &Lease) -> bool
-    ensures { result ≡ order.is_before lease.now other.now }
+/// A lease is two numbers, which cost nothing.
+impl Shared for Lease {
+    fn share(&self) -> Result<Lease, Starved> {
+        Ok(*self)
+    }
+}
+
+/// Whether the lease has lapsed at this moment, which may be that of its lapse.
+pub(crate) fn has_lapsed(lease: &Lease, now: Moment) -> bool
+    ensures { result ≡ order.has_lapsed now.0 lease.now }
 {
-    lease < other
+    lease.lapse <= now
 }

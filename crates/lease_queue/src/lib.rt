@@ -2,13 +2,12 @@
 #![tactic(auto)]
 
 mod lapses;
-mod lease_lists;
 mod leases;
 mod queue;
 
 pub use lapses::LapsedIter;
 pub use leases::Lease;
-pub use queue::LeaseQueue;
+pub use queue::{LeaseQueue, Swept};
 
 #[cfg(test)]
 mod tests;

@@ -1,32 +1,47 @@
 //! Versions of the queue of leases.
-ghost use Rattle.std.specs.Prelude.{◌≡◌, ◌≢◌, ◌↔◌, [], length, IfOk, Contains};
+ghost use Rattle.std.specs.Prelude.{◌≡◌, ◌≢◌, ◌↔◌, ◌+◌, ◌<◌, ◌≤◌, [], length, IfOk, Contains};
+ghost use Rattle.std.specs.Map.{keys_of};
 ghost use Rattle.lease_queue.specs.declared.leases.Lease.{Lease};
-ghost use Rattle.lease_queue.specs.Leases.{IsAscending, with_lease, without_lease, lapsed_at};
+ghost use Rattle.lease_queue.specs.Leases.{IsAscending, with_lease, without_lease, lapsed_at, unlapsed_at};
 
-use crate::lease_lists::{copied, lapsed, with_lease, without_lease};
+use crate::leases::has_lapsed;
 use crate::{LapsedIter, Lease};
-use rd_base::{Moment, Starved};
+use chunk_map::{ChunkMap, RangeIter};
+use rd_base::{Moment, Starved, Steps};
 use std::alloc::Global;
-use std::marker::Model;
+use std::marker::{Brand, Model};
+use std::sync::ledger::{Blank, Ledger};
 
 /// A set of leases in the order in which they lapse, those of one lapse by their number. A queue never changes:
 /// [`LeaseQueue::put`] and [`LeaseQueue::take`] make another one. Contracts see it as the list of its leases.
-#[derive(Debug, Drop)]
+#[derive(Drop)]
 pub struct LeaseQueue {
-    /// The leases in their order.
-    leases: Vec<Lease>,
+    /// The leases as keys, so that versions share those that did not change.
+    leases: ChunkMap<Lease, ()>,
+    /// The allocator of what is made of it.
+    alloc: Global,
+}
+
+/// What a sweep gives.
+#[derive(Drop)]
+pub struct Swept {
+    /// The queue of the leases that have not lapsed.
+    pub queue: LeaseQueue,
+    /// The numbers of those that have, in order.
+    pub numbers: Vec<u64>,
 }
 
 impl Model for LeaseQueue {
     ghost use Rattle.std.specs.Prelude.{List};
+    ghost use Rattle.std.specs.Map.{keys_of};
     ghost use Rattle.lease_queue.specs.declared.leases.Lease.{Lease};
     ghost use Rattle.lease_queue.specs.Leases.{IsAscending};
 
     ghost Value = { List Lease };
 
-    ghost view = { λ q. q.leases.items };
+    ghost view = { λ q. keys_of q.leases };
 
-    ghost invariant = { λ q. IsAscending q.leases.items };
+    ghost invariant = { λ q. IsAscending (keys_of q.leases) };
 }
 
 impl LeaseQueue {
@@ -35,7 +50,8 @@ impl LeaseQueue {
         ensures { IfOk result (λ queue. queue ≡ []) }
     {
         Ok(LeaseQueue {
-            leases: Vec::new(alloc),
+            leases: ChunkMap::empty(alloc)?,
+            alloc,
         })
     }
 
@@ -44,8 +60,10 @@ impl LeaseQueue {
         ensures same { IfOk result (λ queue. queue ≡ self.now) }
         ensures ascends { IsAscending self.now }
     {
-        let leases = copied(*self.leases.allocator(), self.leases.as_slice())?;
-        Ok(LeaseQueue { leases })
+        Ok(LeaseQueue {
+            leases: self.leases.share()?,
+            alloc: self.alloc,
+        })
     }
 
     /// The queue with this lease more; an equal one where it is there already.
@@ -57,8 +75,10 @@ impl LeaseQueue {
         ensures others { IfOk result (λ queue. (other : Lease) → other ≢ record { lapse = lapse; number = number } → Contains queue other ↔ Contains self.now other) }
     {
         let lease = Lease { lapse, number };
-        let leases = with_lease(*self.leases.allocator(), self.leases.as_slice(), lease)?;
-        Ok(LeaseQueue { leases })
+        Ok(LeaseQueue {
+            leases: self.leases.put(lease, ())?,
+            alloc: self.alloc,
+        })
     }
 
     /// The queue without this lease; an equal one where it is not there.
@@ -70,21 +90,56 @@ impl LeaseQueue {
         ensures others { IfOk result (λ queue. (other : Lease) → other ≢ record { lapse = lapse; number = number } → Contains queue other ↔ Contains self.now other) }
     {
         let lease = Lease { lapse, number };
-        let leases = without_lease(*self.leases.allocator(), self.leases.as_slice(), lease)?;
-        Ok(LeaseQueue { leases })
+        Ok(LeaseQueue {
+            leases: self.leases.take(&lease)?,
+            alloc: self.alloc,
+        })
+    }
+
+    /// A cursor over the leases, in order.
+    fn all(&self) -> RangeIter<'_, Lease, ()>
+        ensures leases { keys_of result ≡ self.now }
+        ensures ascends { IsAscending (keys_of result) }
+    {
+        self.leases.range(&Lease {
+            lapse: Moment(0),
+            number: 0,
+        })
     }
 
     /// A cursor over the numbers of the leases that have lapsed at this moment, in order.
     pub fn lapsed(&self, now: Moment) -> LapsedIter<'_>
         ensures { result ≡ lapsed_at now.0 self.now }
     {
-        LapsedIter::over(lapsed(self.leases.as_slice(), now))
+        LapsedIter::over(self.all(), now)
     }
 
-    /// How many leases have lapsed at this moment.
+    /// How many leases have lapsed at this moment. It goes through those that have.
     pub fn count_lapsed(&self, now: Moment) -> u64
         ensures { result ≡ length (lapsed_at now.0 self.now) }
     {
-        lapsed(self.leases.as_slice(), now).len() as u64
+        let most = self.leases.len();
+        self.lapsed(now).count::<Brand>(most, Blank::new(1))
+    }
+
+    /// Takes all leases that have lapsed at this moment, in one pass. It counts a step for each of them, and at most one
+    /// more.
+    pub fn sweep<L: Ledger>(&self, now: Moment, steps: &mut Steps<L>) -> Result<Swept, Starved>
+        ensures queue { IfOk result (λ swept. swept.queue ≡ unlapsed_at now.0 self.now) }
+        ensures ascends { IfOk result (λ swept. IsAscending swept.queue) }
+        ensures numbers { IfOk result (λ swept. swept.numbers.items ≡ lapsed_at now.0 self.now) }
+        ensures counted { steps.new ≤ steps.old + (length (lapsed_at now.0 self.now) + 1) }
+    {
+        let mut queue = self.share()?;
+        let mut numbers = Vec::new(self.alloc);
+        let mut all = self.all();
+        while let Some((lease, _)) = all.step(steps) {
+            if !has_lapsed(lease, now) {
+                break;
+            }
+            queue = queue.take(lease.lapse, lease.number)?;
+            numbers.push(lease.number)?;
+        }
+        Ok(Swept { queue, numbers })
     }
 }

@@ -109,3 +109,29 @@ fn versions_stay(rt: HostRuntime) -> Result<(), Fail> {
     assert_eq!(rt; shared.count_lapsed(Moment(59)), 0);
     Ok(())
 }
+
+/// What a sweep takes, and what it leaves.
+fn swept<L: Ledger>(blank: Blank, queue: &LeaseQueue, now: Moment) -> Result<Swept, Starved>
+    requires name { blank.name ≡ L.name }
+    requires parts { blank.parts ≡ L.parts }
+    requires some { 0 < L.parts }
+{
+    let mut steps = Steps::<L>::new(blank);
+    queue.sweep(now, &mut steps)
+}
+
+/// A sweep takes the leases that have lapsed, and leaves the others.
+#[test]
+fn sweeps(rt: HostRuntime) -> Result<(), Fail> {
+    let none = LeaseQueue::empty(rt.alloc())?;
+    let queue = none
+        .put(Moment(60), 2)?
+        .put(Moment(50), 9)?
+        .put(Moment(61), 1)?;
+    let swept = swept::<Brand>(Blank::new(1), &queue, Moment(60))?;
+    let numbers = swept.numbers.as_slice();
+    assert_eq!(rt; numbers, [9, 2].as_slice());
+    assert_eq!(rt; swept.queue.count_lapsed(Moment(u64::MAX)), 1);
+    assert_eq!(rt; queue.count_lapsed(Moment(60)), 2);
+    Ok(())
+}
