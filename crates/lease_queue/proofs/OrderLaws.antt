@@ -26,12 +26,6 @@ differ_numbers a m b n p = grind (arith, nat_tests)
 neither_numbers : (a m b n : ℕ) → (nat_lt a b || ((a == b) && nat_lt m n)) ≡ false → ((a == b) && (m == n)) ≡ false → (nat_lt b a || ((b == a) && nat_lt n m)) ≡ true
 neither_numbers a m b n p q = grind (arith, nat_tests)
 
-lapse_numbers : (a m b n now : ℕ) → (nat_lt a b || ((a == b) && nat_lt m n)) ≡ true → nat_le b now ≡ true → nat_le a now ≡ true
-lapse_numbers a m b n now p q = grind (arith, nat_tests)
-
-after_numbers : (c k a m b n : ℕ) → (nat_lt a b || ((a == b) && nat_lt m n)) ≡ true → not (nat_lt c b || ((c == b) && nat_lt k n)) ≡ true → not (nat_lt c a || ((c == a) && nat_lt k m)) ≡ true
-after_numbers c k a m b n p q = grind (arith, nat_tests)
-
 -- ---- over leases
 
 pub before_trans : (x y z : Lease) → is_before x y ≡ true → is_before y z ≡ true → is_before x z ≡ true
@@ -48,14 +42,6 @@ before_differs x y = differ_numbers x.lapse.0 x.number y.lapse.0 y.number
 
 pub before_or_after : (x y : Lease) → is_before x y ≡ false → is_same x y ≡ false → is_before y x ≡ true
 before_or_after x y = neither_numbers x.lapse.0 x.number y.lapse.0 y.number
-
--- what stands before a lease that is not after z is not after z
-pub not_after_before : (z x y : Lease) → is_before x y ≡ true → not (is_before z y) ≡ true → not (is_before z x) ≡ true
-not_after_before z x y = after_numbers z.lapse.0 z.number x.lapse.0 x.number y.lapse.0 y.number
-
--- what stands before a lease that has lapsed has lapsed
-pub lapsed_before : (now : ℕ) (x y : Lease) → is_before x y ≡ true → has_lapsed now y ≡ true → has_lapsed now x ≡ true
-lapsed_before now x y = lapse_numbers x.lapse.0 x.number y.lapse.0 y.number now
 
 -- leases with equal parts are equal, and a lease has its own parts
 abbrev lease_of : ℕ → ℕ → Lease

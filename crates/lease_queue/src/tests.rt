@@ -124,10 +124,13 @@ fn swept<L: Ledger>(blank: Blank, queue: &LeaseQueue, now: Moment) -> Result<Swe
 #[test]
 fn sweeps(rt: HostRuntime) -> Result<(), Fail> {
     let none = LeaseQueue::empty(rt.alloc())?;
-    let queue = none.put(Moment(60), 2)?.put(Moment(50), 9)?.put(Moment(61), 1)?;
+    let queue = none
+        .put(Moment(60), 2)?
+        .put(Moment(50), 9)?
+        .put(Moment(61), 1)?;
     let swept = swept::<Brand>(Blank::new(1), &queue, Moment(60))?;
     let numbers = swept.numbers.as_slice();
-    assert_eq!(rt; numbers, &[9, 2]);
+    assert_eq!(rt; numbers, [9, 2].as_slice());
     assert_eq!(rt; swept.queue.count_lapsed(Moment(u64::MAX)), 1);
     assert_eq!(rt; queue.count_lapsed(Moment(60)), 2);
     Ok(())

@@ -7,8 +7,7 @@ use Rattle.lease_queue.proofs.lapses.LapsedIter.step.Goals as goal
 pub returns-in_err-lease-clause-end : goal.returns-in_err-lease-clause-end
 returns-in_err-lease-clause-end g c =
     let now = c.self.inside.now.0 in
-    none_holds c.from_residual.result
-    (
+    none_holds c.from_residual.result (
       sym c.self.view_is ∙ ap (λ left. lapsed_at now (keys_of left)) c.in_err-lease.ensures.end.0 ∙ lapsed_empty now,
       ap (λ left. lapsed_at now (keys_of left)) c.in_err-lease.ensures.end.1 ∙ lapsed_empty now,
     )

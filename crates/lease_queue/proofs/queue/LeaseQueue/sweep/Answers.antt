@@ -19,9 +19,9 @@ loop-lease-preserved g c =
       queue = c.in_ok-queue-2.ensures.queue ∙ ap (λ queue. without_lease queue x) (c.loop-lease.invariant.queue ∙ all) ∙ without_first x xs up;
       ascends = ascends_rest x xs up;
       numbers =
-        ap (λ items. items ++ lapsed_at now xs) c.in_ok-push.ensures.items ∙ numbers_on c.loop-lease.numbers.items x.number (lapsed_at now xs)
-        ∙ ap (λ more. c.loop-lease.numbers.items ++ more) (sym lapsed)
-        ∙ c.loop-lease.invariant.numbers;
+          ap (λ items. items ++ lapsed_at now xs) c.in_ok-push.ensures.items ∙ numbers_on c.loop-lease.numbers.items x.number (lapsed_at now xs)
+          ∙ ap (λ more. c.loop-lease.numbers.items ++ more) (sym lapsed)
+          ∙ c.loop-lease.invariant.numbers;
       unlapsed = sym (ap (unlapsed_at now) all ∙ unlapsed_first now x xs yet) ∙ c.loop-lease.invariant.unlapsed;
       counted = omega (arith, count, c.step.ensures.counted, c.loop-lease.invariant.counted);
     }
@@ -32,12 +32,12 @@ returns-clause-queue g c =
     let left = c.loop-lease.invariant in
     elim c.match-step.branch [
       | in-Some+then-not-has_lapsed w ↦
-        let all = ap keys_of w.in-Some.ensures.next in
-        let end = nothing_left now w.in-Some.lease.now (keys_of c.step.new.self) (keys_of c.loop-lease.all) all left.ascends (sym w.has_lapsed.ensures ∙ w.if-not-has_lapsed.true) in
-        left.queue ∙ sym end.1 ∙ left.unlapsed
+          let all = ap keys_of w.in-Some.ensures.next in
+          let end = nothing_left now w.in-Some.lease.now (keys_of c.step.new.self) (keys_of c.loop-lease.all) all left.ascends (sym w.has_lapsed.ensures ∙ w.if-not-has_lapsed.true) in
+          left.queue ∙ sym end.1 ∙ left.unlapsed
       | in_default w ↦
-        let end = none_left now (keys_of c.loop-lease.all) (ap keys_of w.in_default.ensures.end.0) in
-        left.queue ∙ sym end.1 ∙ left.unlapsed
+          let end = none_left now (keys_of c.loop-lease.all) (ap keys_of w.in_default.ensures.end.0) in
+          left.queue ∙ sym end.1 ∙ left.unlapsed
     ]
 
 pub returns-clause-numbers : goal.returns-clause-numbers
@@ -46,10 +46,10 @@ returns-clause-numbers g c =
     let left = c.loop-lease.invariant in
     elim c.match-step.branch [
       | in-Some+then-not-has_lapsed w ↦
-        let all = ap keys_of w.in-Some.ensures.next in
-        let end = nothing_left now w.in-Some.lease.now (keys_of c.step.new.self) (keys_of c.loop-lease.all) all left.ascends (sym w.has_lapsed.ensures ∙ w.if-not-has_lapsed.true) in
-        numbers_end c.loop-lease.numbers.items (lapsed_at now (keys_of c.loop-lease.all)) end.0 ∙ left.numbers
+          let all = ap keys_of w.in-Some.ensures.next in
+          let end = nothing_left now w.in-Some.lease.now (keys_of c.step.new.self) (keys_of c.loop-lease.all) all left.ascends (sym w.has_lapsed.ensures ∙ w.if-not-has_lapsed.true) in
+          numbers_end c.loop-lease.numbers.items (lapsed_at now (keys_of c.loop-lease.all)) end.0 ∙ left.numbers
       | in_default w ↦
-        let end = none_left now (keys_of c.loop-lease.all) (ap keys_of w.in_default.ensures.end.0) in
-        numbers_end c.loop-lease.numbers.items (lapsed_at now (keys_of c.loop-lease.all)) end.0 ∙ left.numbers
+          let end = none_left now (keys_of c.loop-lease.all) (ap keys_of w.in_default.ensures.end.0) in
+          numbers_end c.loop-lease.numbers.items (lapsed_at now (keys_of c.loop-lease.all)) end.0 ∙ left.numbers
     ]
