@@ -3,4 +3,6 @@ pub mod Pieces
 pub mod ListedLinks
 pub mod OwnLinks
 pub mod SameParts
+pub mod ValueParts
+pub mod JudgedEndpoints
 pub mod Views
