@@ -9,3 +9,4 @@ pub mod PartLaws
 pub mod StepLaws
 pub mod OwnLaws
 pub mod SamePartLaws
+pub mod PartCuts

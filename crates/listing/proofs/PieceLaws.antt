@@ -81,3 +81,8 @@ endpoint_line_begins r = ((location r.number ++ 62 ∷ []) ++ (flat_map quoted_a
 pub endpoint_parts : (r : Record) → own_line r ++ flat_map extra_attribute r.attrs ≡ endpoint_line r
 unfolding own_line endpoint_line
 endpoint_parts r = append_assoc (bracketed (location r.number)) (flat_map quoted_attribute (own_pairs r)) (flat_map extra_attribute r.attrs)
+
+-- links with the same target, attributes and anchor have the same line
+pub same_texts : (old new : Item) → old.target ≡ new.target → old.raw ≡ new.raw → old.anchor ≡ new.anchor → link_line old ≡ link_line new
+unfolding link_line
+same_texts old new e f g = rw (e, f, g) refl

@@ -2,4 +2,6 @@ pub mod AppendedLines
 pub mod Pieces
 pub mod ListedLinks
 pub mod OwnLinks
+pub mod ValueParts
+pub mod JudgedEndpoints
 pub mod Views

@@ -1,11 +1,12 @@
 //! Which links and endpoints meet criteria (RFC 6690 section 4.1, RFC 9176 section 6.2).
-ghost use Rattle.std.specs.Prelude.{◌≡◌, ◌<◌, ◌&&◌, bytes_eq, length};
-ghost use Rattle.std.specs.List.{list_any, HoldsAt};
+ghost use Rattle.std.specs.Prelude.{◌≡◌, ◌<◌, ◌&&◌, ◌||◌, bytes_eq, length};
+ghost use Rattle.std.specs.List.{list_all, list_any, HoldsAt};
 ghost use Rattle.record_model.specs.Matching as model;
 ghost use Rattle.std.specs.Option.{option_copied};
 ghost use Rattle.record_model.specs.Discovery as discovery_model;
 ghost use Rattle.record_model.specs.ListingLines as listing_model;
 ghost use Rattle.listing.specs.ListedLinks.{listed_of};
+ghost use Rattle.listing.specs.JudgedEndpoints.{AreTold, AreToldOf};
 
 use crate::locations::{ROOM, write_location};
 use crate::patterns::{matches_named, matches_value};
@@ -109,6 +110,60 @@ pub fn endpoint_matches(criterion: &Criterion, record_of: &Record) -> bool
     matches_pairs(criterion, record_of.attrs.as_slice())
 }
 
+/// Whether each criterion matches the link by itself or its endpoint by itself, where the first answers tell of the
+/// endpoint.
+fn link_listed_by(criteria: &[Criterion], told: &[bool], record_of: &Record, item: &Item) -> bool
+    requires { AreTold record_of.now told.now criteria.now }
+    ensures { result ≡ list_all (λ criterion. model.link_matches criterion item.now || model.endpoint_matches criterion record_of.now) criteria.now }
+{
+    let mut rest = criteria;
+    let mut left = told;
+    'criteria: while let Some((criterion, more)) = rest.split_first() {
+        let by_endpoint = match left.split_first() {
+            Some((answer, further)) => {
+                left = further;
+                *answer
+            }
+            None => endpoint_matches(criterion, record_of),
+        };
+        if !by_endpoint {
+            if !link_matches(criterion, item) {
+                return false;
+            }
+        }
+        rest = more;
+    }
+    true
+}
+
+/// Writes for each criterion whether it matches the endpoint by itself, as far as there is room.
+fn judge_into(criteria: &[Criterion], record_of: &Record, told: &mut [bool])
+    ensures { AreTold record_of.now told.new criteria.now }
+{
+    let Some((criterion, more)) = criteria.split_first() else {
+        return;
+    };
+    let Some((answer, left)) = told.split_first_mut() else {
+        return;
+    };
+    *answer = endpoint_matches(criterion, record_of);
+    judge_into(more, record_of, left);
+}
+
+/// How many criteria are judged once for all links of a registration; any further ones are judged link by link.
+pub const JUDGED: usize = 64;
+
+/// Which of the first criteria match the endpoint by itself, where there is one.
+pub(crate) fn judge(query: &Query, owner: Option<&Record>) -> [bool; JUDGED]
+    ensures { AreToldOf (option_copied owner.entry) result query.now.criteria }
+{
+    let mut told = [false; JUDGED];
+    if let Some(record_of) = owner {
+        judge_into(query.criteria.as_slice(), record_of, &mut told);
+    }
+    told
+}
+
 /// Whether each criterion matches the link by itself or its endpoint by itself.
 #[tactic(auto, unfolding(record_model::specs::ListingLines::link_listed))]
 fn link_listed(query: &Query, record_of: &Record, item: &Item) -> bool
@@ -131,12 +186,15 @@ fn own_link_listed(query: &Query, item: &Item) -> bool
         .all(|criterion| link_matches(criterion, item))
 }
 
-/// Whether the query lists a link of this registration, or of the directory itself, which has no endpoint.
-pub(crate) fn is_listed(query: &Query, owner: Option<&Record>, item: &Item) -> bool
+/// Whether the query lists a link of this registration, of whose endpoint `told` tells, or of the directory itself, which
+/// has no endpoint.
+#[tactic(auto, unfolding(record_model::specs::ListingLines::link_listed))]
+pub(crate) fn is_listed(query: &Query, owner: Option<&Record>, told: &[bool], item: &Item) -> bool
+    requires { AreToldOf (option_copied owner) told.now query.now.criteria }
     ensures { result ≡ listed_of query.now (option_copied owner.entry) item.now }
 {
     match owner {
-        Some(record_of) => link_listed(query, record_of, item),
+        Some(record_of) => link_listed_by(query.criteria.as_slice(), told, record_of, item),
         None => own_link_listed(query, item),
     }
 }

@@ -88,7 +88,7 @@ fn page_start(page: u32, count: u32) -> u64
 }
 
 /// How many lines stand before the page that a query asks for, and how many lines it has at most.
-fn page_bounds(query: &Query) -> (u64, u64)
+pub fn page_bounds(query: &Query) -> (u64, u64)
     ensures { (lines : List (List ℕ)) → length lines < 2 ^ 64 → page_of query.now.page query.now.count lines ≡ shown_lines result.0 result.1 lines }
 {
     match query.count {

@@ -6,7 +6,7 @@ ghost use Rattle.listing.specs.AppendedLines.{appended, shown_lines};
 ghost use Rattle.listing.specs.ListedLinks.{listed_endpoint, listed_lines};
 
 use crate::appended_lines::{append_endpoint, append_link};
-use crate::criteria::{endpoint_listed, is_listed};
+use crate::criteria::{endpoint_listed, is_listed, judge};
 use rd_base::{Bytes, Item, Kind, Query, Record, Starved};
 use std::alloc::Global;
 
@@ -28,10 +28,11 @@ pub fn append_links(
     let before = into.len();
     let mut to_skip = skip;
     let mut to_write = most;
+    let told = judge(query, owner);
     let mut rest = items;
     'items: while let Some((item, more)) = rest.split_first() {
         rest = more;
-        if !is_listed(query, owner, item) {
+        if !is_listed(query, owner, &told, item) {
             continue;
         }
         if to_skip > 0 {

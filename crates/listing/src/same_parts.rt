@@ -4,19 +4,57 @@ ghost use Rattle.std.specs.Option.{option_copied};
 ghost use Rattle.record_model.specs.ListingLines as listing_model;
 ghost use Rattle.record_model.specs.Matching as model;
 ghost use Rattle.record_model.specs.ListingLines.{part_or_none, same_lines};
+ghost use Rattle.listing.specs.JudgedEndpoints.{AreTold};
 ghost use Rattle.listing.specs.Views.{FirstListed, left};
 ghost use Rattle.listing.specs.ListedLinks.{listed_endpoint, listed_lines};
 
-use crate::criteria::{endpoint_listed, is_listed};
+use crate::criteria::{endpoint_listed, is_listed, judge};
 use crate::locations::{ROOM, write_location};
 use crate::octets::{Octets, octets_of, same_octets};
 use crate::pieces::{endpoint_pieces, link_pieces};
-use rd_base::{Item, Kind, Query, Record};
+use rd_base::{Item, Kind, Query, Record, Text};
+
+/// Whether both have the same anchor, or none.
+fn same_anchor(old: &Option<Text>, new: &Option<Text>) -> bool
+    ensures { IsTrue result → old.now ≡ new.now }
+{
+    match old {
+        None => new.is_none(),
+        Some(text) => match new {
+            None => false,
+            Some(other) => same_text(text, other),
+        },
+    }
+}
+
+/// Whether both texts are equal.
+fn same_text(old: &Text, new: &Text) -> bool
+    ensures { IsTrue result → old.now ≡ new.now }
+{
+    old.as_bytes() == new.as_bytes()
+}
+
+/// Whether the lines of both links are spelled of the same texts.
+#[tactic(auto, using(crate::proofs::PieceLaws::same_texts))]
+fn has_same_texts(old: &Item, new: &Item) -> bool
+    ensures { IsTrue result → listing_model.link_line old.now ≡ listing_model.link_line new.now }
+{
+    if !same_text(&old.target, &new.target) {
+        return false;
+    }
+    if !same_text(&old.raw, &new.raw) {
+        return false;
+    }
+    same_anchor(&old.anchor, &new.anchor)
+}
 
 /// Whether the lines of both links have the same octets.
 fn same_link(old: &Item, new: &Item) -> bool
     ensures { result ≡ bytes_eq (listing_model.link_line old.now) (listing_model.link_line new.now) }
 {
+    if has_same_texts(old, new) {
+        return true;
+    }
     same_octets(
         &mut octets_of(link_pieces(old), &[]),
         &mut octets_of(link_pieces(new), &[]),
@@ -52,13 +90,15 @@ fn same_endpoint(old: &Record, new: &Record) -> bool
 fn first_listed<'a>(
     query: &Query,
     record_of: &Record,
+    told: &[bool],
     items: &'a [Item],
 ) -> Option<(&'a Item, &'a [Item])>
+    requires { AreTold record_of.now told.now query.now.criteria }
     ensures { FirstListed query.now record_of.now items.now result }
 {
     let mut rest = items;
     'items: while let Some((item, more)) = rest.split_first() {
-        if is_listed(query, Some(record_of), item) {
+        if is_listed(query, Some(record_of), told, item) {
             return Some((item, more));
         }
         rest = more;
@@ -70,11 +110,13 @@ fn first_listed<'a>(
 fn same_links(query: &Query, old: &Record, new: &Record) -> bool
     ensures { result ≡ same_lines (listed_lines query.now (Some old.now) old.now.items) (listed_lines query.now (Some new.now) new.now.items) }
 {
+    let old_told = judge(query, Some(old));
+    let new_told = judge(query, Some(new));
     let mut old_rest = old.items.as_slice();
     let mut new_rest = new.items.as_slice();
     'items: loop {
-        let old_first = first_listed(query, old, old_rest);
-        let new_first = first_listed(query, new, new_rest);
+        let old_first = first_listed(query, old, &old_told, old_rest);
+        let new_first = first_listed(query, new, &new_told, new_rest);
         match old_first {
             None => return new_first.is_none(),
             Some((old_item, old_more)) => match new_first {
@@ -122,7 +164,10 @@ fn gives_none(query: &Query, record_of: &Record) -> bool
     ensures { result ≡ same_lines (listing_model.part query.now record_of.now) [] }
 {
     match query.kind {
-        Kind::Resource => first_listed(query, record_of, record_of.items.as_slice()).is_none(),
+        Kind::Resource => {
+            let told = judge(query, Some(record_of));
+            first_listed(query, record_of, &told, record_of.items.as_slice()).is_none()
+        }
         Kind::Endpoint => !endpoint_listed(query, record_of),
         Kind::Discovery => true,
     }
