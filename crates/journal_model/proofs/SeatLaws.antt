@@ -1,5 +1,5 @@
 -- Seats: what holds of every seat, and how its looks stand to the rows of a journal.
-use Rattle.std.proofs.Common.{◌≡◌, ℕ, ◌≤◌, ◌==◌, Bool, cond, max, List, [], ◌∷◌, ◌++◌, filter, Option, refl, sym, ap, subst, ◌∙◌, append-nil, append_assoc, arith}
+use Rattle.std.proofs.Common.{◌≡◌, ℕ, ◌≤◌, ◌==◌, Bool, cond, max, List, [], ◌∷◌, ◌++◌, filter, Option, refl, sym, ap, subst, ◌∙◌, append-nil, append_assoc, arith, inl, inr, length}
 use Rattle.rd_base.proofs.lemmas.Numbers.{eqb-refl}
 use Rattle.std.specs.List.{All, AllByRecursion}
 use Rattle.std.proofs.lemmas.List.Elements.{All-nil, All-from_recursion, recursion_from_All}
@@ -7,6 +7,7 @@ use Rattle.rd_base.specs.declared.peers.Peer.{Peer}
 use Rattle.rd_base.proofs.lemmas.Each.{each_weaker}
 use Rattle.message_model.specs.Reading.{reading}
 use Rattle.history_model.specs.declared.entries.Entry.{Entry}
+use Rattle.history_model.proofs.TagLaws.{same_front}
 use Rattle.history_model.specs.Live.{IsFront, last_moment}
 use Rattle.event_model.specs.KeptAnswers.{Answer}
 use Rattle.journal_model.specs.declared.steps.Step.{Step}
@@ -16,7 +17,7 @@ use Rattle.journal_model.specs.Journal.{entries, entries_of}
 use Rattle.journal_model.specs.Looks.{looked, held_after}
 use Rattle.journal_model.specs.Rows.{effects, row_moment, row}
 use Rattle.journal_model.specs.Machine.{Job, keep_job, job_after}
-use Rattle.journal_model.specs.Seats.{Seat, new_seat, rows_of, GoesOn, MakesRow, look_moment, LooksFrom, IsSeat}
+use Rattle.journal_model.specs.Seats.{Seat, new_seat, Agree, rows_of, GoesOn, MakesRow, look_moment, LooksFrom, IsSeat}
 
 -- ---- fronts
 
@@ -37,6 +38,12 @@ entries-GoesOn earlier later goes = subst (λ (rows : List Row). IsFront (entrie
     by : (further : List Row) → IsFront (entries earlier) (entries (further ++ earlier))
     by [] = IsFront-refl (entries earlier)
     by (r ∷ further) = IsFront-trans (entries earlier) (entries (further ++ earlier)) (entries (further ++ earlier) ++ entries_of r) (by further) (entries_of r, refl)
+
+-- histories of which one is a front of the other are the same where they are as long
+-- An end theorem: nothing here cites it.
+pub Agree-same : (history other : List Entry) → Agree history other → length history ≡ length other → history ≡ other
+Agree-same history other (inl begins) e = same_front other history other begins (IsFront-refl other) e
+Agree-same history other (inr begins) e = same_front history history other (IsFront-refl history) begins e
 
 -- ---- the moment of a look
 
