@@ -1,8 +1,7 @@
 -- The journal of a trace is one of a desk.
-use Rattle.std.proofs.Common.{◌≡◌, ℕ, ◌<◌, ◌≤◌, max, Bool, true, false, List, [], ◌∷◌, Option, Some, None, Result, Ok, Err, fold, refl, sym, ap, subst, ◌∙◌, arith}
+use Rattle.std.proofs.Common.{◌≡◌, ℕ, ◌<◌, ◌≤◌, max, Bool, true, false, List, [], ◌∷◌, Option, Some, None, Result, Ok, Err, fold, refl, sym, subst, arith}
 use Rattle.std.specs.Prelude.{nat_lt}
 use Rattle.std.proofs.lemmas.Bool.{false≢true}
-use Rattle.rd_base.specs.declared.peers.Peer.{Peer}
 use Rattle.line_model.specs.declared.lines.Line.{Line}
 use Rattle.line_model.specs.declared.lines.Line.TheVariants as line
 use Rattle.line_model.specs.declared.lines.LineBad.{LineBad}
@@ -10,17 +9,14 @@ use Rattle.line_model.specs.declared.lines.Reason.{Reason}
 use Rattle.line_model.specs.Lines.{line_of}
 use Rattle.line_model.specs.Texts.{lines_of}
 use Rattle.journal_model.specs.declared.steps.Step.{Step}
-use Rattle.journal_model.specs.declared.steps.StepKind.{StepKind}
-use Rattle.journal_model.specs.declared.steps.StepKind.TheVariants as step
 use Rattle.journal_model.specs.declared.rows.Row.{Row}
-use Rattle.journal_model.specs.Journal.{now, latest}
-use Rattle.journal_model.specs.Rows.{row}
-use Rattle.journal_model.specs.Meantime.{is_never, row_where}
+use Rattle.journal_model.specs.Journal.{latest}
+use Rattle.journal_model.specs.Meantime.{is_never}
 use Rattle.journal_model.specs.Machine.{Job, job_of}
-use Rattle.journal_model.specs.DeskJournal.{ends_job, NoLaterLook, IsHanded, IsDeskJournal}
+use Rattle.journal_model.specs.DeskJournal.{NoLaterLook, IsHanded, IsDeskJournal}
 use Rattle.journal_model.proofs.EventRows.{AllRows}
 use Rattle.journal_model.proofs.RowEquations.{row-step}
-use Rattle.trace_model.specs.Steps.{hearing_where, step_after, come_step, go_step, step_of_worker, worker_of, if_worker, step_of_line, Traced, nothing_traced, traced_step, traced_unless, traced_line, traced}
+use Rattle.trace_model.specs.Steps.{come_step, go_step, step_of_worker, worker_of, if_worker, step_of_line, Traced, nothing_traced, traced_step, traced_unless, traced_line, traced}
 use Rattle.trace_model.proofs.JournalLaw.{row_where_never, traced-IsJournal}
 use Rattle.headline_law.proofs.desks.MachineJournals.{journal-IsDeskJournal}
 
