@@ -1,9 +1,8 @@
 -- Notes that a table has nothing to do with leave what it shows: one law for each table, and one for the notes of a row.
-use Rattle.std.proofs.Common.{◌≡◌, ℕ, Bool, true, false, not, List, [], ◌∷◌, ◌++◌, reverse, map, filter, filter_map, Option, Some, None, option_map, option_and_then, refl, ap, ◌∙◌, append-nil}
+use Rattle.std.proofs.Common.{◌≡◌, ℕ, Bool, true, false, not, List, [], ◌∷◌, reverse, map, filter, filter_map, Option, Some, None, option_map, option_and_then, refl, ap, ◌∙◌, append-nil}
 use Rattle.std.specs.List.{cons_option, list_any}
 use Rattle.std.proofs.lemmas.List.Elements.{filter_map-append}
 use Rattle.std.proofs.lemmas.Grind.{reverse_onto}
-use Rattle.std.proofs.lemmas.Bool.{false≢true}
 use Rattle.rd_base.specs.declared.peers.Peer.{Peer}
 use Rattle.rd_base.proofs.lemmas.Filters.{filter_all}
 use Rattle.rd_base.proofs.lemmas.Each.{each_one}

@@ -1,4 +1,4 @@
--- Who is due in the middle of a step: behind time that passed, behind an entry, and behind notes.
+-- Who is due in the middle of a step: after time that passed, after an entry, and after notes.
 use Rattle.std.proofs.Common.{◌≡◌, ℕ, ◌<◌, ◌≤◌, Bool, true, false, ◌||◌, cond, List, [], ◌∷◌, ◌++◌, filter, Option, Some, None, nat_lt, refl, sym, ap, ◌∙◌, lt-ltb, arith}
 use Rattle.std.specs.List.{AllByRecursion, list_any}
 use Rattle.std.proofs.lemmas.Bool.Decides.{nat_tests}
@@ -31,7 +31,7 @@ pub due_later : (o : Observer) (past : List Event) (seen : List Transition) (pla
     → is_due o past (transition place history from history to ∷ seen) ≡ (is_lapse_of o.query from to (replay history).records || is_due o past seen)
 due_later o past seen place history from to looked order = due_more o past (transition place history from history to) seen looked ∙ ap (λ b. b || is_due o past seen) (time_changes o.query place history from to order)
 
--- an entry, behind it
+-- an entry, after it
 pub due_entered : (o : Observer) (past : List Event) (seen : List Transition) (place : ℕ) (history : List Entry) (entry : Entry) (moment : ℕ) → IsLookedAt o past place
     → is_due o past (transition place history moment (history ++ entry ∷ []) moment ∷ seen)
     ≡ (is_other_part o.query (numbered (number_about (replay history) entry.moment.0 entry.change) (live history moment)) (numbered (number_about (replay history) entry.moment.0 entry.change) (live (history ++ entry ∷ []) moment))

@@ -1,5 +1,5 @@
 -- The last admission of a peer and a Message ID: where it is young and did not fail, it is kept, and a write of them is a repeat.
-use Rattle.std.proofs.Common.{◌≡◌, ℕ, ◌==◌, ◌||◌, Bool, true, false, not, cond, List, [], ◌∷◌, ◌++◌, filter, Some, None, option_and_then, refl, sym, ap, subst, ◌∙◌, eqb-true}
+use Rattle.std.proofs.Common.{◌≡◌, ℕ, ◌==◌, Bool, true, false, not, cond, List, [], ◌∷◌, ◌++◌, filter, Some, None, option_and_then, refl, sym, ap, subst, ◌∙◌, eqb-true}
 use Rattle.std.specs.List.{list_any}
 use Rattle.std.proofs.lemmas.Bool.{false≢true, or_right, or_parts}
 use Rattle.std.proofs.lemmas.List.Elements.{filter-append}

@@ -1,5 +1,6 @@
 -- The tests of peers, requests and queries: SameLaws.
 -- Looking back over events: NotedLaws (the notes of a row), EventEquations (one event more), KeptLaws and OrderLaws (admissions).
+-- Notes that are aside: AsideLaws, AsideTables (a law for each table). Who is due: TransitionLaws (time and an entry), DueLaws (in the middle of a step).
 -- Observers: ObserverLaws (no two have one name), AddedObservers and ManyObservers (those that notes add).
 -- OnLiterals unfolds the definitions, so that examples compute.
 pub mod OnLiterals

@@ -3,9 +3,9 @@ use Rattle.std.specs.Prelude.{ℕ, ◌≤◌, Bool, ◌&&◌, ◌==◌, List, []
 use Rattle.rd_base.specs.declared.peers.Peer.{Peer}
 use Rattle.event_model.specs.Same.{is_same_peer}
 use Rattle.event_model.specs.Events.{is_young}
+use Rattle.event_model.specs.Repeats.{Exchange}
 use Rattle.exchange_core.specs.declared.writes.Keyed.{Keyed}
 use Rattle.exchange_core.specs.declared.writes.Keyed.TheVariants as keyed
-use Rattle.event_model.specs.Repeats.{Exchange}
 
 -- what a table of exchanges shows: the greatest moment that was handed to a call that changed it, and its exchanges, the latest first
 pub record Table : Type 0 where

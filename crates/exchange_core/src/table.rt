@@ -69,7 +69,8 @@ impl Exchanges {
         if self.rows.len() == MAX_EXCHANGES {
             return Keyed::FullExchanges;
         }
-        self.rows.push_front_reserved(Exchange::in_flight(peer, mid, now));
+        self.rows
+            .push_front_reserved(Exchange::in_flight(peer, mid, now));
         Keyed::Fresh
     }
 

@@ -23,6 +23,9 @@
 --   CarriedListings (what it is to carry the listing of the row that formed it).
 --   rows: each row carries what was formed as the headline says: RowCarries (looks and plain rows), LookupRows, KeepRows, TickRows; and AnswersAsFormed, the sentence.
 --
+-- Journals of a desk (desks): TouchedExchanges (what a row notes of exchanges), AdmissionsInOrder (what a table of exchanges asks of events, of each such journal),
+--   OpenAdmissions (an admission from its row on, until it is ended), CommitsOnce (each is committed at most once), MachineJournals and TraceJournals (a journal of the machine, and so that of a trace, is one).
+--
 -- Shared. notes: what steps note. StepTable (the one table of cases, on which all four rest), SilentSteps (what notes nothing), ChangeNotes (the kinds of notes of commits and responses),
 --   LookupNotes and TickNotes (what is kept, and who observes, is as it was asked: AnswersAsFormed).
 --   entries: JournalLaws (a row of a journal is that of its step). observers: ObserversKnow says what the notes of each step do for observers (ObserverNotes), which FirstBodies reads too.

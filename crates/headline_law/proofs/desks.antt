@@ -3,3 +3,4 @@ pub mod AdmissionsInOrder
 pub mod OpenAdmissions
 pub mod MachineJournals
 pub mod TraceJournals
+pub mod CommitsOnce

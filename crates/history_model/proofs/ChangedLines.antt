@@ -1,5 +1,5 @@
 -- What changes the lines of records: time that passes, and an entry.
-use Rattle.std.proofs.Common.{◌≡◌, ℕ, ◌+◌, ◌<◌, ◌≤◌, ◌==◌, Bool, true, false, not, ◌&&◌, ◌||◌, cond, List, [], ◌∷◌, ◌++◌, map, filter, find, Option, Some, None, unwrap_or, nat_lt, nat_le, refl, sym, ap, ap₂, ◌∙◌, arith, eqb-true, ltb-true, ne_eqb}
+use Rattle.std.proofs.Common.{◌≡◌, ℕ, ◌+◌, ◌≤◌, ◌==◌, Bool, true, false, not, ◌&&◌, ◌||◌, cond, List, [], ◌∷◌, ◌++◌, filter, Option, Some, None, unwrap_or, nat_lt, nat_le, refl, sym, ap, ◌∙◌, arith, eqb-true, ltb-true, ne_eqb}
 use Rattle.std.specs.List.{AllByRecursion, list_any}
 use Rattle.std.proofs.lemmas.Bool.{false≢true, true≢false, and_parts, ltb-false, leb-true, leb-false}
 use Rattle.std.proofs.lemmas.Bool.Decides.{nat_tests}
@@ -7,18 +7,18 @@ use Rattle.rd_base.specs.declared.parameters.RegParams.{RegParams}
 use Rattle.rd_base.specs.declared.queries.Query.{Query}
 use Rattle.rd_base.specs.declared.records.Record.{Record}
 use Rattle.rd_base.specs.declared.submitted_links.SubmittedLink.{SubmittedLink}
-use Rattle.record_model.specs.ListingLines.{part, same_lines, part_or_none}
+use Rattle.record_model.specs.ListingLines.{same_lines, part_or_none}
 use Rattle.record_model.specs.Records.{registered, updated}
 use Rattle.record_model.proofs.LineLaws.{same_lines-Decides}
 use Rattle.history_model.specs.declared.entries.Change.{Change}
 use Rattle.history_model.specs.declared.entries.Change.TheVariants as change
 use Rattle.history_model.specs.declared.entries.Entry.{Entry}
 use Rattle.history_model.specs.Leases.{lapse, is_live_at, live_among, lapsing_among}
-use Rattle.history_model.specs.Replay.{State, is_numbered, number_named, number_for, with_changed, registered_under, changed, apply, numbered, number_about}
+use Rattle.history_model.specs.Replay.{State, is_numbered, number_named, with_changed, registered_under, changed, apply, numbered, number_about}
 use Rattle.history_model.specs.Listing.{numbered_part, lines_of}
 use Rattle.history_model.specs.Refusals.{has_number}
 use Rattle.rd_base.proofs.lemmas.Pairs.{PairsByRecursion, pairs_filter}
-use Rattle.rd_base.proofs.lemmas.Each.{each_weaker, each_both, each_filter}
+use Rattle.rd_base.proofs.lemmas.Each.{each_both, each_filter}
 use Rattle.history_model.proofs.ReplayLaws.{KeepsNumber, registered-KeepsNumber, updated-KeepsNumber}
 use Rattle.history_model.proofs.NumberLaws.{IsBelow, IsNumberedUpTo, HasRisingNumbers, apply-HasRisingNumbers}
 use Rattle.history_model.proofs.Acceptance.{Accepted}
@@ -223,7 +223,7 @@ entry_tells query moment number state entry rising same =
 
 -- ---- both
 
--- what has lapsed at a moment is not there behind an accepted entry that is not before it
+-- what has lapsed at a moment is not there after an accepted entry that is not before it
 pub entry_gone : (moment : ℕ) (state : State) (entries : ℕ) (entry : Entry) → HasRisingNumbers state → Accepted state entries entry → moment ≤ entry.moment.0
     → AllByRecursion (λ r. is_live_at moment r ≡ false → numbered r.number (live_among moment (apply state entry).records) ≡ None) state.records
 entry_gone moment state entries entry rising accepts order =

@@ -1,7 +1,7 @@
 -- Lines of records in ascending number are the same exactly where each number has the same part.
-use Rattle.std.proofs.Common.{◌≡◌, ◌↔◌, ℕ, ◌<◌, ◌≤◌, ◌==◌, Bool, true, false, cond, List, [], ◌∷◌, ◌++◌, map, filter, find, Option, Some, None, refl, sym, ap, ap₂, ◌∙◌, append-nil, arith, eqb-true, ne_eqb, ◌⊎◌, inl, inr}
+use Rattle.std.proofs.Common.{◌≡◌, ℕ, ◌<◌, ◌≤◌, ◌==◌, Bool, true, false, cond, List, [], ◌∷◌, ◌++◌, map, filter, Some, None, refl, sym, ap, ap₂, ◌∙◌, append-nil, arith, eqb-true, ne_eqb, ◌⊎◌, inl, inr}
 use Rattle.std.specs.List.{AllByRecursion}
-use Rattle.std.proofs.lemmas.Bool.{false≢true, true≢false, cases_lt}
+use Rattle.std.proofs.lemmas.Bool.{false≢true, cases_lt}
 use Rattle.std.proofs.lemmas.List.{map-append}
 use Rattle.std.proofs.lemmas.List.Elements.{filter-append}
 use Rattle.rd_base.specs.declared.queries.Query.{Query}
@@ -21,7 +21,7 @@ part_at query number records = part_or_none query (numbered number records)
 abbrev pub lines_at : ℕ → List (ℕ × List ℕ) → List (List ℕ)
 lines_at number lines = map (λ (line : ℕ × List ℕ). line.1) (filter (λ (line : ℕ × List ℕ). line.0 == number) lines)
 
--- below all others, it is not found behind
+-- below all others, it is not found after
 pub none_above : (number : ℕ) (records : List Record) → AllByRecursion (λ r. number < r.number) records → numbered number records ≡ None
 none_above number [] above = refl
 none_above number (r ∷ rs) above = rw (ne_eqb r.number number (λ same. let high = above.0 in omega arith)) (none_above number rs above.1)
@@ -52,7 +52,7 @@ lines_tell query number (r ∷ rs) pairs =
         rw none (append-nil (lines_at number (numbered_part query r)) ∙ ap (λ k. lines_at k (numbered_part query r)) (sym same) ∙ lines_here r.number (part query r))
     by false e = rw (lines_away number r.number (part query r) e) refl
 
--- behind a record that gives no line
+-- after a record that gives no line
 pub lines_without : (query : Query) (r : Record) (rs : List Record) → part query r ≡ [] → lines_of query (r ∷ rs) ≡ lines_of query rs
 lines_without query r rs none = ap (λ lines. map (λ line. (r.number, line)) lines ++ lines_of query rs) none
 
@@ -60,7 +60,7 @@ lines_without query r rs none = ap (λ lines. map (λ line. (r.number, line)) li
 abbrev SameParts : Query → List Record → List Record → Type 0
 SameParts query xs ys = (number : ℕ) → part_at query number xs ≡ part_at query number ys
 
--- what is found behind another number
+-- what is found after another number
 numbered_behind : (number : ℕ) (r : Record) (rs : List Record) → (r.number ≡ number → ⊥) → numbered number (r ∷ rs) ≡ numbered number rs
 numbered_behind number r rs other = rw (ne_eqb r.number number other) refl
 

@@ -1,6 +1,6 @@
 -- A row that is being made: its moment, and what the journal shows with it.
 -- End theorems, for what makes the rows of a journal: nothing here cites them.
-use Rattle.std.proofs.Common.{◌≡◌, ℕ, ◌+◌, ◌%◌, ◌^◌, ◌≤◌, max, Bool, true, false, cond, List, [], ◌∷◌, ◌++◌, length, refl, ap, ◌∙◌, arith}
+use Rattle.std.proofs.Common.{◌≡◌, ◌≤◌, max, Bool, true, false, cond, List, [], ◌∷◌, length, refl, arith}
 use Rattle.event_model.specs.Events.{noted}
 use Rattle.event_model.proofs.NotedLaws.{noted-append}
 use Rattle.journal_model.specs.declared.steps.Step.{Step}

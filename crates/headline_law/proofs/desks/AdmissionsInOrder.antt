@@ -1,6 +1,6 @@
 -- In each journal of a desk admissions are in order, and its next row comes after all events.
-use Rattle.std.proofs.Common.{◌≡◌, ◌≢◌, ℕ, ◌<◌, ◌≤◌, ◌==◌, max, Bool, true, false, cond, List, [], ◌∷◌, length, Option, Some, None, refl, sym, subst, eqb-true, arith}
-use Rattle.std.specs.List.{list_any, AllByRecursion}
+use Rattle.std.proofs.Common.{◌≡◌, ◌≢◌, ℕ, ◌<◌, ◌≤◌, ◌==◌, max, Bool, true, false, cond, List, [], ◌∷◌, length, Some, None, refl, sym, subst, eqb-true, arith}
+use Rattle.std.specs.List.{AllByRecursion}
 use Rattle.std.proofs.lemmas.Bool.{and_parts, false≢true}
 use Rattle.std.proofs.Math.Nat.{le-max_left, le-max_right}
 use Rattle.rd_base.proofs.lemmas.Each.{each_weaker}

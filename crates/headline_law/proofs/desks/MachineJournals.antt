@@ -1,7 +1,7 @@
 -- A journal of the machine is one of a desk, where what is handed in with each step is as a desk wants it.
-use Rattle.std.proofs.Common.{◌≡◌, ℕ, ◌<◌, ◌==◌, ◌||◌, Bool, true, false, cond, List, [], ◌∷◌, length, Option, Some, None, Result, Ok, Err, refl, sym, ap, subst, ◌∙◌, eqb-true, arith}
+use Rattle.std.proofs.Common.{◌≡◌, ℕ, ◌==◌, Bool, true, false, cond, List, [], ◌∷◌, length, Option, Some, None, Result, Ok, Err, refl, sym, ap, subst, ◌∙◌, eqb-true, arith}
 use Rattle.std.specs.List.{list_any}
-use Rattle.std.proofs.lemmas.Bool.{false≢true, and_parts, ne_eqb}
+use Rattle.std.proofs.lemmas.Bool.{false≢true, ne_eqb}
 use Rattle.rd_base.specs.declared.peers.Peer.{Peer}
 use Rattle.rd_base.proofs.lemmas.Numbers.{eqb-refl}
 use Rattle.message_model.specs.declared.messages.Unread.{Unread}
@@ -24,7 +24,7 @@ use Rattle.journal_model.specs.Machine as machine
 use Rattle.journal_model.specs.DeskJournal.{IsOpenFor, CommitsOpen, IsHanded, IsDeskJournal, begun, made}
 use Rattle.journal_model.proofs.EventRows.{AllRows}
 use Rattle.journal_model.proofs.RowEquations.{events-row, row-step}
-use Rattle.journal_model.proofs.NoteKinds.{are, none_of}
+use Rattle.journal_model.proofs.NoteKinds.{none_of}
 use Rattle.headline_law.proofs.desks.TouchedExchanges.{Touches, aside, admits, ends, ends_at, row-Touches}
 use Rattle.headline_law.proofs.desks.AdmissionsInOrder.{row_at-below, journal-not_ended}
 use Rattle.headline_law.proofs.desks.OpenAdmissions.{admission_notes}

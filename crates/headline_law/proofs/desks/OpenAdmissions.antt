@@ -1,5 +1,5 @@
 -- An admission is open from its row on until a row ends it, and so each commit of a journal of a desk is of an open admission.
-use Rattle.std.proofs.Common.{◌≡◌, ◌⊎◌, inl, inr, ℕ, ◌==◌, Bool, true, false, cond, List, [], ◌∷◌, length, Option, Some, None, refl, sym, ap, subst, ◌∙◌, eqb-true}
+use Rattle.std.proofs.Common.{◌≡◌, ℕ, ◌==◌, Bool, true, false, cond, List, [], ◌∷◌, length, Some, None, refl, sym, ap, subst, ◌∙◌, eqb-true}
 use Rattle.std.specs.List.{list_any}
 use Rattle.std.proofs.lemmas.Bool.{false≢true}
 use Rattle.rd_base.specs.declared.peers.Peer.{Peer}
@@ -21,7 +21,7 @@ use Rattle.journal_model.specs.Journal.{events, row_at}
 use Rattle.journal_model.specs.Rows.{row}
 use Rattle.journal_model.specs.DeskJournal.{IsOpenFor, IsDeskJournal, begun, made}
 use Rattle.journal_model.proofs.RowEquations.{events-row, row-step}
-use Rattle.journal_model.proofs.NoteKinds.{are, none_of}
+use Rattle.journal_model.proofs.NoteKinds.{none_of}
 use Rattle.headline_law.proofs.desks.TouchedExchanges.{Touches, aside, admits, ends, ends_at, row-Touches}
 use Rattle.headline_law.proofs.desks.AdmissionsInOrder.{journal-IsOrderly}
 
