@@ -1,5 +1,5 @@
 -- Rows with a wrong answer: none of them has the headline. Beside each datagram its parts are shown: type, code, Message ID, token, options, payload.
-use Rattle.std.proofs.Common.{◌≡◌, inl, inr, ℕ, Bool, true, false, List, [], ◌∷◌, Option, Some, None, Result, Ok, codes, refl, sym, ap, ◌∙◌, arith}
+use Rattle.std.proofs.Common.{◌≡◌, inl, inr, ℕ, Bool, true, false, List, [], ◌∷◌, Option, Some, None, Result, Ok, codes, refl, sym, ap, subst, ◌∙◌, arith}
 use Rattle.rd_base.specs.declared.peers.Peer.{Peer}
 use Rattle.message_model.specs.declared.messages.Kind4.TheVariants.{Con, Ack, Rst}
 use Rattle.message_model.specs.declared.messages.Role.TheVariants as role
@@ -12,7 +12,12 @@ use Rattle.message_model.specs.Spelling.{spelling}
 use Rattle.message_model.proofs.OnLiterals.{messages_on_literals}
 use Rattle.history_model.specs.declared.entries.Change.TheVariants as change
 use Rattle.history_model.specs.declared.entries.Entry.{Entry}
-use Rattle.history_model.specs.Listing.{tag}
+use Rattle.history_model.specs.Listing.{listing, tag}
+use Rattle.history_model.proofs.HistoryLiterals.{history_on_literals}
+use Rattle.journal_model.proofs.OnLiterals.{machine_on_literals}
+use Rattle.std.proofs.lemmas.Option.{same_Some}
+use Rattle.std.proofs.lemmas.Bool.{false≢true}
+use Rattle.rd_base.specs.declared.queries.Query.{Query}
 use Rattle.journal_model.specs.Effects.{empty_message}
 use Rattle.event_model.specs.declared.notes.Note.{Note}
 use Rattle.event_model.specs.declared.notes.Note.TheVariants as note
@@ -21,7 +26,8 @@ use Rattle.journal_model.specs.declared.steps.StepKind.{StepKind}
 use Rattle.journal_model.specs.declared.steps.StepKind.TheVariants as step
 use Rattle.journal_model.specs.declared.rows.Row.{Row}
 use Rattle.journal_model.specs.Journal.{entries}
-use Rattle.journal_model.specs.Headline.{Asked, Sent, Headline, EndedWithoutMemory, IsEntryOf, AdmittedAt, FormedAs, Validates, AreBlocksOfOne}
+use Rattle.journal_model.specs.Requests.{query_of, asked_block}
+use Rattle.journal_model.specs.Headline.{Placed, Asked, IsBlockOf, asked_at, Sent, Headline, EndedWithoutMemory, IsEntryOf, AdmittedAt, FormedAs, Validates, AreBlocksOfOne}
 use Rattle.headline_law.proofs.entries.FailedLaws.{within_cases, nothing_within}
 
 -- ---- what the rows have
@@ -128,6 +134,57 @@ other_size_falls h =
     szx_of_asked : Option Asked → Option ℕ
     szx_of_asked None = None
     szx_of_asked (Some a) = Some a.szx
+
+-- what a message of a look with nothing before it must carry: the block that it names of the listing of no entries
+abbrev CarriesNothing : Message → Type 0
+CarriesNothing m = IsBlockOf (asked_block m) (listing (query_of lookup) (entries (look_with (peer 1) m ∷ [])) 0) m.payload
+
+carried_nothing : (m : Message) → reading (spelling m) ≡ Ok m → m.code ≡ codes_of.content → m.token ≡ 193 ∷ [] → Headline (look_with (peer 1) m ∷ []) → CarriesNothing m
+unfolding messages_on_literals
+carried_nothing m read content token h =
+    subst (λ (q : Query). IsBlockOf (asked_block m) (listing q (entries (look_with (peer 1) m ∷ [])) 0) m.payload) (sym query)
+    (subst (λ (p : Placed). IsBlockOf (asked_block m) (listing f.asked.query (entries (p.row ∷ p.before)) p.row.moment.0) m.payload) (sym former) f.carries.block.block)
+  where
+    here : Placed
+    here = record { row = look_with (peer 1) m; before = [] }
+
+    f : FormedAs here (peer 1) m
+    f = h.answers.carried (sent_first (look_with (peer 1) m) (peer 1) (spelling m) m [] refl read) (rw content refl)
+
+    former : here ≡ f.former
+    former = same_Some here f.former f.formed
+
+    asked : Asked
+    asked = record { query = query_of lookup; number = 0; szx = 0 }
+
+    query : query_of lookup ≡ f.asked.query
+    query = ap (λ (a : Asked). a.query) (same_Some asked f.asked (subst (λ t. asked_at step.Look (peer 1, t) here ≡ Some f.asked) token f.asks))
+
+-- more is said to follow where nothing does: ACK 2.05 t=c1 [4 0000000000000000][23 0/1/16]
+abbrev more_claimed : Message
+more_claimed = answer codes_of.content (193 ∷ []) ((table.etag, eight) ∷ (table.block2, 8 ∷ []) ∷ []) []
+
+-- An end theorem: nothing here cites it.
+pub more_claimed_falls : Headline (look_with (peer 1) more_claimed ∷ []) → ⊥
+unfolding machine_on_literals history_on_literals
+more_claimed_falls h =
+    let it : CarriesNothing more_claimed = carried_nothing more_claimed refl refl refl h in
+    false≢true (ap more (same_Some ([], false) ([], true) it))
+  where
+    more : List ℕ × Bool → Bool
+    more part = part.1
+
+-- another body than the listing: ACK 2.05 t=c1 [4 0000000000000000][23 0/0/16] a
+abbrev other_body : Message
+other_body = answer codes_of.content (193 ∷ []) ((table.etag, eight) ∷ (table.block2, []) ∷ []) (97 ∷ [])
+
+-- An end theorem: nothing here cites it.
+pub other_body_falls : Headline (look_with (peer 1) other_body ∷ []) → ⊥
+unfolding machine_on_literals history_on_literals
+other_body_falls h =
+    let it : CarriesNothing other_body = carried_nothing other_body refl refl refl h in
+    let empty : ◌≡◌ {A = List ℕ} [] (97 ∷ []) = ap (λ (part : List ℕ × Bool). part.0) (same_Some ([], false) (97 ∷ [], false) it) in
+    absurd cc
 
 -- ---- 2.03
 
