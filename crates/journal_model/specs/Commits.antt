@@ -74,13 +74,13 @@ simple_unless false false events place s m =
 abbrev pub registering_simply : List Event → ℕ → Step → Message → Effects
 registering_simply events place s m = simple_unless (is_fetching s.peer events) (nat_le max_fetches (length (fetches events))) events place s m
 
--- a write on a registration: an update or a removal, by its method
+-- a write on a registration, by its method: POST updates it, and DELETE removes it; any other is refused before it is admitted, and would remove it too
 abbrev pub on_location : Method → List Row → ℕ → ℕ → Step → Message → ℕ → Effects
-on_location get rows moment place s m number = nothing
+on_location get rows moment place s m number = settling place s m (removing rows moment s number)
 on_location post rows moment place s m number = settling place s m (updating rows moment s m number)
-on_location put rows moment place s m number = nothing
+on_location put rows moment place s m number = settling place s m (removing rows moment s number)
 on_location delete rows moment place s m number = settling place s m (removing rows moment s number)
-on_location other_method rows moment place s m number = nothing
+on_location other_method rows moment place s m number = settling place s m (removing rows moment s number)
 
 -- what a write does, by its path
 abbrev pub write_done : Path → List Row → ℕ → ℕ → Step → Message → Effects

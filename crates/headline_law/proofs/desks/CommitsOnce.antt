@@ -31,13 +31,13 @@ use Rattle.journal_model.specs.declared.rows.Row.{Row}
 use Rattle.journal_model.specs.Journal.{events, entries, row_at}
 use Rattle.journal_model.specs.Effects.{Reply, answer, answering}
 use Rattle.journal_model.specs.Changes.{Outcome}
-use Rattle.journal_model.specs.Requests.{refusal_of_request}
+use Rattle.journal_model.specs.Requests.{refusal_of_request, Method, get, post, put, delete, other_method, method_of}
 use Rattle.journal_model.specs.Looks.{look_effects}
 use Rattle.journal_model.specs.Lookups.{lookup_effects}
 use Rattle.journal_model.specs.EmptyMessages.{acknowledged, reset}
 use Rattle.journal_model.specs.Responses.{response_effects}
 use Rattle.journal_model.specs.Registrations.{registering}
-use Rattle.journal_model.specs.Commits.{settling, simple_unless, on_location, write_done, commit_effects}
+use Rattle.journal_model.specs.Commits.{settling, simple_unless, on_location, write_done, commit_effects, updating, removing}
 use Rattle.journal_model.specs.Rows.{served, refusal_answered, unread_answered, request_answered, message_effects, heard, done, effects, row_moment, row}
 use Rattle.journal_model.specs.Headline.{Within, Commits}
 use Rattle.journal_model.specs.DeskJournal.{IsOpenFor, CommitsOpen, MayFollow, IsDeskJournal, begun, made}
@@ -169,10 +169,17 @@ commit_ends_it rows moment place s m it = by (path_in m) it
     simple false true = rw (eqb-refl place) refl
     simple false false = rw (eqb-refl place) refl
 
+    location : (w : Method) (number : ℕ) → list_any (is_ending_of place) (on_location w rows moment place s m number).notes ≡ true
+    location get number = settled_at (removing rows moment s number)
+    location post number = settled_at (updating rows moment s m number)
+    location put number = settled_at (removing rows moment s number)
+    location delete number = settled_at (removing rows moment s number)
+    location other_method number = settled_at (removing rows moment s number)
+
     by : (p : Path) → is_write p ≡ true → list_any (is_ending_of place) (write_done p rows moment place s m).notes ≡ true
     by path.SimpleRd h = simple (is_fetching s.peer (events rows)) (nat_le max_fetches (length (fetches (events rows))))
     by path.Rd h = settled_at (registering rows moment s m)
-    by (path.Location number) h = settled_at (on_location (m.code == codes_of.post) rows moment s m number)
+    by (path.Location number) h = location (method_of m.code) number
     by path.Core h = absurd (false≢true h)
     by path.Res h = absurd (false≢true h)
     by path.Ep h = absurd (false≢true h)

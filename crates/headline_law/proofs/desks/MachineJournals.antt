@@ -17,9 +17,9 @@ use Rattle.journal_model.specs.declared.steps.Step.{Step}
 use Rattle.journal_model.specs.declared.steps.StepKind.{StepKind}
 use Rattle.journal_model.specs.declared.steps.StepKind.TheVariants as step
 use Rattle.journal_model.specs.declared.rows.Row.{Row}
-use Rattle.journal_model.specs.Journal.{events, row_at}
+use Rattle.journal_model.specs.Journal.{events, row_at, entries}
 use Rattle.journal_model.specs.Rows.{row}
-use Rattle.journal_model.specs.Machine.{Job, is_look_datagram, write_job, keep_kind, keep_job, job_after, job_of, MayBegin, hears, goes, ticks, IsJournal}
+use Rattle.journal_model.specs.Machine.{Job, is_look_datagram, write_job, keep_job, job_after, job_of, MayBegin, hears, goes, ticks, IsJournal}
 use Rattle.journal_model.specs.Machine as machine
 use Rattle.journal_model.specs.DeskJournal.{IsOpenFor, CommitsOpen, IsHanded, IsDeskJournal, begun, made}
 use Rattle.journal_model.proofs.EventRows.{AllRows}
@@ -28,6 +28,8 @@ use Rattle.journal_model.proofs.NoteKinds.{none_of}
 use Rattle.headline_law.proofs.desks.TouchedExchanges.{Touches, aside, admits, ends, ends_at, row-Touches}
 use Rattle.headline_law.proofs.desks.AdmissionsInOrder.{row_at-below, journal-not_ended}
 use Rattle.headline_law.proofs.desks.OpenAdmissions.{admission_notes}
+use Rattle.journal_model.specs.Looks.{held_after}
+use Rattle.event_model.specs.KeptAnswers.{Answer}
 
 -- each commit that a worker holds is of an open admission of its own
 abbrev JobsOpen : List Row → Type 0
@@ -93,14 +95,10 @@ kind_of None = step.Tick
 kind_of (Some j) = j.kind
 
 -- a look leaves no commit
-look_leaves : (sent : List (Peer × List ℕ)) (r : Row) (rows : List Row) (job : Job) (place : ℕ) → keep_job sent r rows ≡ Some job → job.kind ≡ step.Commit place → ⊥
+look_leaves : (held : Option Answer) (r : Row) (job : Job) (place : ℕ) → keep_job held r ≡ Some job → job.kind ≡ step.Commit place → ⊥
 unfolding kind_of
-look_leaves [] r rows job place e commits = kept (reading r.step.datagram) (ap kind_of e ∙ commits)
-  where
-    kept : (read : Result Message Unread) → keep_kind read rows r.moment.0 ≡ step.Commit place → ⊥
-    kept (Err fault) h = absurd cc
-    kept (Ok m) h = absurd cc
-look_leaves (d ∷ sent) r rows job place e commits = absurd (let h : None ≡ Some job = e in cc)
+look_leaves None r job place e commits = absurd (let h : None ≡ Some job = e in cc)
+look_leaves (Some found) r job place e commits = absurd (let h : step.Keep found.body found.tag ≡ step.Commit place = ap kind_of e ∙ commits in cc)
 
 -- a row that admits a write leaves the commit of its own place
 record Admits (r : Row) (rows : List Row) (t : Step) (place : ℕ) : Type 0 where
@@ -146,7 +144,7 @@ jobs_step rows s starved journal jobs commits t place held = by (s.worker == t.w
     own : (kind : StepKind) → s.kind ≡ kind → s.worker ≡ t.worker
         → job_after kind (row rows s starved) rows (job_of t.worker rows) ≡ Some (record { kind = step.Commit place; peer = t.peer; datagram = t.datagram }) → IsOpenFor t place (row rows s starved ∷ rows)
     own step.Admit is same e = opened rows s starved t place journal same (admission_leaves (row rows s starved).notes (row rows s starved) rows t place refl e)
-    own step.Look is same e = absurd (look_leaves (row rows s starved).sent (row rows s starved) rows (record { kind = step.Commit place; peer = t.peer; datagram = t.datagram }) place e refl)
+    own step.Look is same e = absurd (look_leaves (held_after (row rows s starved).starved (entries rows) (row rows s starved).moment.0 (reading (row rows s starved).step.datagram)) (row rows s starved) (record { kind = step.Commit place; peer = t.peer; datagram = t.datagram }) place e refl)
     own (step.Commit q) is same e = absurd (let h : None ≡ Some (record { kind = step.Commit place; peer = t.peer; datagram = t.datagram }) = e in cc)
     own (step.Keep body tag) is same e = absurd (let h : None ≡ Some (record { kind = step.Commit place; peer = t.peer; datagram = t.datagram }) = e in cc)
     own step.Tick is same e =

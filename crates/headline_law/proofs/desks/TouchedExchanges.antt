@@ -23,7 +23,7 @@ use Rattle.journal_model.specs.Journal.{events, entries}
 use Rattle.journal_model.specs.Effects.{answer, answering}
 use Rattle.journal_model.specs.Changes.{Outcome}
 use Rattle.journal_model.specs.Registrations.{registering}
-use Rattle.journal_model.specs.Commits.{settling, simple_unless, on_location, write_done, commit_effects}
+use Rattle.journal_model.specs.Commits.{settling, simple_unless, on_location, write_done, commit_effects, updating, removing}
 use Rattle.journal_model.specs.Writes.{again_answered, admitted_unless, write_unless, write_effects}
 use Rattle.journal_model.specs.Rows.{effects, row_moment, row}
 use Rattle.journal_model.proofs.NoteKinds.{of_lookup, of_empty, of_tick, of_response, are, are-append, are-weaker}
@@ -31,6 +31,7 @@ use Rattle.journal_model.proofs.StepNotes.{keep_effects-notes, lookup_effects-no
 use Rattle.headline_law.proofs.notes.ChangeNotes.{change_made-notes, registering-notes, response_effects-notes}
 use Rattle.headline_law.proofs.notes.StepTable.{StepNoted, effects-StepNoted}
 use Rattle.headline_law.proofs.notes.StepTable as noted
+use Rattle.journal_model.specs.Requests.{Method, get, post, put, delete, other_method, method_of}
 
 -- it admits nothing, and settles or fails at most what was admitted at a place
 abbrev pub ends_at : ℕ → Note → Bool
@@ -103,15 +104,18 @@ commit_ends rows moment place s m = by (path_in m)
     simple false true = rw (eqb-refl place) refl
     simple false false = rw (eqb-refl place) refl
 
-    location : (b : Bool) (number : ℕ) → are (ends_at place) (on_location b rows moment s m number).notes ≡ true
-    location true number = change_made-notes (ends_at place) (λ entry. refl) (entries rows) _ _ refl
-    location false number = change_made-notes (ends_at place) (λ entry. refl) (entries rows) _ _ refl
+    location : (w : Method) (number : ℕ) → are (ends_at place) (on_location w rows moment place s m number).notes ≡ true
+    location get number = settled_at (removing rows moment s number) (change_made-notes (ends_at place) (λ entry. refl) (entries rows) _ _ refl)
+    location post number = settled_at (updating rows moment s m number) (change_made-notes (ends_at place) (λ entry. refl) (entries rows) _ _ refl)
+    location put number = settled_at (removing rows moment s number) (change_made-notes (ends_at place) (λ entry. refl) (entries rows) _ _ refl)
+    location delete number = settled_at (removing rows moment s number) (change_made-notes (ends_at place) (λ entry. refl) (entries rows) _ _ refl)
+    location other_method number = settled_at (removing rows moment s number) (change_made-notes (ends_at place) (λ entry. refl) (entries rows) _ _ refl)
 
     by : (p : Path) → are (ends_at place) (write_done p rows moment place s m).notes ≡ true
     by path.Core = refl
     by path.SimpleRd = simple (is_fetching s.peer (events rows)) (nat_le max_fetches (length (fetches (events rows))))
     by path.Rd = settled_at (registering rows moment s m) (registering-notes (ends_at place) (λ entry. refl) (λ peer key number octets. refl) (λ peer key. refl) rows moment s m)
-    by (path.Location number) = settled_at (on_location (m.code == codes_of.post) rows moment s m number) (location (m.code == codes_of.post) number)
+    by (path.Location number) = location (method_of m.code) number
     by path.Res = refl
     by path.Ep = refl
     by path.Other = refl
@@ -125,8 +129,8 @@ effects-Touches kind starved rows moment s = by (effects kind starved rows momen
     by ns (noted.write m here is) = subst (λ (k : StepKind). Touches k rows moment s ns) (sym here) (subst (Touches step.Admit rows moment s) (sym is) (write_touches rows moment s m))
     by ns (noted.lookup m here is) = aside (are-weaker of_lookup is_aside lookup_aside ns (ap (are of_lookup) is ∙ lookup_effects-notes rows moment s m))
     by ns (noted.empty here all) = aside (are-weaker of_empty is_aside empty_aside ns all)
-    by ns (noted.response m here is) = aside (are-weaker of_response is_aside response_aside ns (ap (are of_response) is ∙ response_effects-notes rows moment s m))
-    by ns (noted.commit m place commits is) = ends place commits (ap (are (ends_at place)) is ∙ commit_ends rows moment place s m)
+    by ns (noted.response m here read responds is) = aside (are-weaker of_response is_aside response_aside ns (ap (are of_response) is ∙ response_effects-notes rows moment s m))
+    by ns (noted.commit m place commits read is) = ends place commits (ap (are (ends_at place)) is ∙ commit_ends rows moment place s m)
     by ns (noted.failed place commits is) = ends place commits (ap (are (ends_at place)) is ∙ rw (eqb-refl place) refl)
     by ns (noted.keep m body tag keeps is) = aside (ap (are is_aside) (is ∙ keep_effects-notes s m body tag))
     by ns (noted.tick ticks is) = aside (are-weaker of_tick is_aside tick_aside ns (ap (are of_tick) is ∙ tick_effects-notes starved rows moment s))

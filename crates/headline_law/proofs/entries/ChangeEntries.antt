@@ -156,11 +156,11 @@ commit_effects-ChangeEntry rows moment place s m = by (path_in m)
     simple false false = no_change refl refl
 
     location : (w : Method) (number : ℕ) → ChangeEntry (entries rows) moment (on_location w rows moment place s m number).notes (is_code_of_change (code_sent (on_location w rows moment place s m number).sent) true)
-    location get number = no_change refl refl
+    location get number = settling-ChangeEntry (entries rows) moment place s m (removing rows moment s number) true (change_made-OutcomeEntry (entries rows) moment _ _ true refl tt refl refl)
     location post number = settling-ChangeEntry (entries rows) moment place s m (updating rows moment s m number) true (change_made-OutcomeEntry (entries rows) moment _ _ true refl tt refl refl)
-    location put number = no_change refl refl
+    location put number = settling-ChangeEntry (entries rows) moment place s m (removing rows moment s number) true (change_made-OutcomeEntry (entries rows) moment _ _ true refl tt refl refl)
     location delete number = settling-ChangeEntry (entries rows) moment place s m (removing rows moment s number) true (change_made-OutcomeEntry (entries rows) moment _ _ true refl tt refl refl)
-    location other_method number = no_change refl refl
+    location other_method number = settling-ChangeEntry (entries rows) moment place s m (removing rows moment s number) true (change_made-OutcomeEntry (entries rows) moment _ _ true refl tt refl refl)
 
     by : (p : Path) → ChangeEntry (entries rows) moment (write_done p rows moment place s m).notes (is_code_of_change (code_sent (write_done p rows moment place s m).sent) (is_location p))
     by path.Core = no_change refl refl

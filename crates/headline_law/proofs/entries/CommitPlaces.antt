@@ -15,9 +15,12 @@ use Rattle.journal_model.specs.declared.steps.StepKind.{StepKind}
 use Rattle.journal_model.specs.declared.steps.StepKind.TheVariants as step
 use Rattle.journal_model.specs.declared.rows.Row.{Row}
 use Rattle.journal_model.specs.Rows.{row}
-use Rattle.journal_model.specs.Machine.{is_look_datagram, Job, write_job, keep_kind, keep_job, job_after, job_of, MayBegin, hears, goes, ticks, IsJournal}
+use Rattle.journal_model.specs.Machine.{is_look_datagram, Job, write_job, keep_job, job_after, job_of, MayBegin, hears, goes, ticks, IsJournal}
 use Rattle.journal_model.specs.Headline.{Within, Commits, admits, AdmittedAt}
 use Rattle.headline_law.proofs.entries.JournalLaws.{Made, each_row}
+use Rattle.journal_model.specs.Looks.{held_after}
+use Rattle.event_model.specs.KeptAnswers.{Answer}
+use Rattle.journal_model.specs.Journal.{entries}
 
 -- the row at a place admitted the write of a job of a worker
 record JobFrom (rows : List Row) (worker place : ℕ) (job : Job) : Type 0 where
@@ -72,13 +75,9 @@ from_admission before r place (note.Admitted peer mid ∷ notes) job noted e com
 from_admission before r place _ job noted e commits = absurd (let h : None ≡ Some job = e in cc)
 
 -- a look leaves none
-no_write : (before : List Row) (r : Row) (place : ℕ) (sent : List (Peer × List ℕ)) (job : Job) → keep_job sent r before ≡ Some job → job.kind ≡ step.Commit place → ⊥
-no_write before r place [] job e commits = kept (reading r.step.datagram) (ap kind_of e ∙ commits)
-  where
-    kept : (read : Result Message Unread) → keep_kind read before r.moment.0 ≡ step.Commit place → ⊥
-    kept (Err fault) h = absurd cc
-    kept (Ok m) h = absurd cc
-no_write before r place (d ∷ sent) job e commits = absurd (let h : None ≡ Some job = e in cc)
+no_write : (held : Option Answer) (r : Row) (place : ℕ) (job : Job) → keep_job held r ≡ Some job → job.kind ≡ step.Commit place → ⊥
+no_write None r place job e commits = absurd (let h : None ≡ Some job = e in cc)
+no_write (Some found) r place job e commits = absurd (let h : step.Keep found.body found.tag ≡ step.Commit place = ap kind_of e ∙ commits in cc)
 
 -- each job to commit a write is of a row that admitted it
 job_from : (worker : ℕ) (rows : List Row) (place : ℕ) (job : Job) → job_of worker rows ≡ Some job → job.kind ≡ step.Commit place → JobFrom rows worker place job
@@ -88,7 +87,7 @@ job_from worker (r ∷ before) place job e commits = by (r.step.worker == worker
   where
     own : (kind : StepKind) → r.step.worker ≡ worker → job_after kind r before (job_of worker before) ≡ Some job → (job_of worker before ≡ Some job → JobFrom before worker place job) → JobFrom (r ∷ before) worker place job
     own step.Admit same h more = subst (λ w. JobFrom (r ∷ before) w place job) same (from_admission before r place r.notes job refl h commits)
-    own step.Look same h more = absurd (no_write before r place r.sent job h commits)
+    own step.Look same h more = absurd (no_write (held_after r.starved (entries before) r.moment.0 (reading r.step.datagram)) r place job h commits)
     own (step.Commit q) same h more = absurd (let no : None ≡ Some job = h in cc)
     own (step.Keep body tag) same h more = absurd (let no : None ≡ Some job = h in cc)
     own step.Tick same h more = from_more r before worker place job (more h)

@@ -1,5 +1,5 @@
 -- An entry has the moment, the worker and the peer of its row, and is the change that its request asks for.
-use Rattle.std.proofs.Common.{◌≡◌, inl, inr, ℕ, ◌+◌, ◌==◌, Bool, true, false, List, [], ◌∷◌, ◌++◌, length, Option, Some, None, Ok, refl, sym, ap, subst, ◌∙◌, eqb-true, nat_lt, nat_le}
+use Rattle.std.proofs.Common.{◌≡◌, inl, inr, ℕ, ◌+◌, ◌==◌, Bool, true, false, List, [], ◌∷◌, ◌++◌, length, Option, Some, None, Ok, refl, sym, ap, subst, ◌∙◌, eqb-true, nat_lt, nat_le, cond}
 use Rattle.std.specs.List.{AllByRecursion}
 use Rattle.rd_base.specs.declared.parameters.RegParams.{RegParams}
 use Rattle.rd_base.specs.declared.submitted_links.SubmittedLink.{SubmittedLink}
@@ -28,10 +28,10 @@ use Rattle.journal_model.specs.declared.steps.Step.{Step}
 use Rattle.journal_model.specs.declared.rows.Row.{Row}
 use Rattle.journal_model.specs.Journal.{events, entries, entries_of}
 use Rattle.journal_model.specs.Effects.{answering}
-use Rattle.journal_model.specs.Requests.{sent_block}
+use Rattle.journal_model.specs.Requests.{sent_block, Method, get, post, put, delete, other_method, method_of}
 use Rattle.journal_model.specs.Changes.{Outcome, refused_as, entered_unless, change_made, BodyRead, bad_body, good_body, body_read, registered_links, registration, created_at, number_after, entry_of_step}
 use Rattle.journal_model.specs.Registrations.{collected_before, is_one_too_many, block_taken, block_unless, block_after, block_uploaded, registration_outcome, registering}
-use Rattle.journal_model.specs.Commits.{settling, simple_unless, on_location, write_done, commit_effects}
+use Rattle.journal_model.specs.Commits.{settling, simple_unless, on_location, write_done, commit_effects, updating, removing}
 use Rattle.journal_model.specs.Responses.{fetch_of, strange, acknowledgement, more_follow, block_in, is_elsewhere, ends_fetch, completed, gathering, response_taken, response_to, response_to_request, response_effects}
 use Rattle.journal_model.specs.Rows.{row_moment, row}
 use Rattle.journal_model.specs.Machine.{IsJournal}
@@ -133,6 +133,15 @@ registering-enters rows moment s m = by (sent_block m) refl
         (λ links read. (refl, (refl, record { collected = []; before = rw is refl; read = read }))) tt
     by (Some b) is = after (collected_before b (live_upload moment (s.peer, key_in m) (events rows))) b is refl
 
+-- the method of a code that is none of POST
+method_but_post : (a b c d : Bool) (P : Method → Type 0) → b ≡ false → P get → P put → P delete → P other_method
+    → P (cond a get (cond b post (cond c put (cond d delete other_method))))
+method_but_post true b c d P e g p x o = g
+method_but_post false true c d P e g p x o = absurd cc
+method_but_post false false true d P e g p x o = p
+method_but_post false false false true P e g p x o = x
+method_but_post false false false false P e g p x o = o
+
 -- a commit
 commit_enters : (rows : List Row) (moment place : ℕ) (s : Step) (m : Message) → AllEnter (OfRequest (path_in m) rows moment s m) (commit_effects rows moment place s m).notes
 unfolding commit_effects answering
@@ -146,15 +155,30 @@ commit_enters rows moment place s m = by (path_in m)
     simple false true = (tt, tt)
     simple false false = (tt, (tt, tt))
 
-    location : (b : Bool) (number : ℕ) → (m.code == codes_of.post) ≡ b → AllEnter (OfRequest (path.Location number) rows moment s m) (on_location b rows moment s m number).notes
-    location true number e = change_made-enters (OfRequest (path.Location number) rows moment s m) (entries rows) _ _ (refl, (eqb-true m.code codes_of.post e, refl, refl)) tt
-    location false number e = change_made-enters (OfRequest (path.Location number) rows moment s m) (entries rows) _ _ (refl, (e, refl)) tt
+    updated : (number : ℕ) → (m.code == codes_of.post) ≡ true → AllEnter (OfRequest (path.Location number) rows moment s m) (settling place s m (updating rows moment s m number)).notes
+    updated number e =
+        settled (OfRequest (path.Location number) rows moment s m) (updating rows moment s m number)
+        (change_made-enters (OfRequest (path.Location number) rows moment s m) (entries rows) _ _ (refl, (eqb-true m.code codes_of.post e, refl, refl)) tt)
+
+    removed : (number : ℕ) → (m.code == codes_of.post) ≡ false → AllEnter (OfRequest (path.Location number) rows moment s m) (settling place s m (removing rows moment s number)).notes
+    removed number e =
+        settled (OfRequest (path.Location number) rows moment s m) (removing rows moment s number)
+        (change_made-enters (OfRequest (path.Location number) rows moment s m) (entries rows) _ _ (refl, (e, refl)) tt)
+
+    location : (number : ℕ) (b : Bool) → (m.code == codes_of.post) ≡ b → AllEnter (OfRequest (path.Location number) rows moment s m) (on_location (method_of m.code) rows moment place s m number).notes
+    location number true e =
+        subst (λ (w : Method). AllEnter (OfRequest (path.Location number) rows moment s m) (on_location w rows moment place s m number).notes)
+        (sym (ap method_of (eqb-true m.code codes_of.post e))) (updated number e)
+    location number false e =
+        method_but_post (m.code == codes_of.get) (m.code == codes_of.post) (m.code == codes_of.put) (m.code == codes_of.delete)
+        (λ (w : Method). AllEnter (OfRequest (path.Location number) rows moment s m) (on_location w rows moment place s m number).notes) e
+        (removed number e) (removed number e) (removed number e) (removed number e)
 
     by : (p : Path) → AllEnter (OfRequest p rows moment s m) (write_done p rows moment place s m).notes
     by path.Core = tt
     by path.SimpleRd = simple (is_fetching s.peer (events rows)) (nat_le max_fetches (length (fetches (events rows))))
     by path.Rd = settled (OfRequest path.Rd rows moment s m) (registering rows moment s m) (registering-enters rows moment s m)
-    by (path.Location number) = settled (OfRequest (path.Location number) rows moment s m) (on_location (m.code == codes_of.post) rows moment s m number) (location (m.code == codes_of.post) number refl)
+    by (path.Location number) = location number (m.code == codes_of.post) refl
     by path.Res = tt
     by path.Ep = tt
     by path.Other = tt

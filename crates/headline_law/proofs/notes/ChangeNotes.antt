@@ -110,11 +110,11 @@ commit_effects-done rows moment place s m = by (path_in m)
     simple false false = refl
 
     location : (w : Method) (number : ℕ) → are of_done (on_location w rows moment place s m number).notes ≡ true
-    location get number = refl
+    location get number = settled (removing rows moment s number) (change_made-notes of_done (λ entry. refl) (entries rows) _ _ refl)
     location post number = settled (updating rows moment s m number) (change_made-notes of_done (λ entry. refl) (entries rows) _ _ refl)
-    location put number = refl
+    location put number = settled (removing rows moment s number) (change_made-notes of_done (λ entry. refl) (entries rows) _ _ refl)
     location delete number = settled (removing rows moment s number) (change_made-notes of_done (λ entry. refl) (entries rows) _ _ refl)
-    location other_method number = refl
+    location other_method number = settled (removing rows moment s number) (change_made-notes of_done (λ entry. refl) (entries rows) _ _ refl)
 
     by : (p : Path) → are of_done (write_done p rows moment place s m).notes ≡ true
     by path.Core = refl

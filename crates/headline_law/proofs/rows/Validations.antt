@@ -2,7 +2,7 @@
 use Rattle.std.proofs.Common.{◌≡◌, ℕ, ◌≤◌, ◌==◌, Bool, true, false, List, [], ◌∷◌, length, Some, None, Result, Ok, refl, sym, ap, subst, ◌∙◌, arith}
 use Rattle.std.specs.List.{AllByRecursion}
 use Rattle.std.proofs.lemmas.Bool.{false≢true, and_parts}
-use Rattle.std.specs.Prelude.{is_none}
+use Rattle.std.specs.Prelude.{is_none, option_map}
 use Rattle.rd_base.specs.declared.peers.Peer.{Peer}
 use Rattle.message_model.specs.declared.messages.Unread.{Unread}
 use Rattle.message_model.specs.Message.{Message, longest_token}
@@ -21,12 +21,12 @@ use Rattle.journal_model.specs.declared.steps.StepKind.{StepKind}
 use Rattle.journal_model.specs.declared.steps.StepKind.TheVariants as step
 use Rattle.journal_model.specs.declared.rows.Row.{Row}
 use Rattle.journal_model.specs.Journal.{is_look, entries}
-use Rattle.journal_model.specs.Effects.{answer}
+use Rattle.journal_model.specs.Effects.{answer, answering, without_memory}
 use Rattle.journal_model.specs.Requests.{query_of, asked_block, refusal_of_request, is_lookup, is_discovery, only_looks, is_look_request}
 use Rattle.journal_model.specs.Bodies.{is_long}
 use Rattle.journal_model.specs.Effects.{answering}
-use Rattle.journal_model.specs.Looks.{names_tag, still_valid, unless_held, unless_valid, looked_at, look_effects}
-use Rattle.journal_model.specs.Rows.{looked, without_memory, effects, row_moment, row}
+use Rattle.journal_model.specs.Looks.{names_tag, still_valid, unless_long, unless_valid, look_for, look, look_sent, looked, look_effects}
+use Rattle.journal_model.specs.Rows.{effects, row_moment, row}
 use Rattle.journal_model.specs.Machine.{MayMake, IsJournal}
 use Rattle.journal_model.specs.Headline.{looks_with_tag, asked_at, Sent, Validates}
 use Rattle.journal_model.proofs.EventRows.{row_within}
@@ -39,6 +39,10 @@ use Rattle.headline_law.proofs.sends.TickSends.{plain_not_valid}
 use Rattle.headline_law.proofs.sends.ValidSends.{NotValid, body_code, looks_either}
 use Rattle.headline_law.proofs.sends.ValidLaw.{RowSends, journal_sends, looked_a_look, LooksAt, a_look_reads}
 use Rattle.headline_law.proofs.rows.RowCarries.{asked_in-own}
+use Rattle.journal_model.specs.Sought.{sought_at}
+use Rattle.event_model.specs.KeptAnswers.{Answer}
+use Rattle.message_model.specs.declared.requests.Path.{Path}
+use Rattle.message_model.specs.declared.requests.Path.TheVariants as path
 
 -- a datagram to a peer and a token: where it is read to be 2.03, it carries this tag and nothing else, and the request named the tag
 pub record IsValidation (s : Step) (m : Message) (current : List ℕ) (d : Peer × List ℕ) (n : Message) : Type 0 where
@@ -59,31 +63,36 @@ other_validates s m current d other n e valid = absurd (false≢true (sym other 
 
 -- a look
 look_validates : (history : List Entry) (moment : ℕ) (s : Step) (m : Message) → length m.token ≤ longest_token → AllByRecursion (ValidatesAt s m (tag history moment)) (look_effects history moment s m).sent
-unfolding look_effects answering spelling header_spelling
-look_validates history moment s m small = by (is_discovery (path_in m)) refl
+unfolding look_effects look answering spelling header_spelling
+look_validates history moment s m small = by (path_in m) refl
   where
-    body : List ℕ
-    body = listing (query_of m) history moment
+    fresh : Answer
+    fresh = record { body = listing (query_of m) history moment; tag = tag history moment }
 
-    held : (b : Bool) → AllByRecursion (ValidatesAt s m (tag history moment)) (unless_held b s m (tag history moment) body).sent
-    held true = tt
-    held false = (other_validates s m (tag history moment) (s.peer, _) (body_code (Some (tag history moment)) None (asked_block m) body), tt)
+    long : (b : Bool) → AllByRecursion (ValidatesAt s m (tag history moment)) (look_sent s m (Some (unless_long b m fresh))).sent
+    long true = tt
+    long false = (other_validates s m (tag history moment) (s.peer, _) (body_code (Some (tag history moment)) None (asked_block m) (listing (query_of m) history moment)), tt)
 
     same : (n : Message) → reading (spelling (answer s m (still_valid (tag history moment)))) ≡ Ok n → answer s m (still_valid (tag history moment)) ≡ n
     same n e = same_message _ n _ (reading_in_order (answer s m (still_valid (tag history moment)))
         (record { class = refl; token = small; options = (omega arith, omega arith, (let h = tag-length history moment in omega (arith, h)), tt); empty = λ none. absurd (omega arith) })) e
 
-    valid : (b : Bool) → is_discovery (path_in m) ≡ false → names_tag (tag history moment) m ≡ b → AllByRecursion (ValidatesAt s m (tag history moment)) (unless_valid b s m (tag history moment) body).sent
+    valid : (b : Bool) → is_discovery (path_in m) ≡ false → names_tag (tag history moment) m ≡ b → AllByRecursion (ValidatesAt s m (tag history moment)) (look_sent s m (Some (unless_valid b m fresh))).sent
     valid true lists names = (
       (λ n e is. subst (λ (x : Message). IsValidation s m (tag history moment) (s.peer, spelling (answer s m (still_valid (tag history moment)))) x) (same n e)
           (record { peer_is = refl; token_is = refl; lists = lists; named = names; options = refl; payload = refl })),
       tt,
     )
-    valid false lists names = held (is_long (asked_block m) body)
+    valid false lists names = long (is_long (asked_block m) (listing (query_of m) history moment))
 
-    by : (b : Bool) → is_discovery (path_in m) ≡ b → AllByRecursion (ValidatesAt s m (tag history moment)) (looked_at b history moment s m).sent
-    by true discovers = (other_validates s m (tag history moment) (s.peer, _) (body_code None None (asked_block m) (discovery (query_of m))), tt)
-    by false lists = valid (names_tag (tag history moment) m) lists refl
+    by : (p : Path) → path_in m ≡ p → AllByRecursion (ValidatesAt s m (tag history moment)) (look_sent s m (option_map (look_for history moment m) (sought_at p (query_of m)))).sent
+    by path.Core is = (other_validates s m (tag history moment) (s.peer, _) (body_code None None (asked_block m) (discovery (query_of m))), tt)
+    by path.SimpleRd is = tt
+    by path.Rd is = tt
+    by (path.Location number) is = tt
+    by path.Other is = tt
+    by path.Res is = valid (names_tag (tag history moment) m) (ap is_discovery is) refl
+    by path.Ep is = valid (names_tag (tag history moment) m) (ap is_discovery is) refl
 
 -- whatever the row of a look sends
 row_validates : (rows : List Row) (s : Step) (starved : Bool) → MayMake rows s → s.kind ≡ step.Look
@@ -91,7 +100,7 @@ row_validates : (rows : List Row) (s : Step) (starved : Bool) → MayMake rows s
 unfolding row effects is_look_request
 row_validates rows s starved may is =
     subst (λ (k : StepKind). AllByRecursion Each (effects k starved rows (row_moment rows s) s).sent) (sym is)
-    (subst (λ (read : Result Message Unread). AllByRecursion Each (looked starved rows (row_moment rows s) s read).sent) (sym it.read_is) (by starved))
+    (subst (λ (read : Result Message Unread). AllByRecursion Each (looked starved (entries rows) (row_moment rows s) s read).sent) (sym it.read_is) (by starved))
   where
     Each : Peer × List ℕ → Type 0
     Each d = (n : Message) → reading d.1 ≡ Ok n → n.code ≡ codes_of.valid → Validates (record { row = row rows s starved; before = rows }) d.0 n
@@ -121,7 +130,7 @@ row_validates rows s starved may is =
           payload = v.payload;
         }
 
-    by : (b : Bool) → AllByRecursion Each (looked b rows (row_moment rows s) s (Ok m)).sent
+    by : (b : Bool) → AllByRecursion Each (looked b (entries rows) (row_moment rows s) s (Ok m)).sent
     by true = each_weaker (λ (d : Peer × List ℕ). NotValid d.1) Each (λ d other. one d (other_validates s m current d other)) (without_memory s m).sent (plain_not_valid (without_memory s m).sent (starved_plain s m))
     by false = each_weaker (ValidatesAt s m current) Each one (look_effects (entries rows) (row_moment rows s) s m).sent (look_validates (entries rows) (row_moment rows s) s m (header_read s.datagram m it.read_is).token)
 

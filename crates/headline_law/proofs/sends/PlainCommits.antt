@@ -59,11 +59,11 @@ commit_plain rows moment place s m = by (path_in m)
     }
 
     location : (w : Method) (number : ℕ) → CommitsPlainly (on_location w rows moment place s m number).sent (on_location w rows moment place s m number).notes
-    location get number = record { sends = tt; settles = tt }
+    location get number = settled (removing rows moment s number) (change_plain (entries rows) _ _ (record { no_content = refl; no_valid = refl })) (change_made-notes of_change (λ entry. refl) (entries rows) _ _ refl)
     location post number = settled (updating rows moment s m number) (change_plain (entries rows) _ _ (record { no_content = refl; no_valid = refl })) (change_made-notes of_change (λ entry. refl) (entries rows) _ _ refl)
-    location put number = record { sends = tt; settles = tt }
+    location put number = settled (removing rows moment s number) (change_plain (entries rows) _ _ (record { no_content = refl; no_valid = refl })) (change_made-notes of_change (λ entry. refl) (entries rows) _ _ refl)
     location delete number = settled (removing rows moment s number) (change_plain (entries rows) _ _ (record { no_content = refl; no_valid = refl })) (change_made-notes of_change (λ entry. refl) (entries rows) _ _ refl)
-    location other_method number = record { sends = tt; settles = tt }
+    location other_method number = settled (removing rows moment s number) (change_plain (entries rows) _ _ (record { no_content = refl; no_valid = refl })) (change_made-notes of_change (λ entry. refl) (entries rows) _ _ refl)
 
     by : (p : Path) → CommitsPlainly (write_done p rows moment place s m).sent (write_done p rows moment place s m).notes
     by path.Core = record { sends = tt; settles = tt }

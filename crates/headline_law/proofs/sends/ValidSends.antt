@@ -115,6 +115,19 @@ look_valid history moment s m = by (path_in m)
     by path.Ep = valid (names_tag (tag history moment) m)
     by path.Other = refl
 
+-- a request that is looked at asks for a listing or for discovery
+pub looks_either : (m : Message) → only_looks m ≡ true → is_lookup (path_in m) ≡ not (is_discovery (path_in m))
+looks_either m h = by (path_in m) h
+  where
+    by : (p : Path) → (is_discovery p || (is_lookup p && not (is_later_block m) && not (is_heeded (observe_in m)))) ≡ true → is_lookup p ≡ not (is_discovery p)
+    by path.Core e = refl
+    by path.Res e = refl
+    by path.Ep e = refl
+    by path.SimpleRd e = absurd (false≢true e)
+    by path.Rd e = absurd (false≢true e)
+    by (path.Location number) e = absurd (false≢true e)
+    by path.Other e = absurd (false≢true e)
+
 -- ---- keeps and lookups
 
 -- a keep
