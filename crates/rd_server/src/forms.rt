@@ -47,24 +47,28 @@ pub fn asking_of(datagram: &[u8]) -> Option<Asking<'_>>
     })
 }
 
+/// The octet may stand in a plain path.
 fn is_plain(b: u8) -> bool
     ensures { result ≡ forms.is_plain b }
 {
     matches!(b, b'A'..=b'Z' | b'a'..=b'z' | b'0'..=b'9' | b'-' | b'_' | b'~')
 }
 
+/// All octets may stand in a plain path.
 fn are_plain(text: &[u8]) -> bool
     ensures { result ≡ list_all forms.is_plain text.now }
 {
     text.iter().all(|b| is_plain(*b))
 }
 
+/// The text is one segment of a plain path: one octet or more.
 fn is_segment(text: &[u8]) -> bool
     ensures { result ≡ forms.is_segment text.now }
 {
     !text.is_empty() && are_plain(text)
 }
 
+/// The text is segments of a plain path with single slashes between them.
 fn are_segments(text: &[u8]) -> bool
     ensures { result ≡ list_all forms.is_segment (forms.parts_of 47 text.now) }
 {
@@ -78,6 +82,7 @@ fn are_segments(text: &[u8]) -> bool
     is_segment(rest)
 }
 
+/// The text is a target: a plain path, which begins with a slash.
 fn is_target(text: &[u8]) -> bool
     ensures { result ≡ forms.is_target text.now }
 {
@@ -87,6 +92,7 @@ fn is_target(text: &[u8]) -> bool
     }
 }
 
+/// The text is a plain link: a target in angle brackets.
 fn is_link(text: &[u8]) -> bool
     ensures { result ≡ forms.is_link text.now }
 {
@@ -99,6 +105,7 @@ fn is_link(text: &[u8]) -> bool
     is_target(target) && after.is_empty()
 }
 
+/// The text is plain links with single commas between them.
 #[tactic(auto, unfolding(crate::specs::Forms::is_plain_document))]
 fn is_plain_document(text: &[u8]) -> bool
     ensures { result ≡ forms.is_plain_document text.now }
@@ -113,18 +120,21 @@ fn is_plain_document(text: &[u8]) -> bool
     is_link(rest)
 }
 
+/// The octet may stand in an endpoint name of the first form: printable ASCII.
 fn is_name_octet(b: u8) -> bool
     ensures { result ≡ forms.is_name_octet b }
 {
     b >= 0x20 && b < 0x7f
 }
 
+/// All octets may stand in such a name.
 fn are_name_octets(text: &[u8]) -> bool
     ensures { result ≡ list_all forms.is_name_octet text.now }
 {
     text.iter().all(|b| is_name_octet(*b))
 }
 
+/// The text is such a name: of one to nine octets.
 fn is_name(text: &[u8]) -> bool
     ensures { result ≡ forms.is_name text.now }
 {
@@ -132,6 +142,7 @@ fn is_name(text: &[u8]) -> bool
 }
 
 #[tactic(auto, unfolding(crate::specs::Forms::query_of))]
+/// The first option of a text that begins with an option of delta 3 and at most 12 octets: its value, and what follows it.
 fn query_of(text: &[u8]) -> Option<(&[u8], &[u8])>
     ensures { option_map (λ p. (p.0.now, p.1.now)) result ≡ forms.query_of text.now }
 {

@@ -35,7 +35,7 @@ pub enum Ended<T> {
     Held(Option<T>),
 }
 
-// The word of a history that has one row more.
+/// The word of a history that has one row more.
 fn next_word(word: u64) -> u64
     ensures { (n : ℕ) → word ≡ word_of n false → result ≡ word_of (n + 1) false }
 {
@@ -46,7 +46,7 @@ fn next_word(word: u64) -> u64
     }
 }
 
-// The value of the one slot.
+/// The value of the one slot.
 fn only<T>(mut slots: Vec<Option<T>>) -> T
     requires { (value : T) × (slots.items ≡ Some value ∷ []) }
     ensures { slots.items ≡ Some result ∷ [] }
@@ -58,7 +58,7 @@ fn only<T>(mut slots: Vec<Option<T>>) -> T
     value
 }
 
-// A pass that has seen nothing.
+/// A pass that has seen nothing.
 fn new_pass<T: Replays>(seat: Seat<Option<T>, View<T::Row, T::Label>>) -> Pass<T>
     requires idle { seat.me.0.holding ≡ false }
     requires seen { seat.me.0.seen ≡ [] }
@@ -96,7 +96,7 @@ impl<T: Replays> TurnLock<T> {
         self.slot_out(&mut pass.seat)
     }
 
-    // Waits until the turn is taken. The word as it was found.
+    /// Waits until the turn is taken. The word as it was found.
     fn win<R: Wait>(&self, rt: &R, seat: &mut Seat<Option<T>, View<T::Row, T::Label>>) -> u64
         requires lock { seat.old.table_id ≡ self.now.table.shared.table_id }
         requires bare { seat.old.me.1 ≡ [] }
@@ -117,7 +117,7 @@ impl<T: Replays> TurnLock<T> {
         unreachable!()
     }
 
-    // Takes the turn if the word is this one.
+    /// Takes the turn if the word is this one.
     fn try_take(&self, seat: &mut Seat<Option<T>, View<T::Row, T::Label>>, word: u64) -> bool
         requires lock { seat.old.table_id ≡ self.now.table.shared.table_id }
         requires bare { seat.old.me.1 ≡ [] }
@@ -129,7 +129,7 @@ impl<T: Replays> TurnLock<T> {
         shared.compare_exchange::<Take<T>>(seat, 0, word, word + 1) == word
     }
 
-    // Moves the value out of the slot.
+    /// Moves the value out of the slot.
     fn slot_out(&self, seat: &mut Seat<Option<T>, View<T::Row, T::Label>>) -> T
         requires lock { seat.old.table_id ≡ self.now.table.shared.table_id }
         requires full { (value : T) × (seat.old.me.1 ≡ (0, Some value) ∷ []) }
@@ -139,7 +139,7 @@ impl<T: Replays> TurnLock<T> {
         self.table.shared.exchange(seat, 0, None).unwrap()
     }
 
-    // Moves the value into the slot.
+    /// Moves the value into the slot.
     fn slot_in(&self, seat: &mut Seat<Option<T>, View<T::Row, T::Label>>, value: T)
         requires lock { seat.old.table_id ≡ self.now.table.shared.table_id }
         requires empty { seat.old.me.1 ≡ (0, None) ∷ [] }
@@ -172,7 +172,7 @@ impl<T: Replays> TurnLock<T> {
         pass.word = word;
     }
 
-    // Makes the turn free, and wakes one that waits.
+    /// Makes the turn free, and wakes one that waits.
     fn release<S: Added<T::Row>>(
         &self,
         seat: &mut Seat<Option<T>, View<T::Row, T::Label>>,
@@ -189,7 +189,7 @@ impl<T: Replays> TurnLock<T> {
         shared.wake_one(0);
     }
 
-    // Cuts a pass with the next number off the one that was made last.
+    /// Cuts a pass with the next number off the one that was made last.
     fn next(
         &self,
         last: &mut Seat<Option<T>, View<T::Row, T::Label>>,
@@ -203,7 +203,7 @@ impl<T: Replays> TurnLock<T> {
         self.table.shared.split_seat::<Next>(last)
     }
 
-    // As many passes as are wanted, cut off one after another.
+    /// As many passes as are wanted, cut off one after another.
     fn cut(
         &self,
         mut passes: Vec<Pass<T>>,
