@@ -4,7 +4,7 @@ use Rattle.journal_model.specs.Headline.{HoldsEachOnce, AnswersAsFormed, TagsDec
 use Rattle.headline_law.proofs.entries.HoldsEachOnce.{journal-HoldsEachOnce}
 use Rattle.headline_law.proofs.rows.AnswersAsFormed.{answers_as_formed}
 use Rattle.headline_law.proofs.rows.TaggedAnswers.{journal-TagsDecideStates}
-use Rattle.headline_law.proofs.observers.ObserversKnow.{journal-ObserversKnow}
+use Rattle.journal_model.proofs.observers.ObserversKnow.{journal-ObserversKnow}
 use Rattle.trace_model.specs.Steps.{journal}
 use Rattle.trace_model.proofs.JournalLaw.{journal-IsJournal}
 use Rattle.journal_model.specs.declared.rows.Row.{Row}

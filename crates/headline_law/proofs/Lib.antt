@@ -36,7 +36,6 @@
 --   entries: JournalLaws (a row of a journal is that of its step). observers: ObserversKnow says what the notes of each step do for observers (ObserverNotes), which FirstBodies reads too.
 pub mod notes
 pub mod entries
-pub mod observers
 pub mod sends
 pub mod flights
 pub mod rows

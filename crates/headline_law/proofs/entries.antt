@@ -1,9 +1,3 @@
-pub mod ChangeEntries
-pub mod QuietSteps
-pub mod RowLaws
-pub mod JournalLaws
-pub mod ResponseEntries
-pub mod EntryOrigins
 pub mod TagStates
 pub mod EntryChanges
 pub mod CommitLaws

@@ -11,4 +11,8 @@ pub mod EventRows
 pub mod Jobs
 pub mod SeatLaws
 pub mod FlightKeys
+pub mod notes
+pub mod entries
+pub mod observers
+pub mod desks
 mod examples

@@ -149,15 +149,16 @@ pub record EndedWithoutMemory (rows : List Row) (place : ℕ) : Type 0 where
   pub failed : list_any (is_failure_of place) row.notes ≡ true
   pub sent : code_sent row.sent ≡ codes_of.internal_server_error
 
--- the row at a place admitted a write, and its worker, peer and datagram are those of a later step
+-- the row at a place admitted its own write: that of its peer, with the Message ID of the message in its datagram;
+-- and its worker, peer and datagram are those of a later step
 pub record AdmittedAt (rows : List Row) (place : ℕ) (s : Step) : Type 0 where
   pub before : List Row
   pub row : Row
   pub within : Within rows before row
   pub place_is : length before ≡ place
-  pub peer : Peer
-  pub mid : ℕ
-  pub admitted : admits peer mid row ≡ true
+  pub message : Message
+  pub read : reading row.step.datagram ≡ Ok message
+  pub admitted : admits row.step.peer message.mid row ≡ true
   pub worker : row.step.worker ≡ s.worker
   pub from_peer : row.step.peer ≡ s.peer
   pub datagram : row.step.datagram ≡ s.datagram
@@ -371,6 +372,17 @@ pub record TagsDecideStates (rows : List Row) : Type 0 where
       → tag (entries (r ∷ before)) r.moment.0 ≡ tag (entries (other ∷ other_before)) other.moment.0
       → live (entries (r ∷ before)) r.moment.0 ≡ live (entries (other ∷ other_before)) other.moment.0
   pub answers : (one other : Sent rows) → is_listing one ≡ true → is_listing other ≡ true
+      → etags_in one.message ≡ etags_in other.message → query_of_sent one ≡ query_of_sent other → AreBlocksOfOne one.message other.message
+
+-- The same where a keep may have any body and tag, as in a journal of a desk: of rows, and of two answers whose bodies were formed in rows.
+pub record FormedTagsDecideStates (rows : List Row) : Type 0 where
+  pub histories : (before other_before : List Row) (r other : Row) → Within rows before r → Within rows other_before other
+      → tag (entries (r ∷ before)) r.moment.0 ≡ tag (entries (other ∷ other_before)) other.moment.0
+      → entries (r ∷ before) ≡ entries (other ∷ other_before)
+  pub records : (before other_before : List Row) (r other : Row) → Within rows before r → Within rows other_before other
+      → tag (entries (r ∷ before)) r.moment.0 ≡ tag (entries (other ∷ other_before)) other.moment.0
+      → live (entries (r ∷ before)) r.moment.0 ≡ live (entries (other ∷ other_before)) other.moment.0
+  pub answers : (one other : Sent rows) → FormedAs one.here one.peer one.message → FormedAs other.here other.peer other.message
       → etags_in one.message ≡ etags_in other.message → query_of_sent one ≡ query_of_sent other → AreBlocksOfOne one.message other.message
 
 -- Where no notice is due to an observer, the body that was last formed for it is the listing now.

@@ -20,7 +20,7 @@ use Rattle.journal_model.proofs.EventRows.{AllRows}
 use Rattle.journal_model.proofs.RowEquations.{row-step}
 use Rattle.trace_model.specs.Steps.{come_step, go_step, step_of_worker, worker_of, if_worker, step_of_line, trace_line, trace_from, steps, journal}
 use Rattle.trace_model.proofs.JournalLaw.{journal-IsJournal}
-use Rattle.headline_law.proofs.desks.MachineJournals.{journal-IsDeskJournal}
+use Rattle.journal_model.proofs.desks.MachineJournals.{journal-IsDeskJournal}
 
 -- each row's step was handed what a desk wants
 abbrev AllHanded : List Row → Type 0

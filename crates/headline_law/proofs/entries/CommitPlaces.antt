@@ -1,4 +1,4 @@
--- A commit is of a row that admitted its write, by the same worker and with the same datagram of the same peer.
+-- A commit is of a row that admitted its own write, by the same worker and with the same datagram of the same peer: in journals of the machine, and in those of desks.
 use Rattle.std.proofs.Common.{◌≡◌, ℕ, ◌==◌, Bool, true, false, cond, List, [], ◌∷◌, length, Option, Some, None, Result, Ok, Err, refl, sym, ap, subst, ◌∙◌, eqb-true}
 use Rattle.std.specs.List.{list_any}
 use Rattle.rd_base.specs.declared.peers.Peer.{Peer}
@@ -8,19 +8,22 @@ use Rattle.message_model.specs.Message.{Message}
 use Rattle.message_model.specs.Reading.{reading}
 use Rattle.event_model.specs.declared.notes.Note.{Note}
 use Rattle.event_model.specs.declared.notes.Note.TheVariants as note
-use Rattle.event_model.specs.Repeats.{is_admission_of}
+use Rattle.event_model.specs.Repeats.{is_admitting, is_admission_of}
 use Rattle.event_model.proofs.SameLaws.{is_same_peer-refl}
 use Rattle.journal_model.specs.declared.steps.Step.{Step}
 use Rattle.journal_model.specs.declared.steps.StepKind.{StepKind}
 use Rattle.journal_model.specs.declared.steps.StepKind.TheVariants as step
 use Rattle.journal_model.specs.declared.rows.Row.{Row}
-use Rattle.journal_model.specs.Rows.{row}
+use Rattle.journal_model.specs.Rows.{row, AreRows}
+use Rattle.journal_model.specs.DeskJournal.{IsOpenFor, CommitsOpen, IsDeskJournal}
 use Rattle.journal_model.specs.Machine.{is_look_datagram, Job, write_job, keep_job, job_after, job_of, MayBegin, hears, goes, ticks, IsJournal}
 use Rattle.journal_model.specs.Headline.{Within, Commits, admits, AdmittedAt}
-use Rattle.headline_law.proofs.entries.JournalLaws.{Made, each_row}
+use Rattle.journal_model.proofs.entries.JournalLaws.{Made, each_row, RowMade, each_made, journal-AreRows, desk-AreRows}
+use Rattle.journal_model.proofs.desks.OpenAdmissions.{OwnAdmission, row-OwnAdmission}
+use Rattle.journal_model.proofs.desks.CommitsOnce as desks
 use Rattle.journal_model.specs.Looks.{held_after}
 use Rattle.event_model.specs.KeptAnswers.{Answer}
-use Rattle.journal_model.specs.Journal.{entries}
+use Rattle.journal_model.specs.Journal.{entries, row_at}
 
 -- the row at a place admitted the write of a job of a worker
 record JobFrom (rows : List Row) (worker place : ℕ) (job : Job) : Type 0 where
@@ -28,9 +31,7 @@ record JobFrom (rows : List Row) (worker place : ℕ) (job : Job) : Type 0 where
   row : Row
   within : Within rows before row
   place_is : length before ≡ place
-  peer : Peer
-  mid : ℕ
-  admitted : admits peer mid row ≡ true
+  admitted : list_any is_admitting row.notes ≡ true
   worker_is : row.step.worker ≡ worker
   from_peer : row.step.peer ≡ job.peer
   datagram : row.step.datagram ≡ job.datagram
@@ -42,8 +43,6 @@ from_more r rows worker place job it = record {
   row = it.row;
   within = record { later = r ∷ it.within.later; whole = ap (λ (all : List Row). r ∷ all) it.within.whole };
   place_is = it.place_is;
-  peer = it.peer;
-  mid = it.mid;
   admitted = it.admitted;
   worker_is = it.worker_is;
   from_peer = it.from_peer;
@@ -65,9 +64,7 @@ from_admission before r place (note.Admitted peer mid ∷ notes) job noted e com
       row = r;
       within = record { later = []; whole = refl };
       place_is = cc;
-      peer = peer;
-      mid = mid;
-      admitted = ap (list_any (is_admission_of peer mid)) noted ∙ rw (is_same_peer-refl peer, eqb-refl mid) refl;
+      admitted = ap (list_any is_admitting) noted;
       worker_is = refl;
       from_peer = ap (λ (j : Job). j.peer) same;
       datagram = ap (λ (j : Job). j.datagram) same;
@@ -97,33 +94,92 @@ job_from worker (r ∷ before) place job e commits = by (r.step.worker == worker
     by true same h more = own r.step.kind (eqb-true r.step.worker worker same) h more
     by false other h more = from_more r before worker place job (more h)
 
+-- what a row of a step admits is its own
+own_of : (rows before : List Row) (r : Row) → AreRows rows → Within rows before r → list_any is_admitting r.notes ≡ true → OwnAdmission r
+own_of rows before r all within some =
+    let it : RowMade before r = each_made rows before r all within in
+    subst OwnAdmission (sym it.is) (row-OwnAdmission before it.step it.starved (subst (λ (x : Row). list_any is_admitting x.notes ≡ true) it.is some))
+
+-- it has the peer of the row and the Message ID of its message
+own_admits : (r : Row) (own : OwnAdmission r) → admits r.step.peer own.message.mid r ≡ true
+own_admits r own = ap (list_any (is_admission_of r.step.peer own.message.mid)) own.noted ∙ rw (is_same_peer-refl r.step.peer, eqb-refl own.message.mid) refl
+
 -- so is each commit that may be made
-begun_admitted : (rows : List Row) (s : Step) (place : ℕ) → MayBegin rows s → s.kind ≡ step.Commit place → AdmittedAt rows place s
-begun_admitted rows s place (hears none heard) e = absurd (by (is_look_datagram s.datagram) (sym heard ∙ e))
+begun_admitted : (rows : List Row) (s : Step) (place : ℕ) → AreRows rows → MayBegin rows s → s.kind ≡ step.Commit place → AdmittedAt rows place s
+begun_admitted rows s place all (hears none heard) e = absurd (by (is_look_datagram s.datagram) (sym heard ∙ e))
   where
     by : (b : Bool) → cond b step.Look step.Admit ≡ step.Commit place → ⊥
     by true h = let no : step.Look ≡ step.Commit place = h in absurd cc
     by false h = let no : step.Admit ≡ step.Commit place = h in absurd cc
-begun_admitted rows s place (goes holds) e =
+begun_admitted rows s place all (goes holds) e =
     let it : JobFrom rows s.worker place (record { kind = s.kind; peer = s.peer; datagram = s.datagram }) = job_from s.worker rows place (record { kind = s.kind; peer = s.peer; datagram = s.datagram }) holds e in
+    let own : OwnAdmission it.row = own_of rows it.before it.row all it.within it.admitted in
     record {
       before = it.before;
       row = it.row;
       within = it.within;
       place_is = it.place_is;
-      peer = it.peer;
-      mid = it.mid;
-      admitted = it.admitted;
+      message = own.message;
+      read = own.read;
+      admitted = own_admits it.row own;
       worker = it.worker_is;
       from_peer = it.from_peer;
       datagram = it.datagram;
     }
-begun_admitted rows s place (ticks tick) e = absurd (let h : step.Tick ≡ step.Commit place = sym tick ∙ e in cc)
+begun_admitted rows s place all (ticks tick) e = absurd (let h : step.Tick ≡ step.Commit place = sym tick ∙ e in cc)
 
--- in each journal
+-- in each journal of the machine
 pub journal-place : (rows before : List Row) (r : Row) (place : ℕ) → IsJournal rows → Within rows before r → Commits r place → AdmittedAt before place r.step
 unfolding row
 journal-place rows before r place journal within commits =
     let it : Made before r = each_row rows before r journal within in
     subst (λ (x : Row). AdmittedAt before place x.step) (sym it.is)
-    (begun_admitted before it.step place it.may.begin (ap (λ (x : Row). x.step.kind) (sym it.is) ∙ commits))
+    (begun_admitted before it.step place (journal-AreRows before it.journal) it.may.begin (ap (λ (x : Row). x.step.kind) (sym it.is) ∙ commits))
+
+-- ---- journals of desks
+
+-- the row at a place stands among the rows, after so many
+record AtPlace (rows : List Row) (place : ℕ) (r : Row) : Type 0 where
+  before : List Row
+  within : Within rows before r
+  place_is : length before ≡ place
+
+at_place : (place : ℕ) (rows : List Row) (r : Row) → row_at place rows ≡ Some r → AtPlace rows place r
+unfolding row_at
+at_place place [] r found = absurd (let h : None ≡ Some r = found in cc)
+at_place place (x ∷ rest) r found = by (place == length rest) refl found (λ h. at_place place rest r h)
+  where
+    by : (b : Bool) → (place == length rest) ≡ b → cond b (Some x) (row_at place rest) ≡ Some r → (row_at place rest ≡ Some r → AtPlace rest place r) → AtPlace (x ∷ rest) place r
+    by true at is more =
+        let same : x ≡ r = cc in
+        record { before = rest; within = record { later = []; whole = ap (λ (y : Row). y ∷ rest) same }; place_is = sym (eqb-true place (length rest) at) }
+    by false at is more =
+        let it : AtPlace rest place r = more is in
+        record { before = it.before; within = record { later = x ∷ it.within.later; whole = ap (λ (all : List Row). x ∷ all) it.within.whole }; place_is = it.place_is }
+
+-- a commit of an open admission is of a row that admitted its own write
+open_admitted : (rows : List Row) (s : Step) (place : ℕ) → AreRows rows → IsOpenFor s place rows → AdmittedAt rows place s
+open_admitted rows s place all it =
+    let at : AtPlace rows place it.admission = at_place place rows it.admission it.found in
+    let own : OwnAdmission it.admission = own_of rows at.before it.admission all at.within it.admits in
+    record {
+      before = at.before;
+      row = it.admission;
+      within = at.within;
+      place_is = at.place_is;
+      message = own.message;
+      read = own.read;
+      admitted = own_admits it.admission own;
+      worker = it.worker;
+      from_peer = it.peer;
+      datagram = it.datagram;
+    }
+
+-- in each journal of a desk
+pub desk-place : (rows before : List Row) (r : Row) (place : ℕ) → IsDeskJournal rows → Within rows before r → Commits r place → AdmittedAt before place r.step
+unfolding row
+desk-place rows before r place journal within commits =
+    let it : desks.Made before r = desks.each_row rows before r journal within in
+    let kind : it.step.kind ≡ step.Commit place = ap (λ (x : Row). x.step.kind) (sym it.is) ∙ commits in
+    subst (λ (x : Row). AdmittedAt before place x.step) (sym it.is)
+    (open_admitted before it.step place (desk-AreRows before it.journal) (subst (CommitsOpen before it.step) kind it.may.commits))

@@ -22,8 +22,8 @@ use Rattle.journal_model.proofs.NoteKinds.{of_tick, none_of}
 use Rattle.journal_model.proofs.StepNotes.{requests_again-notes, tick_effects-notes}
 use Rattle.journal_model.proofs.EntriesNoted.{entries_in}
 use Rattle.headline_law.proofs.sends.PlainSteps.{ArePlain}
-use Rattle.headline_law.proofs.entries.QuietSteps.{tick_effects-entries_in}
-use Rattle.headline_law.proofs.observers.ObserversKnow.{IsNoTick, step_observer_notes}
+use Rattle.journal_model.proofs.entries.QuietSteps.{tick_effects-entries_in}
+use Rattle.journal_model.proofs.observers.ObserversKnow.{IsNoTick, step_observer_notes}
 use Rattle.headline_law.proofs.sends.TickSends.{requests_plain}
 use Rattle.headline_law.proofs.sends.ValidLaw.{before_all, journal_sends, looks_are_validated}
 use Rattle.headline_law.proofs.rows.Validations.{sent_validates}
@@ -44,7 +44,7 @@ use Rattle.headline_law.proofs.sends.StepOutcomes.{is_keeping, StepOutcome, plai
 use Rattle.headline_law.proofs.rows.RowCarries.{NoteAsFormed, RowCarries, plain_row, look_row, own_notes_as_formed}
 use Rattle.headline_law.proofs.rows.LookupRows.{lookup_row}
 use Rattle.headline_law.proofs.rows.KeepRows.{keep_row}
-use Rattle.headline_law.proofs.entries.JournalLaws.{entries-none_noted}
+use Rattle.journal_model.proofs.entries.JournalLaws.{entries-none_noted}
 
 -- what is known of a journal: each of its rows, its observers, and the notices in flight
 record CarriesAll (rows : List Row) : Type 0 where

@@ -28,8 +28,8 @@ use Rattle.journal_model.specs.Machine.{Job, job_of, MayBegin, hears, goes, tick
 use Rattle.journal_model.specs.Headline.{Placed, look_of, former_of_body, former_at, asked_at, Carries}
 use Rattle.journal_model.proofs.EntriesNoted.{entries_in}
 use Rattle.journal_model.proofs.StepNotes.{keep_effects-notes}
-use Rattle.headline_law.proofs.notes.SilentSteps.{looked_notes}
-use Rattle.headline_law.proofs.entries.JournalLaws.{Made, each_row, entries-none_noted, entries-IsPrefix-row}
+use Rattle.journal_model.proofs.notes.SilentSteps.{looked_notes}
+use Rattle.journal_model.proofs.entries.JournalLaws.{Made, each_row, entries-none_noted, entries-IsPrefix-row}
 use Rattle.journal_model.proofs.Jobs.{KeepsOf, keeps_of}
 use Rattle.message_model.proofs.ReadingLaws.{header_read}
 use Rattle.headline_law.proofs.sends.BodyAnswers.{wanted_by, asking, Bears, tag-length, same_message, bears_carries}

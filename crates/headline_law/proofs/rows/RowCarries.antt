@@ -31,7 +31,7 @@ use Rattle.headline_law.proofs.notes.LookupNotes.{IsAsking, KeptAt, NoteAsAsked,
 use Rattle.headline_law.proofs.flights.CarriedListings.{Carried}
 use Rattle.headline_law.proofs.sends.StepOutcomes.{is_keeping}
 use Rattle.std.proofs.lemmas.Bool.{or_parts}
-use Rattle.headline_law.proofs.entries.JournalLaws.{entries-none_noted, entries-IsPrefix-row}
+use Rattle.journal_model.proofs.entries.JournalLaws.{entries-none_noted, entries-IsPrefix-row}
 use Rattle.rd_base.proofs.lemmas.Each.{each_weaker, each_failing}
 
 -- an answer that is kept at a row: the listing of the query of its key, at the row that formed it

@@ -32,7 +32,7 @@ use Rattle.journal_model.specs.Headline.{looks_with_tag, asked_at, Sent, Validat
 use Rattle.journal_model.proofs.EventRows.{row_within}
 use Rattle.rd_base.proofs.lemmas.Among.{all_at_index}
 use Rattle.rd_base.proofs.lemmas.Each.{each_weaker}
-use Rattle.headline_law.proofs.entries.JournalLaws.{Made, each_row}
+use Rattle.journal_model.proofs.entries.JournalLaws.{Made, each_row}
 use Rattle.headline_law.proofs.sends.BodyAnswers.{wanted_by, asking, code_read, same_message, tag-length}
 use Rattle.headline_law.proofs.sends.PlainSteps.{starved_plain}
 use Rattle.headline_law.proofs.sends.TickSends.{plain_not_valid}

@@ -26,20 +26,22 @@ use Rattle.journal_model.specs.Bodies.{is_long}
 use Rattle.journal_model.specs.Requests.{query_of, asked_block, number_of, szx_of, is_later_block, register, deregister}
 use Rattle.journal_model.specs.Looks.{look_effects}
 use Rattle.journal_model.specs.Lookups.{listing_now, block_now, block_of_kept, later_block, removal, without, observer_of, keeping, observed_if, observed, unobserved, observation_effects, first_block_effects, block_effects, lookup_effects}
-use Rattle.journal_model.specs.Rows.{effects, row_moment, row}
-use Rattle.journal_model.specs.Machine.{IsJournal, begun, made}
+use Rattle.journal_model.specs.Rows.{effects, row_moment, row, AreRows, empty, added}
+use Rattle.journal_model.specs.Machine.{IsJournal}
+use Rattle.journal_model.specs.DeskJournal.{IsDeskJournal}
+use Rattle.journal_model.proofs.entries.JournalLaws.{journal-AreRows, desk-AreRows}
 use Rattle.journal_model.specs.Headline.{ObserversKnow}
 use Rattle.journal_model.proofs.EntriesNoted.{entries_in}
 use Rattle.journal_model.proofs.NoteKinds.{of_write, of_empty, of_commit, of_response, are, none_of}
 use Rattle.journal_model.proofs.StepNotes.{look_effects-notes, keep_effects-notes, write_effects-notes}
-use Rattle.headline_law.proofs.entries.QuietSteps.{lookup_effects-entries_in}
-use Rattle.headline_law.proofs.notes.SilentSteps.{looked_notes}
-use Rattle.headline_law.proofs.notes.StepTable.{StepNoted, effects-StepNoted}
-use Rattle.headline_law.proofs.notes.StepTable as noted
-use Rattle.headline_law.proofs.notes.ChangeNotes.{commit_effects-notes, response_effects-notes}
-use Rattle.headline_law.proofs.observers.ObserverKnowledge.{KnownIn, AllKnown, is_observing, quiet_row, look_row}
-use Rattle.headline_law.proofs.observers.AddedObservers.{around, observed_row}
-use Rattle.headline_law.proofs.observers.TickKnowledge.{tick_row}
+use Rattle.journal_model.proofs.entries.QuietSteps.{lookup_effects-entries_in}
+use Rattle.journal_model.proofs.notes.SilentSteps.{looked_notes}
+use Rattle.journal_model.proofs.notes.StepTable.{StepNoted, effects-StepNoted}
+use Rattle.journal_model.proofs.notes.StepTable as noted
+use Rattle.journal_model.proofs.notes.ChangeNotes.{commit_effects-notes, response_effects-notes}
+use Rattle.journal_model.proofs.observers.ObserverKnowledge.{KnownIn, AllKnown, is_observing, quiet_row, look_row}
+use Rattle.journal_model.proofs.observers.AddedObservers.{around, observed_row}
+use Rattle.journal_model.proofs.observers.TickKnowledge.{tick_row}
 use Rattle.rd_base.proofs.lemmas.Among.{all_at_index}
 
 -- what notes do for observers after a journal at a moment: nothing; or they add one, with its first listing, and have no entry
@@ -132,8 +134,8 @@ step_observer_notes kind starved rows moment s no_tick = by (effects kind starve
 
     by : (ns : List Note) → StepNoted kind starved rows moment s ns → ObserverNotes rows moment ns
     by ns (noted.nothing blank) = no_observer_notes rows moment ns blank
-    by ns (noted.write m here is) = quiet_kind of_write (λ o. refl) (λ p t b n. refl) (λ p t. refl) ns (ap (are of_write) is ∙ write_effects-notes (events rows) moment s m)
-    by ns (noted.lookup m here is) = subst (ObserverNotes rows moment) (sym is) (lookup_observer_notes rows moment s m)
+    by ns (noted.write m here read is) = quiet_kind of_write (λ o. refl) (λ p t b n. refl) (λ p t. refl) ns (ap (are of_write) is ∙ write_effects-notes (events rows) moment s m)
+    by ns (noted.lookup m here read at is) = subst (ObserverNotes rows moment) (sym is) (lookup_observer_notes rows moment s m)
     by ns (noted.empty here all) = quiet_kind of_empty (λ o. refl) (λ p t b n. refl) (λ p t. refl) ns all
     by ns (noted.response m here read responds is) = quiet_kind of_response (λ o. refl) (λ p t b n. refl) (λ p t. refl) ns (ap (are of_response) is ∙ response_effects-notes rows moment s m)
     by ns (noted.commit m place commits read is) = quiet_kind of_commit (λ o. refl) (λ p t b n. refl) (λ p t. refl) ns (ap (are of_commit) is ∙ commit_effects-notes rows moment place s m)
@@ -173,14 +175,26 @@ row-AllKnown rows s starved all = by s.kind refl
     by (step.Keep body tag) e = no_tick (step.Keep body tag) e refl tt
     by step.Tick e = tick_row rows (row rows s starved) starved (desk step.Tick e refl) (notes_of step.Tick e) all
 
--- in each journal
-journal-AllKnown : (rows : List Row) → IsJournal rows → AllKnown rows
+-- among rows of steps
+pub rows-AllKnown : (rows : List Row) → AreRows rows → AllKnown rows
 unfolding events observers
-journal-AllKnown [] begun = tt
-journal-AllKnown (r ∷ before) (made {rows} {s} starved journal may) = row-AllKnown before s starved (journal-AllKnown before journal)
+rows-AllKnown [] empty = tt
+rows-AllKnown (r ∷ before) (added {rows} s starved rest) = row-AllKnown before s starved (rows-AllKnown before rest)
+
+-- so it is in journals of desks
+pub desk-AllKnown : (rows : List Row) → IsDeskJournal rows → AllKnown rows
+desk-AllKnown rows journal = rows-AllKnown rows (desk-AreRows rows journal)
 
 -- the last body formed for an observer that is not due is the listing now
-pub journal-ObserversKnow : (rows : List Row) → IsJournal rows → ObserversKnow rows
-journal-ObserversKnow rows journal = record {
-  last_formed = λ o among not_due. (all_at_index (KnownIn rows) (observers (events rows)) o among (journal-AllKnown rows journal)).knows not_due;
+rows-ObserversKnow : (rows : List Row) → AreRows rows → ObserversKnow rows
+rows-ObserversKnow rows all = record {
+  last_formed = λ o among not_due. (all_at_index (KnownIn rows) (observers (events rows)) o among (rows-AllKnown rows all)).knows not_due;
 }
+
+-- in each journal of the machine
+pub journal-ObserversKnow : (rows : List Row) → IsJournal rows → ObserversKnow rows
+journal-ObserversKnow rows journal = rows-ObserversKnow rows (journal-AreRows rows journal)
+
+-- and in each of a desk
+pub desk-ObserversKnow : (rows : List Row) → IsDeskJournal rows → ObserversKnow rows
+desk-ObserversKnow rows journal = rows-ObserversKnow rows (desk-AreRows rows journal)

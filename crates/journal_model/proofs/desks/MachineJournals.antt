@@ -25,9 +25,9 @@ use Rattle.journal_model.specs.DeskJournal.{IsOpenFor, CommitsOpen, IsHanded, Is
 use Rattle.journal_model.proofs.EventRows.{AllRows}
 use Rattle.journal_model.proofs.RowEquations.{events-row, row-step}
 use Rattle.journal_model.proofs.NoteKinds.{none_of}
-use Rattle.headline_law.proofs.desks.TouchedExchanges.{Touches, aside, admits, ends, ends_at, row-Touches}
-use Rattle.headline_law.proofs.desks.AdmissionsInOrder.{row_at-below, journal-not_ended}
-use Rattle.headline_law.proofs.desks.OpenAdmissions.{admission_notes}
+use Rattle.journal_model.proofs.desks.TouchedExchanges.{Touches, aside, admits, ends, ends_at, row-Touches}
+use Rattle.journal_model.proofs.desks.AdmissionsInOrder.{row_at-below, journal-not_ended}
+use Rattle.journal_model.proofs.desks.OpenAdmissions.{admission_notes}
 use Rattle.journal_model.specs.Looks.{held_after}
 use Rattle.event_model.specs.KeptAnswers.{Answer}
 
@@ -74,7 +74,7 @@ ends_none kind rows moment s notes place other (aside all) = none_of is_aside (i
     never (note.Settled p reply) h = absurd (false≢true h)
     never (note.Failed p) h = absurd (false≢true h)
     never _ h = refl
-ends_none kind rows moment s notes place other (admits mid here is none) = ap (list_any (is_ending_of place)) is
+ends_none kind rows moment s notes place other (admits m here read is none) = ap (list_any (is_ending_of place)) is
 ends_none kind rows moment s notes place other (ends q here all) = none_of (ends_at q) (is_ending_of place) never notes all
   where
     never : (n : Note) → ends_at q n ≡ true → is_ending_of place n ≡ false

@@ -1,10 +1,12 @@
 -- An admission is open from its row on until a row ends it, and so each commit of a journal of a desk is of an open admission.
-use Rattle.std.proofs.Common.{◌≡◌, ℕ, ◌==◌, Bool, true, false, cond, List, [], ◌∷◌, length, Some, None, refl, sym, ap, subst, ◌∙◌, eqb-true}
+use Rattle.std.proofs.Common.{◌≡◌, ℕ, ◌==◌, Bool, true, false, cond, List, [], ◌∷◌, length, Some, None, Ok, refl, sym, ap, subst, ◌∙◌, eqb-true}
 use Rattle.std.specs.List.{list_any}
 use Rattle.std.proofs.lemmas.Bool.{false≢true}
 use Rattle.rd_base.specs.declared.peers.Peer.{Peer}
 use Rattle.rd_base.proofs.lemmas.Numbers.{eqb-refl}
 use Rattle.rd_base.proofs.lemmas.Each.{none_pass}
+use Rattle.message_model.specs.Message.{Message}
+use Rattle.message_model.specs.Reading.{reading}
 use Rattle.event_model.specs.declared.notes.Note.{Note}
 use Rattle.event_model.specs.declared.notes.Note.TheVariants as note
 use Rattle.event_model.specs.Events.{Event, has_event, noted}
@@ -22,8 +24,8 @@ use Rattle.journal_model.specs.Rows.{row}
 use Rattle.journal_model.specs.DeskJournal.{IsOpenFor, IsDeskJournal, begun, made}
 use Rattle.journal_model.proofs.RowEquations.{events-row, row-step}
 use Rattle.journal_model.proofs.NoteKinds.{none_of}
-use Rattle.headline_law.proofs.desks.TouchedExchanges.{Touches, aside, admits, ends, ends_at, row-Touches}
-use Rattle.headline_law.proofs.desks.AdmissionsInOrder.{journal-IsOrderly}
+use Rattle.journal_model.proofs.desks.TouchedExchanges.{Touches, aside, admits, ends, ends_at, row-Touches}
+use Rattle.journal_model.proofs.desks.AdmissionsInOrder.{journal-IsOrderly}
 
 -- the row that admits a write opens its admission
 pub admitted-IsOpen : (rows : List Row) (r : Row) (peer : Peer) (mid : ℕ) → IsOrderly (events (r ∷ rows)) → r.notes ≡ note.Admitted peer mid ∷ []
@@ -60,7 +62,7 @@ admission_notes kind rows moment s notes (aside all) some = absurd (false≢true
     never : (n : Note) → is_aside n ≡ true → is_admitting n ≡ false
     never (note.Admitted peer mid) h = absurd (false≢true h)
     never _ h = refl
-admission_notes kind rows moment s notes (admits mid here is none) some = (mid, is)
+admission_notes kind rows moment s notes (admits m here read is none) some = (m.mid, is)
 admission_notes kind rows moment s notes (ends place here all) some = absurd (false≢true (sym (none_of (ends_at place) is_admitting never notes all) ∙ some))
   where
     never : (n : Note) → ends_at place n ≡ true → is_admitting n ≡ false
@@ -118,3 +120,29 @@ open_at (r ∷ before) place admission (made {rows} s starved journal may) found
 -- so a commit that may be made is of an open admission, of its own peer
 pub commit-IsOpen : (rows : List Row) (s : Step) (place : ℕ) → IsDeskJournal rows → (it : IsOpenFor s place rows) → OpenAdmission place s.peer it.admission rows
 commit-IsOpen rows s place journal it = subst (λ (p : Peer). OpenAdmission place p it.admission rows) it.peer (open_at rows place it.admission journal it.found it.admits it.not_ended)
+
+-- ---- what a row admits is its own
+
+-- the row of a step that admits something notes this alone: the write of its peer, with the Message ID of the message in its datagram
+pub record OwnAdmission (r : Row) : Type 0 where
+  pub message : Message
+  pub read : reading r.step.datagram ≡ Ok message
+  pub noted : r.notes ≡ note.Admitted r.step.peer message.mid ∷ []
+
+-- so does each row of a step
+pub row-OwnAdmission : (rows : List Row) (s : Step) (starved : Bool) → list_any is_admitting (row rows s starved).notes ≡ true → OwnAdmission (row rows s starved)
+unfolding row
+row-OwnAdmission rows s starved some = by (row-Touches rows s starved)
+  where
+    never_aside : (n : Note) → is_aside n ≡ true → is_admitting n ≡ false
+    never_aside (note.Admitted peer mid) h = absurd (false≢true h)
+    never_aside _ h = refl
+
+    never_ends : (place : ℕ) (n : Note) → ends_at place n ≡ true → is_admitting n ≡ false
+    never_ends place (note.Admitted peer mid) h = absurd (false≢true h)
+    never_ends place _ h = refl
+
+    by : Touches s.kind rows (row rows s starved).moment.0 s (row rows s starved).notes → OwnAdmission (row rows s starved)
+    by (aside all) = absurd (false≢true (sym (none_of is_aside is_admitting never_aside (row rows s starved).notes all) ∙ some))
+    by (admits m here read is none) = record { message = m; read = read; noted = is }
+    by (ends place here all) = absurd (false≢true (sym (none_of (ends_at place) is_admitting (never_ends place) (row rows s starved).notes all) ∙ some))

@@ -1,4 +1,4 @@
--- Laws of the journals of the machine: each row is that of its step, the entries are a legal history, and moments do not fall.
+-- Laws of rows of steps, and so of the journals of the machine and of desks: each row is that of its step, the entries are a legal history, and moments do not fall.
 use Rattle.std.proofs.Common.{◌≡◌, ◌≤◌, Bool, List, [], ◌∷◌, ◌++◌, length, refl, sym, ap, subst, ◌∙◌, append-nil, append_assoc, arith}
 use Rattle.std.proofs.Math.Nat.{le-max_left, le-max_right}
 use Rattle.history_model.specs.Live.{IsFront, last_moment}
@@ -8,11 +8,13 @@ use Rattle.history_model.proofs.ReplayLaws.{last_moment-nil, last_moment_push}
 use Rattle.journal_model.specs.declared.steps.Step.{Step}
 use Rattle.journal_model.specs.declared.rows.Row.{Row}
 use Rattle.journal_model.specs.Journal.{entries, entries_of, latest}
-use Rattle.journal_model.specs.Rows.{row}
+use Rattle.journal_model.specs.Rows.{row, AreRows, empty, added}
+use Rattle.journal_model.specs.DeskJournal.{IsDeskJournal}
+use Rattle.journal_model.specs.DeskJournal as desk
 use Rattle.journal_model.specs.Machine.{MayMake, IsJournal, begun, made}
 use Rattle.journal_model.specs.Headline.{Within}
 use Rattle.journal_model.proofs.EntriesNoted.{entries_in, NotesNext, none, one}
-use Rattle.headline_law.proofs.entries.RowLaws.{row-NotesNext, row-single, row-moment_latest}
+use Rattle.journal_model.proofs.entries.RowLaws.{row-NotesNext, row-single, row-moment_latest}
 
 -- a row of a journal: it is that of a step that might be made after the rows before it, which are a journal too
 pub record Made (before : List Row) (r : Row) : Type 0 where
@@ -33,6 +35,41 @@ each_row rows before r journal within = newest before r (after within.later (sub
     after : (later : List Row) → IsJournal (later ++ r ∷ before) → IsJournal (r ∷ before)
     after [] j = j
     after (x ∷ later) j = after later (newest (later ++ r ∷ before) x j).journal
+
+-- ---- rows of steps
+
+-- a row among rows of steps: it is that of a step after the rows before it, which are such rows too
+pub record RowMade (before : List Row) (r : Row) : Type 0 where
+  pub step : Step
+  pub starved : Bool
+  pub is : r ≡ row before step starved
+  pub rows : AreRows before
+
+-- the newest
+pub newest_made : (before : List Row) (r : Row) → AreRows (r ∷ before) → RowMade before r
+newest_made before r (added {rows} s starved rest) = record { step = s; starved = starved; is = refl; rows = rest }
+
+-- rows up to one of them
+pub rows_up_to : (rows before : List Row) (r : Row) → AreRows rows → Within rows before r → AreRows (r ∷ before)
+rows_up_to rows before r all within = after within.later (subst AreRows within.whole all)
+  where
+    after : (later : List Row) → AreRows (later ++ r ∷ before) → AreRows (r ∷ before)
+    after [] j = j
+    after (x ∷ later) j = after later (newest_made (later ++ r ∷ before) x j).rows
+
+-- each of them
+pub each_made : (rows before : List Row) (r : Row) → AreRows rows → Within rows before r → RowMade before r
+each_made rows before r all within = newest_made before r (rows_up_to rows before r all within)
+
+-- so it is in journals of the machine
+pub journal-AreRows : (rows : List Row) → IsJournal rows → AreRows rows
+journal-AreRows [] begun = empty
+journal-AreRows (r ∷ before) (made {rows} {s} starved journal may) = added s starved (journal-AreRows before journal)
+
+-- and in those of desks
+pub desk-AreRows : (rows : List Row) → IsDeskJournal rows → AreRows rows
+desk-AreRows [] desk.begun = empty
+desk-AreRows (r ∷ before) (desk.made {rows} s starved journal may) = added s starved (desk-AreRows before journal)
 
 -- the entries with one row more
 entries-row : (before : List Row) (r : Row) → entries (r ∷ before) ≡ entries before ++ entries_in r.notes
@@ -78,23 +115,23 @@ history_step before r (one entry h at_moment good accepted) at earlier =
       in_time = subst (λ history. last_moment history ≤ latest (r ∷ before)) more (rw (last_moment_push (entries before) entry) (omega (arith, at_moment, latest-row before r)));
     }
 
--- the entries of each journal are a legal history
-pub journal-HasHistory : (rows : List Row) → IsJournal rows → HasHistory rows
+-- the entries of rows of steps are a legal history
+pub rows-HasHistory : (rows : List Row) → AreRows rows → HasHistory rows
 unfolding entries latest
-journal-HasHistory [] begun = record { legal = IsLegalFrom-nil 0; in_time = rw last_moment-nil (omega arith) }
-journal-HasHistory (r ∷ before) (made {rows} {s} starved journal may) =
-    history_step before (row before s starved) (row-NotesNext before s starved) (row-moment_latest before s starved) (journal-HasHistory before journal)
+rows-HasHistory [] empty = record { legal = IsLegalFrom-nil 0; in_time = rw last_moment-nil (omega arith) }
+rows-HasHistory (r ∷ before) (added {rows} s starved rest) =
+    history_step before (row before s starved) (row-NotesNext before s starved) (row-moment_latest before s starved) (rows-HasHistory before rest)
 
--- each row of a journal has at most one entry
-pub journal-single : (rows before : List Row) (r : Row) → IsJournal rows → Within rows before r → length (entries_of r) ≤ 1
-journal-single rows before r journal within =
-    let it : Made before r = each_row rows before r journal within in
+-- each row has at most one entry
+pub rows-single : (rows before : List Row) (r : Row) → AreRows rows → Within rows before r → length (entries_of r) ≤ 1
+rows-single rows before r all within =
+    let it : RowMade before r = each_made rows before r all within in
     subst (λ (x : Row). length (entries_of x) ≤ 1) (sym it.is) (row-single before it.step it.starved)
 
--- the moment of each row of a journal is not below those of the rows before it
-pub journal-moments : (rows before : List Row) (r : Row) → IsJournal rows → Within rows before r → latest before ≤ r.moment.0
-journal-moments rows before r journal within =
-    let it : Made before r = each_row rows before r journal within in
+-- the moment of each row is not below those of the rows before it
+pub rows-moments : (rows before : List Row) (r : Row) → AreRows rows → Within rows before r → latest before ≤ r.moment.0
+rows-moments rows before r all within =
+    let it : RowMade before r = each_made rows before r all within in
     subst (λ (x : Row). latest before ≤ x.moment.0) (sym it.is) (row-moment_latest before it.step it.starved)
 
 -- the entries up to a row are a front of those of the journal

@@ -8,7 +8,7 @@ use Rattle.journal_model.specs.Journal.{entries, entries_of, latest}
 use Rattle.journal_model.specs.Rows.{effects, row_moment, row}
 use Rattle.journal_model.specs.Headline.{Commits, IsCompletion}
 use Rattle.journal_model.proofs.EntriesNoted.{entries_in, NotesNext, NotesNext-single}
-use Rattle.headline_law.proofs.entries.EntryOrigins.{EntryOrigin, nowhere, commit, completion, effects-EntryOrigin, EntryOrigin-NotesNext}
+use Rattle.journal_model.proofs.entries.EntryOrigins.{EntryOrigin, nowhere, commit, completion, effects-EntryOrigin, EntryOrigin-NotesNext}
 
 -- the row of a step notes no entry, or one that comes next, at its moment
 pub row-NotesNext : (rows : List Row) (s : Step) (starved : Bool) → NotesNext (entries rows) (row rows s starved).moment.0 (row rows s starved).notes

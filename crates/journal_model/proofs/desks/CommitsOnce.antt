@@ -44,9 +44,9 @@ use Rattle.journal_model.specs.DeskJournal.{IsOpenFor, CommitsOpen, MayFollow, I
 use Rattle.journal_model.proofs.NoteKinds.{of_lookup, of_empty, of_response, are, none_of}
 use Rattle.journal_model.proofs.StepNotes.{look_effects-notes, lookup_effects-notes, acknowledged-notes, reset-notes}
 use Rattle.journal_model.proofs.RowEquations.{effects-Commit, events-row, row-step}
-use Rattle.headline_law.proofs.notes.SilentSteps.{refusal_notes, unread_notes}
-use Rattle.headline_law.proofs.notes.ChangeNotes.{response_effects-notes}
-use Rattle.headline_law.proofs.desks.TouchedExchanges.{Touches, aside, admits, ends, ends_at, row-Touches}
+use Rattle.journal_model.proofs.notes.SilentSteps.{refusal_notes, unread_notes}
+use Rattle.journal_model.proofs.notes.ChangeNotes.{response_effects-notes}
+use Rattle.journal_model.proofs.desks.TouchedExchanges.{Touches, aside, admits, ends, ends_at, row-Touches}
 
 -- ---- what is admitted is a write
 
@@ -133,7 +133,7 @@ row_writes rows s starved some = by (row-Touches rows s starved)
 
     by : Touches s.kind rows (row rows s starved).moment.0 s (row rows s starved).notes → is_write_reading (reading s.datagram) ≡ true
     by (aside all) = absurd (never is_aside none_aside (row rows s starved).notes all some)
-    by (admits mid here is none) = effects_write s.kind starved rows (row_moment rows s) s here some
+    by (admits m here read is none) = effects_write s.kind starved rows (row_moment rows s) s here some
     by (ends place here all) = absurd (never (ends_at place) (none_ends place) (row rows s starved).notes all some)
 
 -- the row of a place that admitted something was of a write

@@ -18,7 +18,7 @@ use Rattle.event_model.specs.Due.{Transition, are_same_lines, is_change_of, is_l
 use Rattle.event_model.proofs.NotedLaws.{Found, last_event-here, last_event-before, last_body_formed-before, is_watching, observers-noted}
 use Rattle.journal_model.specs.declared.rows.Row.{Row}
 use Rattle.journal_model.specs.Journal.{is_desk_row, transition_of, events, entries, entries_of, now, transitions}
-use Rattle.headline_law.proofs.entries.JournalLaws.{entries-none_noted}
+use Rattle.journal_model.proofs.entries.JournalLaws.{entries-none_noted}
 use Rattle.journal_model.proofs.EntriesNoted.{entries_in}
 
 -- what is known of an observer after events, rows, a history and a moment

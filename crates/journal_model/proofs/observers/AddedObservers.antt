@@ -17,8 +17,8 @@ use Rattle.event_model.proofs.ObserverLaws.{Apart, not_true}
 use Rattle.journal_model.specs.declared.rows.Row.{Row}
 use Rattle.journal_model.specs.Journal.{is_desk_row, events, entries}
 use Rattle.journal_model.proofs.EntriesNoted.{entries_in}
-use Rattle.headline_law.proofs.entries.JournalLaws.{entries-none_noted}
-use Rattle.headline_law.proofs.observers.ObserverKnowledge.{KnownIn, AllKnown, is_observing, not_looking, not_watching, known_row, looked_row}
+use Rattle.journal_model.proofs.entries.JournalLaws.{entries-none_noted}
+use Rattle.journal_model.proofs.observers.ObserverKnowledge.{KnownIn, AllKnown, is_observing, not_looking, not_watching, known_row, looked_row}
 
 -- notes around those that add an observer and form its first listing
 abbrev pub around : List Note → Observer → List ℕ → List Note → List Note

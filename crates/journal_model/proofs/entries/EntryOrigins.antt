@@ -15,11 +15,11 @@ use Rattle.journal_model.specs.Commits.{commit_effects}
 use Rattle.journal_model.specs.Rows.{effects}
 use Rattle.journal_model.proofs.NoteKinds.{empty-entries_in}
 use Rattle.journal_model.proofs.EntriesNoted.{entries_in, NotesNext, none}
-use Rattle.headline_law.proofs.notes.StepTable.{StepNoted, effects-StepNoted}
-use Rattle.headline_law.proofs.notes.StepTable as noted
-use Rattle.headline_law.proofs.entries.QuietSteps.{keep_effects-entries_in, lookup_effects-entries_in, write_effects-entries_in, tick_effects-entries_in}
-use Rattle.headline_law.proofs.entries.ChangeEntries.{commit_effects-ChangeEntry, ChangeEntry-NotesNext}
-use Rattle.headline_law.proofs.entries.ResponseEntries.{ends_fetch_of, no_fetch-entries_in, EntryHeard, silent, ends, response_effects-EntryHeard}
+use Rattle.journal_model.proofs.notes.StepTable.{StepNoted, effects-StepNoted}
+use Rattle.journal_model.proofs.notes.StepTable as noted
+use Rattle.journal_model.proofs.entries.QuietSteps.{keep_effects-entries_in, lookup_effects-entries_in, write_effects-entries_in, tick_effects-entries_in}
+use Rattle.journal_model.proofs.entries.ChangeEntries.{commit_effects-ChangeEntry, ChangeEntry-NotesNext}
+use Rattle.journal_model.proofs.entries.ResponseEntries.{ends_fetch_of, no_fetch-entries_in, EntryHeard, silent, ends, response_effects-EntryHeard}
 
 -- where the entry of a step comes from, and that it comes next
 pub data EntryOrigin (kind : StepKind) (rows : List Row) (moment : ℕ) (s : Step) (notes : List Note) : Type 0 where
@@ -40,8 +40,8 @@ effects-EntryOrigin kind starved rows moment s = by (effects kind starved rows m
 
     by : (ns : List Note) → StepNoted kind starved rows moment s ns → EntryOrigin kind rows moment s ns
     by ns (noted.nothing blank) = nowhere (ap entries_in blank)
-    by ns (noted.write m here is) = nowhere (ap entries_in is ∙ write_effects-entries_in (events rows) moment s m)
-    by ns (noted.lookup m here is) = nowhere (ap entries_in is ∙ lookup_effects-entries_in rows moment s m)
+    by ns (noted.write m here read is) = nowhere (ap entries_in is ∙ write_effects-entries_in (events rows) moment s m)
+    by ns (noted.lookup m here read at is) = nowhere (ap entries_in is ∙ lookup_effects-entries_in rows moment s m)
     by ns (noted.empty here all) = nowhere (empty-entries_in ns all)
     by ns (noted.response m here read responds is) = heard_entry m ns here read responds is (fetch_of s m (events rows)) refl (subst (EntryHeard s.peer (entries rows) moment) (sym is) (response_effects-EntryHeard rows moment s m))
     by ns (noted.commit m place commits read is) = commit place commits (subst (NotesNext (entries rows) moment) (sym is) (ChangeEntry-NotesNext (entries rows) moment (commit_effects rows moment place s m).notes _ (commit_effects-ChangeEntry rows moment place s m)))

@@ -26,8 +26,8 @@ use Rattle.journal_model.specs.Ticks.{first_block, is_unchanged, listing_for, is
 use Rattle.journal_model.proofs.EntriesNoted.{entries_in}
 use Rattle.journal_model.proofs.NoteKinds.{of_again, of_resent, of_tick, none_of, tick-entries_in}
 use Rattle.journal_model.proofs.StepNotes.{tick_effects-notes, notices_again-notes, requests_again-notes}
-use Rattle.headline_law.proofs.observers.ObserverKnowledge.{KnownIn, AllKnown, is_observing, not_looking, not_watching, known_row, looked_row}
-use Rattle.headline_law.proofs.entries.JournalLaws.{entries-none_noted}
+use Rattle.journal_model.proofs.observers.ObserverKnowledge.{KnownIn, AllKnown, is_observing, not_looking, not_watching, known_row, looked_row}
+use Rattle.journal_model.proofs.entries.JournalLaws.{entries-none_noted}
 
 -- what notes of a tick do for an observer: nothing, or they look at its listing, and then the last body formed for it is the listing now
 abbrev pub QuietOrLooked : List Row → ℕ → ℕ → Observer → List Note → Type 0

@@ -1,0 +1,3 @@
+pub mod SilentSteps
+pub mod ChangeNotes
+pub mod StepTable
