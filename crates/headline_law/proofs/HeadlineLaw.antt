@@ -1,6 +1,10 @@
 -- The headline: of each journal of the machine, and so of each trace, its registrations, its answers, its tags and its observers are as promised.
 use Rattle.std.proofs.Common.{ℕ, List}
-use Rattle.journal_model.specs.Headline.{HoldsEachOnce, AnswersAsFormed, TagsDecideStates, ObserversKnow, Headline}
+use Rattle.journal_model.specs.HoldsEachOnce.{HoldsEachOnce}
+use Rattle.journal_model.specs.AnswersAsFormed.{AnswersAsFormed}
+use Rattle.journal_model.specs.TagsDecideStates.{TagsDecideStates}
+use Rattle.journal_model.specs.ObserversKnow.{ObserversKnow}
+use Rattle.journal_model.specs.Headline.{Headline}
 use Rattle.headline_law.proofs.entries.HoldsEachOnce.{journal-HoldsEachOnce}
 use Rattle.headline_law.proofs.rows.AnswersAsFormed.{answers_as_formed}
 use Rattle.headline_law.proofs.rows.TaggedAnswers.{journal-TagsDecideStates}

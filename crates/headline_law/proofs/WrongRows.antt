@@ -27,7 +27,11 @@ use Rattle.journal_model.specs.declared.steps.StepKind.TheVariants as step
 use Rattle.journal_model.specs.declared.rows.Row.{Row}
 use Rattle.journal_model.specs.Journal.{entries}
 use Rattle.journal_model.specs.Requests.{query_of, asked_block}
-use Rattle.journal_model.specs.Headline.{Placed, Asked, IsBlockOf, asked_at, Sent, Headline, EndedWithoutMemory, IsEntryOf, AdmittedAt, FormedAs, Validates, AreBlocksOfOne}
+use Rattle.journal_model.specs.PlacedRows.{Placed}
+use Rattle.journal_model.specs.HoldsEachOnce.{EndedWithoutMemory, IsEntryOf, AdmittedAt}
+use Rattle.journal_model.specs.AnswersAsFormed.{Asked, IsBlockOf, asked_at, Sent, FormedAs, Validates}
+use Rattle.journal_model.specs.TagsDecideStates.{AreBlocksOfOne}
+use Rattle.journal_model.specs.Headline.{Headline}
 use Rattle.headline_law.proofs.entries.FailedLaws.{within_cases, nothing_within}
 
 -- ---- what the rows have

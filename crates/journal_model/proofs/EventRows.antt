@@ -8,7 +8,7 @@ use Rattle.event_model.specs.Events.{Event, noted, last_event, or_else, last_sai
 use Rattle.event_model.proofs.NotedLaws.{event_at, last_event-before}
 use Rattle.journal_model.specs.declared.rows.Row.{Row}
 use Rattle.journal_model.specs.Journal.{events, row_at}
-use Rattle.journal_model.specs.Headline.{Within, Placed, last_row}
+use Rattle.journal_model.specs.PlacedRows.{Within, Placed, last_row}
 use Rattle.rd_base.proofs.lemmas.Numbers.{eqb-refl}
 use Rattle.rd_base.proofs.lemmas.Among.{Among}
 

@@ -4,6 +4,7 @@
 pub mod OnLiterals
 pub mod EntriesNoted
 pub mod NoteKinds
+pub mod MessageSizeLaws
 pub mod StepNotes
 pub mod RowEquations
 pub mod UnfinishedRowLaws

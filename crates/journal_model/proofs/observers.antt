@@ -2,3 +2,4 @@ pub mod ObserverKnowledge
 pub mod AddedObservers
 pub mod TickKnowledge
 pub mod ObserversKnow
+pub mod DueRows

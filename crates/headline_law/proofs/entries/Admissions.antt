@@ -17,7 +17,7 @@ use Rattle.journal_model.specs.Journal.{events}
 use Rattle.journal_model.specs.Effects.{answering}
 use Rattle.journal_model.specs.Writes.{again_answered, admitted_unless, write_unless, write_effects}
 use Rattle.journal_model.specs.Rows.{effects, row_moment, row}
-use Rattle.journal_model.specs.Headline.{admits}
+use Rattle.journal_model.specs.PlacedRows.{admits}
 use Rattle.journal_model.proofs.NoteKinds.{of_lookup, of_empty, of_tick, of_commit, of_response, are, none_of}
 use Rattle.journal_model.proofs.StepNotes.{keep_effects-notes, lookup_effects-notes, tick_effects-notes}
 use Rattle.journal_model.proofs.notes.StepTable.{StepNoted, effects-StepNoted}

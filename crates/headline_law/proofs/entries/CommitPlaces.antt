@@ -17,7 +17,8 @@ use Rattle.journal_model.specs.declared.rows.Row.{Row}
 use Rattle.journal_model.specs.Rows.{row, AreRows}
 use Rattle.journal_model.specs.DeskJournal.{IsOpenFor, CommitsOpen, IsDeskJournal}
 use Rattle.journal_model.specs.Machine.{is_look_datagram, Job, write_job, keep_job, job_after, job_of, MayBegin, hears, goes, ticks, IsJournal}
-use Rattle.journal_model.specs.Headline.{Within, Commits, admits, AdmittedAt}
+use Rattle.journal_model.specs.PlacedRows.{Within, Commits, admits}
+use Rattle.journal_model.specs.HoldsEachOnce.{AdmittedAt}
 use Rattle.journal_model.proofs.entries.JournalLaws.{Made, each_row, RowMade, each_made, journal-AreRows, desk-AreRows}
 use Rattle.journal_model.proofs.desks.OpenAdmissions.{OwnAdmission, row-OwnAdmission}
 use Rattle.journal_model.proofs.desks.CommitsOnce as desks

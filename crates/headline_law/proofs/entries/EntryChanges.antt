@@ -34,7 +34,8 @@ use Rattle.journal_model.specs.Registrations.{collected_before, is_one_too_many,
 use Rattle.journal_model.specs.Commits.{settling, simple_unless, on_location, write_done, commit_effects, updating, removing}
 use Rattle.journal_model.specs.Responses.{fetch_of, strange, acknowledgement, more_follow, block_in, is_elsewhere, ends_fetch, completed, gathering, response_taken, response_to, response_to_request, response_effects}
 use Rattle.journal_model.specs.Rows.{row_moment, row, AreRows}
-use Rattle.journal_model.specs.Headline.{Within, AsksChange, IsEntryOf}
+use Rattle.journal_model.specs.PlacedRows.{Within}
+use Rattle.journal_model.specs.HoldsEachOnce.{AsksChange, IsEntryOf}
 use Rattle.journal_model.proofs.NoteKinds.{empty-entries_in}
 use Rattle.journal_model.proofs.EntriesNoted.{entries_in}
 use Rattle.journal_model.proofs.notes.StepTable.{StepNoted, effects-StepNoted}

@@ -10,7 +10,8 @@ use Rattle.event_model.proofs.NotedLaws.{has_event-noted, last_event-before, Fou
 use Rattle.journal_model.specs.declared.rows.Row.{Row}
 use Rattle.journal_model.specs.Journal.{events, latest}
 use Rattle.journal_model.specs.Rows.{AreRows}
-use Rattle.journal_model.specs.Headline.{Within, admits, EndedWithoutMemory}
+use Rattle.journal_model.specs.PlacedRows.{Within, admits}
+use Rattle.journal_model.specs.HoldsEachOnce.{EndedWithoutMemory}
 use Rattle.journal_model.proofs.entries.RowLaws.{row-moment_latest}
 use Rattle.journal_model.proofs.entries.JournalLaws.{RowMade, newest_made, each_made, latest-row, latest-before}
 use Rattle.headline_law.proofs.entries.Admissions.{row_admits}

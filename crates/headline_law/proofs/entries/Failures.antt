@@ -20,7 +20,8 @@ use Rattle.journal_model.specs.Journal.{events}
 use Rattle.journal_model.specs.Effects.{answering}
 use Rattle.journal_model.specs.Commits.{commit_effects}
 use Rattle.journal_model.specs.Rows.{done, effects, row_moment, row, AreRows}
-use Rattle.journal_model.specs.Headline.{Within, Placed, Commits, code_sent, EndedWithoutMemory}
+use Rattle.journal_model.specs.PlacedRows.{Within, Placed, Commits, code_sent}
+use Rattle.journal_model.specs.HoldsEachOnce.{EndedWithoutMemory}
 use Rattle.journal_model.proofs.NoteKinds.{of_lookup, of_write, of_empty, of_tick, of_response, are, none_of}
 use Rattle.journal_model.proofs.StepNotes.{keep_effects-notes, lookup_effects-notes, write_effects-notes, tick_effects-notes}
 use Rattle.journal_model.proofs.notes.StepTable.{StepNoted, effects-StepNoted}

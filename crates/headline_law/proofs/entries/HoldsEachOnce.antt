@@ -8,7 +8,8 @@ use Rattle.journal_model.specs.Journal.{entries, entries_of}
 use Rattle.journal_model.specs.Rows.{effects, row_moment, row, AreRows}
 use Rattle.journal_model.specs.Machine.{IsJournal}
 use Rattle.journal_model.specs.DeskJournal.{IsDeskJournal}
-use Rattle.journal_model.specs.Headline.{Within, Commits, IsCompletion, is_code_of_change, code_sent, names_location, answers_change, AdmittedAt, HoldsEachOnce}
+use Rattle.journal_model.specs.PlacedRows.{Within, Commits, code_sent}
+use Rattle.journal_model.specs.HoldsEachOnce.{IsCompletion, is_code_of_change, names_location, answers_change, AdmittedAt, HoldsEachOnce}
 use Rattle.journal_model.proofs.entries.JournalLaws.{RowMade, each_made, journal-AreRows, desk-AreRows, rows-HasHistory, rows-single}
 use Rattle.journal_model.proofs.entries.ChangeEntries.{ChangeEntry, ChangeEntry-one, ChangeEntry-none, commit-ChangeEntry}
 use Rattle.headline_law.proofs.entries.EntryChanges.{rows-entry}

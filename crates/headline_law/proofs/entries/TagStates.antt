@@ -8,7 +8,7 @@ use Rattle.history_model.proofs.TagLaws.{tag_from_tells, listing-live}
 use Rattle.journal_model.specs.declared.rows.Row.{Row}
 use Rattle.journal_model.specs.Journal.{entries, latest}
 use Rattle.journal_model.specs.Rows.{AreRows}
-use Rattle.journal_model.specs.Headline.{Within}
+use Rattle.journal_model.specs.PlacedRows.{Within}
 use Rattle.journal_model.proofs.entries.JournalLaws.{HasHistory, rows_up_to, rows-HasHistory, rows-moments, entries-IsFront}
 
 -- the entries up to a row end no later than it

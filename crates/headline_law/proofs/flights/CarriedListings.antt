@@ -18,7 +18,9 @@ use Rattle.journal_model.specs.declared.steps.StepKind.TheVariants as step
 use Rattle.journal_model.specs.declared.rows.Row.{Row}
 use Rattle.journal_model.specs.Journal.{events, entries}
 use Rattle.journal_model.specs.Ticks.{notices_again}
-use Rattle.journal_model.specs.Headline.{Placed, is_content, is_tagged, answers_lookup, former_noted, former_of_notice, former_at, asked_by_observer, observer_named, asked_at, FormedAs}
+use Rattle.journal_model.specs.PlacedRows.{Placed}
+use Rattle.journal_model.specs.BodyFormers.{former_noted, former_of_notice, former_at}
+use Rattle.journal_model.specs.AnswersAsFormed.{is_content, is_tagged, answers_lookup, asked_by_observer, observer_named, asked_at, FormedAs}
 use Rattle.journal_model.proofs.entries.JournalLaws.{entries-IsPrefix-row}
 use Rattle.headline_law.proofs.sends.BodyAnswers.{wanted_by_observer, Bears, bears_carries}
 use Rattle.rd_base.proofs.lemmas.Among.{Among, all_among, among_all, find_only}

@@ -19,7 +19,8 @@ use Rattle.event_model.proofs.NotedLaws.{event_at, noted-append}
 use Rattle.journal_model.specs.declared.rows.Row.{Row}
 use Rattle.journal_model.specs.Journal.{events}
 use Rattle.journal_model.specs.Effects.{Effects}
-use Rattle.journal_model.specs.Headline.{is_content, forms_notice}
+use Rattle.journal_model.specs.BodyFormers.{forms_notice}
+use Rattle.journal_model.specs.AnswersAsFormed.{is_content}
 use Rattle.rd_base.proofs.lemmas.Among.{Among}
 use Rattle.journal_model.proofs.FlightKeys.{flight_key, is_landing, key_same_all, key_formed}
 use Rattle.headline_law.proofs.flights.WaitedPeers.{changes_observers, observers_same, Waits, flies_key}

@@ -16,7 +16,8 @@ use Rattle.event_model.specs.Flights.{is_forming_for}
 use Rattle.event_model.proofs.NotedLaws.{noted-append}
 use Rattle.journal_model.specs.declared.rows.Row.{Row}
 use Rattle.journal_model.specs.Journal.{events, entries, row_at}
-use Rattle.journal_model.specs.Headline.{last_row, forms_notice}
+use Rattle.journal_model.specs.PlacedRows.{last_row}
+use Rattle.journal_model.specs.BodyFormers.{forms_notice}
 use Rattle.headline_law.proofs.sends.BodyAnswers.{wanted_by_observer, IsBodyOf, none_of_any, other_code}
 use Rattle.rd_base.proofs.lemmas.Among.{Among, all_among, among_all}
 use Rattle.journal_model.proofs.FlightKeys.{flight_key, is_landing, key_same_all}

@@ -27,7 +27,7 @@ use Rattle.headline_law.proofs.flights.WaitedPeers.{changes_observers, Waits, wa
 use Rattle.headline_law.proofs.flights.NoticesAgain.{again_peer, AgainSent, AgainNoted, again_notes, again_sends, again_none, events_after_again, again_key, again_waits}
 use Rattle.headline_law.proofs.flights.TickNotices.{is_notice_to, as_before, TickSoFar, so_far_quiet, FreshSent}
 use Rattle.message_model.specs.Reading.{reading}
-use Rattle.journal_model.specs.Headline.{is_content}
+use Rattle.journal_model.specs.AnswersAsFormed.{is_content}
 use Rattle.headline_law.proofs.flights.FreshNotices.{NewNotice, so_far_noticed}
 use Rattle.rd_base.proofs.lemmas.Each.{each_weaker}
 

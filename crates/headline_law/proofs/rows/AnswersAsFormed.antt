@@ -17,7 +17,8 @@ use Rattle.journal_model.specs.Effects.{Effects}
 use Rattle.journal_model.specs.Ticks.{ticking, notices_again, notices, requests_again, tick_effects}
 use Rattle.journal_model.specs.Rows.{effects, row_moment, row}
 use Rattle.journal_model.specs.Machine.{MayMake, MayBegin, IsJournal, begun, made}
-use Rattle.journal_model.specs.Headline.{former_of_body, FormedAs, is_content, Sent, is_listing, AnswersAsFormed}
+use Rattle.journal_model.specs.BodyFormers.{former_of_body}
+use Rattle.journal_model.specs.AnswersAsFormed.{FormedAs, is_content, Sent, is_listing, AnswersAsFormed}
 use Rattle.journal_model.proofs.NoteKinds.{of_tick, none_of}
 use Rattle.journal_model.proofs.StepNotes.{requests_again-notes, tick_effects-notes}
 use Rattle.journal_model.proofs.EntriesNoted.{entries_in}

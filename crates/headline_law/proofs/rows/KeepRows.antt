@@ -25,7 +25,9 @@ use Rattle.journal_model.specs.Sought.{sought_at}
 use Rattle.journal_model.specs.Looks.{names_tag, unless_long, unless_valid, look_for, look, body_held, held_after, keep_effects}
 use Rattle.journal_model.specs.Rows.{effects, row_moment, row}
 use Rattle.journal_model.specs.Machine.{Job, job_of, MayBegin, hears, goes, ticks, is_look_datagram, is_look_reading, IsJournal}
-use Rattle.journal_model.specs.Headline.{Placed, look_of, former_of_body, former_at, asked_at, Carries}
+use Rattle.journal_model.specs.PlacedRows.{Placed}
+use Rattle.journal_model.specs.BodyFormers.{look_of, former_of_body, former_at}
+use Rattle.journal_model.specs.AnswersAsFormed.{asked_at, Carries}
 use Rattle.journal_model.proofs.EntriesNoted.{entries_in}
 use Rattle.journal_model.proofs.StepNotes.{keep_effects-notes}
 use Rattle.journal_model.proofs.notes.SilentSteps.{looked_notes}

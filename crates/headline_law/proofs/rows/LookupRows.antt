@@ -19,7 +19,9 @@ use Rattle.journal_model.specs.declared.rows.Row.{Row}
 use Rattle.journal_model.specs.Journal.{is_heard, events, entries}
 use Rattle.journal_model.specs.Requests.{query_of, is_lookup}
 use Rattle.journal_model.specs.Lookups.{lookup_effects}
-use Rattle.journal_model.specs.Headline.{Placed, former_of_body, former_of_kept, former_noted, Carries}
+use Rattle.journal_model.specs.PlacedRows.{Placed}
+use Rattle.journal_model.specs.BodyFormers.{former_of_body, former_of_kept, former_noted}
+use Rattle.journal_model.specs.AnswersAsFormed.{Carries}
 use Rattle.journal_model.proofs.EntriesNoted.{entries_in}
 use Rattle.journal_model.proofs.entries.QuietSteps.{lookup_effects-entries_in}
 use Rattle.message_model.proofs.ReadingLaws.{header_read}

@@ -20,7 +20,9 @@ use Rattle.journal_model.specs.declared.rows.Row.{Row}
 use Rattle.journal_model.specs.Journal.{is_heard, entries}
 use Rattle.journal_model.specs.Requests.{query_of, is_lookup, is_discovery}
 use Rattle.journal_model.specs.Looks.{look_effects}
-use Rattle.journal_model.specs.Headline.{Placed, former_of_body, former_noted, former_at, asked_in, asked_at, names_lookup, answers_lookup}
+use Rattle.journal_model.specs.PlacedRows.{Placed}
+use Rattle.journal_model.specs.BodyFormers.{former_of_body, former_noted, former_at}
+use Rattle.journal_model.specs.AnswersAsFormed.{asked_in, asked_at, names_lookup, answers_lookup}
 use Rattle.journal_model.proofs.EntriesNoted.{entries_in}
 use Rattle.journal_model.proofs.StepNotes.{look_effects-notes}
 use Rattle.message_model.proofs.ReadingLaws.{header_read}

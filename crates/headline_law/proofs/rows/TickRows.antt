@@ -17,7 +17,7 @@ use Rattle.journal_model.specs.declared.steps.StepKind.TheVariants as step
 use Rattle.journal_model.specs.declared.rows.Row.{Row}
 use Rattle.journal_model.specs.Journal.{events, entries, row_at}
 use Rattle.journal_model.specs.Effects.{Effects}
-use Rattle.journal_model.specs.Headline.{former_noted}
+use Rattle.journal_model.specs.BodyFormers.{former_noted}
 use Rattle.journal_model.proofs.NoteKinds.{of_resent, are, none_of}
 use Rattle.headline_law.proofs.sends.BodyAnswers.{wanted_by_observer, IsBodyOf, other_code}
 use Rattle.headline_law.proofs.sends.PlainSteps.{IsPlain, ArePlain}

@@ -28,7 +28,7 @@ use Rattle.journal_model.specs.Effects.{answering}
 use Rattle.journal_model.specs.Looks.{names_tag, still_valid, unless_long, unless_valid, look_for, look, look_sent, looked, look_effects}
 use Rattle.journal_model.specs.Rows.{effects, row_moment, row}
 use Rattle.journal_model.specs.Machine.{MayMake, IsJournal}
-use Rattle.journal_model.specs.Headline.{looks_with_tag, asked_at, Sent, Validates}
+use Rattle.journal_model.specs.AnswersAsFormed.{looks_with_tag, asked_at, Sent, Validates}
 use Rattle.journal_model.proofs.EventRows.{row_within}
 use Rattle.rd_base.proofs.lemmas.Among.{all_at_index}
 use Rattle.rd_base.proofs.lemmas.Each.{each_weaker}

@@ -32,7 +32,8 @@ use Rattle.history_model.specs.Listing.{listing, tag, tag_from}
 use Rattle.journal_model.specs.Effects.{Reply}
 use Rattle.journal_model.specs.Requests.{asked_block, number_of, szx_of}
 use Rattle.journal_model.specs.Bodies.{tag_option, observe_option, block2_option, answered_block, part_reply, body_reply}
-use Rattle.journal_model.specs.Headline.{is_content, is_tagged, Asked, longest_payload, IsBlockOf, IsAsked, CarriesBlock, Carries, code_at}
+use Rattle.journal_model.specs.PlacedRows.{code_at}
+use Rattle.journal_model.specs.AnswersAsFormed.{is_content, is_tagged, Asked, longest_payload, IsBlockOf, IsAsked, CarriesBlock, Carries}
 
 -- a message with the code, options and payload of a reply
 abbrev pub with_reply : Kind4 → ℕ → List ℕ → Reply → Message

@@ -37,7 +37,7 @@ use Rattle.journal_model.specs.Changes.{Outcome, refused_as, entered_unless, cha
 use Rattle.journal_model.specs.Registrations.{collected_before, is_one_too_many, block_taken, block_unless, block_after, block_uploaded, registration_outcome, registering}
 use Rattle.journal_model.specs.Writes.{again_answered, admitted_unless, write_unless, write_effects}
 use Rattle.journal_model.specs.Rows.{refusal_answered, unread_answered}
-use Rattle.journal_model.specs.Headline.{code_at}
+use Rattle.journal_model.specs.PlacedRows.{code_at}
 use Rattle.journal_model.proofs.NoteKinds.{are}
 
 -- a code is neither 2.05 nor 2.03

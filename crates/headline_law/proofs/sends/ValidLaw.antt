@@ -25,7 +25,8 @@ use Rattle.journal_model.specs.Requests.{is_look_request}
 use Rattle.journal_model.specs.Looks.{looked}
 use Rattle.journal_model.specs.Rows.{effects, row_moment, row}
 use Rattle.journal_model.specs.Machine.{is_look_message, is_look_reading, is_look_datagram, MayMake, IsJournal, begun, made}
-use Rattle.journal_model.specs.Headline.{Within, code_sent, looks_with_tag}
+use Rattle.journal_model.specs.PlacedRows.{Within, code_sent}
+use Rattle.journal_model.specs.AnswersAsFormed.{looks_with_tag}
 use Rattle.journal_model.proofs.entries.JournalLaws.{Made, each_row}
 use Rattle.journal_model.proofs.Jobs.{heard_as_hearing, heard_no_look, heard_a_look}
 use Rattle.headline_law.proofs.sends.PlainSteps.{IsPlain, ArePlain, SettledPlain}

@@ -28,7 +28,7 @@ use Rattle.journal_model.specs.Requests.{query_of, asked_block, number_of, szx_o
 use Rattle.journal_model.specs.Sought.{sought_at}
 use Rattle.journal_model.specs.Looks.{Look, answered, held, names_tag, unless_long, unless_valid, look_for, look, look_sent, look_effects, keep_effects}
 use Rattle.journal_model.specs.Lookups.{listing_now, block_now, block_of_kept, later_block, without, observed_if, observed, unobserved, observation_effects, first_block_effects, block_effects, lookup_effects}
-use Rattle.journal_model.specs.Headline.{code_at, code_sent}
+use Rattle.journal_model.specs.PlacedRows.{code_at, code_sent}
 
 -- octets with another code than 2.03
 abbrev pub NotValid : List ℕ → Type 0

@@ -39,7 +39,7 @@ use Rattle.journal_model.specs.Responses.{response_effects}
 use Rattle.journal_model.specs.Registrations.{registering}
 use Rattle.journal_model.specs.Commits.{settling, simple_unless, on_location, write_done, commit_effects, updating, removing}
 use Rattle.journal_model.specs.Rows.{served, refusal_answered, unread_answered, request_answered, message_effects, heard, done, effects, row_moment, row}
-use Rattle.journal_model.specs.Headline.{Within, Commits}
+use Rattle.journal_model.specs.PlacedRows.{Within, Commits}
 use Rattle.journal_model.specs.DeskJournal.{IsOpenFor, CommitsOpen, MayFollow, IsDeskJournal, begun, made}
 use Rattle.journal_model.proofs.NoteKinds.{of_lookup, of_empty, of_response, are, none_of}
 use Rattle.journal_model.proofs.StepNotes.{look_effects-notes, lookup_effects-notes, acknowledged-notes, reset-notes}

@@ -30,7 +30,8 @@ use Rattle.journal_model.specs.Requests.{Method, get, post, put, delete, other_m
 use Rattle.journal_model.specs.Changes.{Outcome, refused_as, entered_unless, change_made, BodyRead, bad_body, good_body, limited_links, links_or_bad, body_read, registered_links, registration, created_at, number_after, entry_of_step}
 use Rattle.journal_model.specs.Registrations.{collected_before, is_one_too_many, block_taken, block_unless, block_after, block_uploaded, registration_outcome, registering}
 use Rattle.journal_model.specs.Commits.{settling, updating, removing, simple_unless, on_location, write_done, commit_effects}
-use Rattle.journal_model.specs.Headline.{code_sent, names_location, is_code_of_change}
+use Rattle.journal_model.specs.PlacedRows.{code_sent}
+use Rattle.journal_model.specs.HoldsEachOnce.{names_location, is_code_of_change}
 use Rattle.journal_model.proofs.EntriesNoted.{entries_in, NotesNext, none, one, entries_in-append}
 use Rattle.message_model.specs.declared.messages.Unread.{Unread}
 use Rattle.message_model.specs.Reading.{reading}

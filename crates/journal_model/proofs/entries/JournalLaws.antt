@@ -12,7 +12,7 @@ use Rattle.journal_model.specs.Rows.{row, AreRows, empty, added}
 use Rattle.journal_model.specs.DeskJournal.{IsDeskJournal}
 use Rattle.journal_model.specs.DeskJournal as desk
 use Rattle.journal_model.specs.Machine.{MayMake, IsJournal, begun, made}
-use Rattle.journal_model.specs.Headline.{Within}
+use Rattle.journal_model.specs.PlacedRows.{Within}
 use Rattle.journal_model.proofs.EntriesNoted.{entries_in, NotesNext, none, one}
 use Rattle.journal_model.proofs.entries.RowLaws.{row-NotesNext, row-single, row-moment_latest}
 

@@ -18,7 +18,7 @@ use Rattle.journal_model.specs.declared.rows.Row.{Row}
 use Rattle.journal_model.specs.Journal.{events, entries}
 use Rattle.journal_model.specs.Changes.{registration}
 use Rattle.journal_model.specs.Responses.{fetch_of, strange, acknowledgement, more_follow, block_in, is_elsewhere, ends_fetch, completed, gathering, response_taken, response_to, response_to_request, response_effects}
-use Rattle.journal_model.specs.Headline.{is_end_of_fetch}
+use Rattle.journal_model.specs.HoldsEachOnce.{is_end_of_fetch}
 use Rattle.journal_model.proofs.EntriesNoted.{entries_in, none-append, NotesNext, NotesNext-after, NotesNext-before}
 use Rattle.journal_model.proofs.entries.ChangeEntries.{registration-OutcomeEntry, ChangeEntry-NotesNext}
 

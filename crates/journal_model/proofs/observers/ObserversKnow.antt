@@ -30,7 +30,7 @@ use Rattle.journal_model.specs.Rows.{effects, row_moment, row, AreRows, empty, a
 use Rattle.journal_model.specs.Machine.{IsJournal}
 use Rattle.journal_model.specs.DeskJournal.{IsDeskJournal}
 use Rattle.journal_model.proofs.entries.JournalLaws.{journal-AreRows, desk-AreRows}
-use Rattle.journal_model.specs.Headline.{ObserversKnow}
+use Rattle.journal_model.specs.ObserversKnow.{ObserversKnow}
 use Rattle.journal_model.proofs.EntriesNoted.{entries_in}
 use Rattle.journal_model.proofs.NoteKinds.{of_write, of_empty, of_commit, of_response, are, none_of}
 use Rattle.journal_model.proofs.StepNotes.{look_effects-notes, keep_effects-notes, write_effects-notes}
