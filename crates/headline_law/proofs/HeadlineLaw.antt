@@ -4,6 +4,8 @@ use Rattle.journal_model.specs.HoldsEachOnce.{HoldsEachOnce}
 use Rattle.journal_model.specs.AnswersAsFormed.{AnswersAsFormed}
 use Rattle.journal_model.specs.TagsDecideStates.{TagsDecideStates}
 use Rattle.journal_model.specs.ObserversKnow.{ObserversKnow}
+use Rattle.journal_model.specs.SentDatagrams.{SendsToWhoAsked}
+use Rattle.headline_law.proofs.datagrams.DatagramLaws.{journal-SendsToWhoAsked}
 use Rattle.journal_model.specs.Headline.{Headline}
 use Rattle.headline_law.proofs.entries.HoldsEachOnce.{journal-HoldsEachOnce}
 use Rattle.headline_law.proofs.rows.AnswersAsFormed.{answers_as_formed}
@@ -21,6 +23,7 @@ journal-Headline rows journal = record {
   answers = answers_as_formed rows journal;
   tags = journal-TagsDecideStates rows journal;
   observers = journal-ObserversKnow rows journal;
+  sends = journal-SendsToWhoAsked rows journal;
 }
 
 -- ---- traces
@@ -44,6 +47,11 @@ trace-TagsDecideStates workers bytes = journal-TagsDecideStates (journal workers
 -- An end theorem: nothing here cites it.
 pub trace-ObserversKnow : (workers : ℕ) (bytes : List ℕ) → ObserversKnow (journal workers bytes)
 trace-ObserversKnow workers bytes = journal-ObserversKnow (journal workers bytes) (journal-IsJournal workers bytes)
+
+-- each datagram can be read, fits, and goes to who asked or observes
+-- An end theorem: nothing here cites it.
+pub trace-SendsToWhoAsked : (workers : ℕ) (bytes : List ℕ) → SendsToWhoAsked (journal workers bytes)
+trace-SendsToWhoAsked workers bytes = journal-SendsToWhoAsked (journal workers bytes) (journal-IsJournal workers bytes)
 
 -- of each trace, whole
 -- An end theorem: nothing here cites it.

@@ -1,20 +1,22 @@
--- The four sentences of the headline, of every journal of the machine and so of every trace, and the files that serve each.
+-- The five sentences of the headline, of every journal of the machine and so of every trace, and the files that serve each. What a desk cites stands below, in
+-- `journal_model`: what steps note (notes), entries and rows of steps (entries), what observers know and who is due (observers), and the premises of tables (desks).
 --
--- HeadlineLaw: all four, of journals and of traces. Its laws of traces nothing here cites.
+-- HeadlineLaw: all five, of journals and of traces. Its laws of traces nothing here cites.
 --
--- HoldsEachOnce: each accepted request stands once in one legal history.
---   entries: EntryOrigins says which steps note an entry, where it comes from, and that it comes next, by ChangeEntries (commits: an entry stands beside
+-- HoldsEachOnce: each accepted request stands once in one legal history; of journals of the machine, and of those of desks.
+--   Below: EntryOrigins says which steps note an entry, where it comes from, and that it comes next, by ChangeEntries (commits: an entry stands beside
 --   an answer that reports a change), ResponseEntries (responses that complete a fetch) and QuietSteps (all others); RowLaws and JournalLaws lift it to
---   rows and journals; CommitLaws has that an admission is committed once, CommitPlaces that a commit is of a row that admitted, EntryChanges that an entry
+--   rows of steps and journals; CommitsOnce has that an admission of a desk is committed once.
+--   entries: CommitLaws has that of the machine, CommitPlaces that a commit is of a row that admitted its own write (of both), EntryChanges that an entry
 --   is the change that its request asks for; Admissions and FailedLaws that a repeat is recognized, Failures that what failed ended in 5.00, which was sent;
 --   HoldsEachOnce, the sentence.
 --
 -- TagsDecideStates: equal tags mean one state, and blocks of one listing.
---   entries: TagStates (the tags of rows), by JournalLaws. rows: TaggedAnswers (the tags that are read in answers), and the sentence.
+--   entries: TagStates (the tags of rows of steps). rows: TaggedAnswers (the tags that are read in answers), and the sentence; of a desk it holds of answers that were formed in rows.
 --
--- ObserversKnow: an observer that is not due knows the listing.
---   observers: ObserverKnowledge (what an observer knows, and rows that do nothing for it), AddedObservers (rows that add one), TickKnowledge (ticks),
---   and ObserversKnow, the sentence.
+-- ObserversKnow: an observer that is not due knows the listing; of journals of the machine, and of those of desks.
+--   Below: ObserverKnowledge (what an observer knows, and rows that do nothing for it), AddedObservers (rows that add one), TickKnowledge (ticks),
+--   and ObserversKnow, the sentence; DueRows says who is due after a row by the marks of a desk.
 --
 -- AnswersAsFormed: each lookup answers the listing of the row that formed it.
 --   sends: BodyAnswers (an answer bears the block of its body that is wanted), LookupSends (looks, lookups, keeps), PlainSteps
@@ -26,19 +28,23 @@
 --   rows: each row carries what was formed as the headline says: RowCarries (looks and plain rows), LookupRows, KeepRows, TickRows; Validations has what
 --   2.03 carries; and AnswersAsFormed, the sentence.
 --
--- WrongRows: rows with wrong answers, none of which has the headline.
+-- SendsToWhoAsked: each datagram can be read, fits, and goes to who asked or observes; and what is noted as formed is sent.
+--   datagrams: FittingReplies (replies that can be read and fit), OwnSends (what each step but a tick sends), TickedSends (what a tick sends), NotedSends (what notes say
+--   of that), SentRows (rows of steps, one after the other), and DatagramLaws, the sentence; of a desk it has that each datagram can be read and fits.
 --
--- Journals of a desk (desks): TouchedExchanges (what a row notes of exchanges), AdmissionsInOrder (what a table of exchanges asks of events, of each such journal),
---   OpenAdmissions (an admission from its row on, until it is ended), CommitsOnce (each is committed at most once), MachineJournals and TraceJournals (a journal of the machine, and so that of a trace, is one).
+-- WrongRows and WrongDatagrams: rows with wrong answers, none of which has the headline.
 --
--- Shared. notes: what steps note. StepTable (the one table of cases, on which all four rest), SilentSteps (what notes nothing), ChangeNotes (the kinds of notes of commits and responses),
---   LookupNotes and TickNotes (what is kept, and who observes, is as it was asked: AnswersAsFormed).
---   entries: JournalLaws (a row of a journal is that of its step). observers: ObserversKnow says what the notes of each step do for observers (ObserverNotes), which FirstBodies reads too.
+-- desks: TraceJournals (a journal of a trace is one of a desk).
+--
+-- Shared. notes: LookupNotes and TickNotes (what is kept, and who observes, is as it was asked: AnswersAsFormed). Below, StepTable is the one table of what steps note,
+--   on which the sentences rest; ObserversKnow says what the notes of each step do for observers (ObserverNotes), which FirstBodies reads too.
 pub mod notes
 pub mod entries
 pub mod sends
 pub mod flights
 pub mod rows
 pub mod desks
+pub mod datagrams
 pub mod HeadlineLaw
 pub mod WrongRows
+pub mod WrongDatagrams

@@ -3,3 +3,4 @@ pub mod AddedObservers
 pub mod TickKnowledge
 pub mod ObserversKnow
 pub mod DueRows
+pub mod SentOctets

@@ -6,6 +6,7 @@ use Rattle.journal_model.specs.HoldsEachOnce.{HoldsEachOnce}
 use Rattle.journal_model.specs.AnswersAsFormed.{AnswersAsFormed}
 use Rattle.journal_model.specs.TagsDecideStates.{TagsDecideStates}
 use Rattle.journal_model.specs.ObserversKnow.{ObserversKnow}
+use Rattle.journal_model.specs.SentDatagrams.{SendsToWhoAsked}
 
 -- What holds of every journal of the machine.
 pub record Headline (rows : List Row) : Type 0 where
@@ -13,3 +14,4 @@ pub record Headline (rows : List Row) : Type 0 where
   pub answers : AnswersAsFormed rows
   pub tags : TagsDecideStates rows
   pub observers : ObserversKnow rows
+  pub sends : SendsToWhoAsked rows

@@ -95,11 +95,11 @@ unfolding is_look_request
 look_only m h = (and_parts (is_none (refusal_of_request m)) (only_looks m) h).1
 
 -- the look whose job a keep ends
-record KeepOf (rows : List Row) (worker : ℕ) (m : Message) (body current : List ℕ) : Type 0 where
-  look : Placed
-  found : look_of worker rows ≡ Some look
-  is_kept : KeptAt (entries (look.row ∷ look.before)) look.row.moment.0 (key_in m) body current
-  query_is : is_kept.query ≡ query_of m
+pub record KeepOf (rows : List Row) (worker : ℕ) (m : Message) (body current : List ℕ) : Type 0 where
+  pub look : Placed
+  pub found : look_of worker rows ≡ Some look
+  pub is_kept : KeptAt (entries (look.row ∷ look.before)) look.row.moment.0 (key_in m) body current
+  pub query_is : is_kept.query ≡ query_of m
 
 -- a row of a look notes nothing, and its datagram is that of a look
 record LookRow (before : List Row) (r : Row) : Type 0 where
@@ -127,7 +127,7 @@ keep_job_of rows s body current (goes holds) kind = holds
 keep_job_of rows s body current (ticks tick) kind = absurd (let h : step.Tick ≡ step.Keep body current = sym tick ∙ kind in cc)
 
 -- so it is of each keep
-keep_of : (rows : List Row) (s : Step) (m : Message) (body current : List ℕ) → IsJournal rows → MayBegin rows s → s.kind ≡ step.Keep body current → reading s.datagram ≡ Ok m → KeepOf rows s.worker m body current
+pub keep_of : (rows : List Row) (s : Step) (m : Message) (body current : List ℕ) → IsJournal rows → MayBegin rows s → s.kind ≡ step.Keep body current → reading s.datagram ≡ Ok m → KeepOf rows s.worker m body current
 keep_of rows s m body current journal may kind read = record {
   look = held.look;
   found = held.found;

@@ -42,7 +42,7 @@ with_reply kind mid token reply = record { kind = kind; code = reply.code; mid =
 -- ---- its options
 
 -- a number is written in at most three octets
-uint_bytes-length : (n : ℕ) → length (uint_bytes n) ≤ 3
+pub uint_bytes-length : (n : ℕ) → length (uint_bytes n) ≤ 3
 unfolding uint_bytes
 uint_bytes-length n = by (eqb n 0) (ltb n 256) (ltb n 65536)
   where
@@ -53,12 +53,12 @@ uint_bytes-length n = by (eqb n 0) (ltb n 256) (ltb n 65536)
     by false false false = omega arith
 
 -- and so is a block
-block_value-length : (b : Block) → length (block_value b) ≤ 3
+pub block_value-length : (b : Block) → length (block_value b) ≤ 3
 unfolding block_value
 block_value-length b = uint_bytes-length _
 
 -- the options of an answer with a body
-abbrev options_of : Option (List ℕ) → Option ℕ → Option Block → List Opt
+abbrev pub options_of : Option (List ℕ) → Option ℕ → Option Block → List Opt
 options_of tag observe block = tag_option tag ++ (observe_option observe ++ ((table.content_format, uint_bytes link_format) ∷ block2_option block))
 
 -- a tag that the answer may have
@@ -67,7 +67,7 @@ IsShortTag None = Unit {0}
 IsShortTag (Some tag) = length tag ≡ 8
 
 -- they are in order
-options_in_order : (tag : Option (List ℕ)) (observe : Option ℕ) (block : Option Block) → IsShortTag tag → AreInOrder 0 (options_of tag observe block)
+pub options_in_order : (tag : Option (List ℕ)) (observe : Option ℕ) (block : Option Block) → IsShortTag tag → AreInOrder 0 (options_of tag observe block)
 options_in_order tag observe block short = by tag observe block short
   where
     last : (before : ℕ) (b : Option Block) → before ≤ 12 → AreInOrder before ((table.content_format, uint_bytes link_format) ∷ block2_option b)
@@ -126,11 +126,11 @@ others_none (Some n) (Some b) = (refl, (refl, (refl, tt)))
 -- ---- how it is read
 
 -- an answer with a part of a body
-abbrev part_of : Option (List ℕ) → Option ℕ → Option Block → List ℕ × Bool → Reply
+abbrev pub part_of : Option (List ℕ) → Option ℕ → Option Block → List ℕ × Bool → Reply
 part_of tag observe asked part = part_reply tag observe asked (Some part)
 
 -- an answer with a part of a body is read as it was written
-part_again : (kind : Kind4) (mid : ℕ) (token : List ℕ) (tag : Option (List ℕ)) (observe : Option ℕ) (asked : Option Block) (part : List ℕ × Bool) → length token ≤ longest_token → IsShortTag tag
+pub part_again : (kind : Kind4) (mid : ℕ) (token : List ℕ) (tag : Option (List ℕ)) (observe : Option ℕ) (asked : Option Block) (part : List ℕ × Bool) → length token ≤ longest_token → IsShortTag tag
     → reading (spelling (with_reply kind mid token (part_of tag observe asked part))) ≡ Ok (with_reply kind mid token (part_of tag observe asked part))
 part_again kind mid token tag observe asked part small short =
     reading_in_order (with_reply kind mid token (part_of tag observe asked part))

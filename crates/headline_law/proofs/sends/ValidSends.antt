@@ -53,7 +53,7 @@ no_confirmable_valid [] h = tt
 no_confirmable_valid (d ∷ sent) h = ((λ _. h.0), no_confirmable_valid sent h.1)
 
 -- no answer is confirmable
-answer_apart : (kind : Kind4) (n : ℕ) → ((1 * 64 + kind_number (answer_kind kind) * 16 + n) / 16 == 4) ≡ false
+pub answer_apart : (kind : Kind4) (n : ℕ) → ((1 * 64 + kind_number (answer_kind kind) * 16 + n) / 16 == 4) ≡ false
 answer_apart Con n = ne_eqb _ _ (λ e. absurd (omega (arith, e)))
 answer_apart Non n = ne_eqb _ _ (λ e. absurd (omega (arith, e)))
 answer_apart Ack n = ne_eqb _ _ (λ e. absurd (omega (arith, e)))
