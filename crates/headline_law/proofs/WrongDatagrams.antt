@@ -7,6 +7,7 @@ use Rattle.std.proofs.lemmas.List.FromFn.{length-range_with_len}
 use Rattle.rd_base.specs.declared.peers.Host.{Host}
 use Rattle.rd_base.specs.declared.peers.Host.TheVariants as host
 use Rattle.rd_base.specs.declared.peers.Peer.{Peer}
+use Rattle.rd_base.proofs.lemmas.Among.{all_at_index}
 use Rattle.message_model.specs.declared.messages.Unread.{Unread}
 use Rattle.message_model.specs.declared.messages.Unread.TheVariants as unread
 use Rattle.message_model.specs.Codes as codes_of
@@ -16,17 +17,20 @@ use Rattle.message_model.specs.Spelling.{spelling}
 use Rattle.message_model.proofs.OnLiterals.{messages_on_literals}
 use Rattle.event_model.specs.declared.notes.Note.{Note}
 use Rattle.event_model.specs.declared.notes.Note.TheVariants as note
+use Rattle.event_model.specs.Observers.{observers}
 use Rattle.event_model.specs.Repeats.{is_admission_of}
 use Rattle.event_model.proofs.ManyObservers.{peer}
 use Rattle.journal_model.specs.declared.steps.StepKind.TheVariants as step
 use Rattle.journal_model.specs.declared.rows.Row.{Row}
+use Rattle.journal_model.specs.Journal.{events}
+use Rattle.journal_model.specs.Requests.{asked_block}
 use Rattle.journal_model.specs.HoldsEachOnce.{AdmittedAt}
-use Rattle.journal_model.specs.AnswersAsFormed.{is_content, Sent}
+use Rattle.journal_model.specs.AnswersAsFormed.{IsBlockOf}
 use Rattle.journal_model.specs.SentDatagrams.{Datagram, IsFitting, AnswersRequest, AnswersRepeat, IsAnswer, IsNotice, SendsFirst}
 use Rattle.journal_model.specs.Headline.{Headline}
 use Rattle.journal_model.proofs.MessageSizeLaws.{message_size-spelling}
 use Rattle.headline_law.proofs.entries.FailedLaws.{within_cases, nothing_within}
-use Rattle.headline_law.proofs.sends.BodyAnswers.{same_message}
+use Rattle.journal_model.proofs.sends.BodyAnswers.{same_message}
 use Rattle.headline_law.proofs.WrongRows.{row_of, lookup, answer, sent_first}
 
 -- the datagram that the one row of a journal sends
@@ -138,6 +142,23 @@ tick_refuses_falls h =
     h.sends.addressed (sent_first tick_refuses (peer 1) (spelling (refusal (193 ∷ []))) (refusal (193 ∷ [])) [] refl refl) refl in
     absurd (false≢true it.content)
 
+-- ACK 2.05 m=0010 t=c1, with one octet
+abbrev with_body : ℕ → Message
+with_body c = answer codes_of.content (193 ∷ []) [] (c ∷ [])
+
+-- a tick sends a 2.05 to a peer that observes nothing
+abbrev stray_notice : Row
+stray_notice = row_of step.Tick [] false ((peer 1, spelling (with_body 97)) ∷ []) []
+
+-- An end theorem: nothing here cites it.
+pub stray_notice_falls : Headline (stray_notice ∷ []) → ⊥
+unfolding messages_on_literals observers events
+stray_notice_falls h =
+    let it : IsNotice (record { row = stray_notice; before = [] }) (peer 1) (with_body 97) =
+    h.sends.addressed (sent_first stray_notice (peer 1) (spelling (with_body 97)) (with_body 97) [] refl refl) refl in
+    let no : None ≡ Some it.observer = it.named in
+    absurd cc
+
 -- ---- what is noted
 
 -- a body is noted as formed, and is not sent
@@ -150,6 +171,30 @@ unsent_falls h =
     let it : SendsFirst unsent (peer 1) (193 ∷ []) [] = h.sends.formed [] unsent (peer 1) (193 ∷ []) [] (Some 0) (record { later = []; whole = refl }) (0, (omega arith, refl)) in
     let low = it.among.1.0 in
     absurd (omega (arith, low))
+
+-- a body is noted as formed, and another is sent
+abbrev other_first : Row
+other_first = row_of step.Tick [] false ((peer 1, spelling (with_body 98)) ∷ []) (note.Formed (peer 1) (193 ∷ []) (97 ∷ []) (Some 16) ∷ [])
+
+-- An end theorem: nothing here cites it.
+pub other_first_falls : Headline (other_first ∷ []) → ⊥
+unfolding messages_on_literals
+other_first_falls h =
+    let it : SendsFirst other_first (peer 1) (193 ∷ []) (97 ∷ []) = h.sends.formed [] other_first (peer 1) (193 ∷ []) (97 ∷ []) (Some 16) (record { later = []; whole = refl }) (0, (omega arith, refl)) in
+    let is : with_body 98 ≡ it.message =
+    all_at_index (λ (d : Peer × List ℕ). (m : Message) → reading d.1 ≡ Ok m → with_body 98 ≡ m) other_first.sent (peer 1, it.octets) it.among ((λ m read. same (with_body 98) m read), tt) it.message it.read in
+    let block : 98 ∷ [] ≡ 97 ∷ [] = subst (λ (m : Message). IsBlockOf (asked_block m) (97 ∷ []) m.payload) (sym is) it.carries.block in
+    different (ap head block)
+  where
+    same : (m n : Message) → ◌≡◌ {A = Result Message Unread} (Ok m) (Ok n) → m ≡ n
+    same m n e = cc
+
+    head : List ℕ → ℕ
+    head [] = 0
+    head (c ∷ others) = c
+
+    different : ◌≡◌ {A = ℕ} 98 97 → ⊥
+    different e = absurd (omega (arith, e))
 
 -- a row admits a write under another Message ID than that of its message, and it is committed
 abbrev strange_admission : Row

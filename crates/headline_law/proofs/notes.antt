@@ -1,2 +1,1 @@
-pub mod LookupNotes
 pub mod TickNotes

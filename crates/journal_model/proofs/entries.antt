@@ -4,3 +4,4 @@ pub mod ResponseEntries
 pub mod EntryOrigins
 pub mod RowLaws
 pub mod JournalLaws
+pub mod CommitPlaces

@@ -16,7 +16,7 @@ use Rattle.headline_law.proofs.entries.EntryChanges.{rows-entry}
 use Rattle.journal_model.proofs.entries.RowLaws.{row-origin}
 use Rattle.headline_law.proofs.entries.CommitLaws.{journal-once}
 use Rattle.journal_model.proofs.desks.CommitsOnce.{desk-once}
-use Rattle.headline_law.proofs.entries.CommitPlaces.{journal-place, desk-place}
+use Rattle.journal_model.proofs.entries.CommitPlaces.{journal-place, desk-place}
 use Rattle.headline_law.proofs.entries.FailedLaws.{rows-failed}
 
 -- the row of a commit has an entry exactly where its answer reports a change

@@ -34,9 +34,9 @@ use Rattle.journal_model.proofs.notes.SilentSteps.{looked_notes}
 use Rattle.journal_model.proofs.entries.JournalLaws.{Made, each_row, entries-none_noted, entries-IsPrefix-row}
 use Rattle.journal_model.proofs.Jobs.{KeepsOf, keeps_of}
 use Rattle.message_model.proofs.ReadingLaws.{header_read}
-use Rattle.headline_law.proofs.sends.BodyAnswers.{wanted_by, asking, Bears, tag-length, same_message, bears_carries}
+use Rattle.journal_model.proofs.sends.BodyAnswers.{wanted_by, asking, Bears, tag-length, same_message, bears_carries}
 use Rattle.headline_law.proofs.sends.LookupSends.{IsAnswerOf, keep_bears}
-use Rattle.headline_law.proofs.notes.LookupNotes.{look_fits, KeptAt}
+use Rattle.journal_model.proofs.notes.LookupNotes.{look_fits, KeptAt}
 use Rattle.headline_law.proofs.sends.ValidLaw.{LooksAt, a_look_reads, looked_a_look}
 use Rattle.headline_law.proofs.flights.CarriedListings.{Carried}
 use Rattle.headline_law.proofs.rows.RowCarries.{NoteAsFormed, RowCarries, asked_in-own}

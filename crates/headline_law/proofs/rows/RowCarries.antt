@@ -26,10 +26,10 @@ use Rattle.journal_model.specs.AnswersAsFormed.{asked_in, asked_at, names_lookup
 use Rattle.journal_model.proofs.EntriesNoted.{entries_in}
 use Rattle.journal_model.proofs.StepNotes.{look_effects-notes}
 use Rattle.message_model.proofs.ReadingLaws.{header_read}
-use Rattle.headline_law.proofs.sends.BodyAnswers.{wanted_by, asking, Bears, IsUntagged, other_code, bears_carries}
-use Rattle.headline_law.proofs.sends.PlainSteps.{ArePlain, IsPlain}
+use Rattle.journal_model.proofs.sends.BodyAnswers.{wanted_by, asking, Bears, IsUntagged, other_code, bears_carries}
+use Rattle.journal_model.proofs.sends.PlainSteps.{ArePlain, IsPlain}
 use Rattle.headline_law.proofs.sends.LookupSends.{IsAnswerOf, AreListings, look_lists, look_discovers, names_earlier_row}
-use Rattle.headline_law.proofs.notes.LookupNotes.{IsAsking, KeptAt, NoteAsAsked, NotesAsAsked}
+use Rattle.journal_model.proofs.notes.LookupNotes.{IsAsking, KeptAt, NoteAsAsked, NotesAsAsked}
 use Rattle.headline_law.proofs.flights.CarriedListings.{Carried}
 use Rattle.headline_law.proofs.sends.StepOutcomes.{is_keeping}
 use Rattle.std.proofs.lemmas.Bool.{or_parts}

@@ -33,7 +33,7 @@ use Rattle.journal_model.proofs.NoteKinds.{of_write, of_empty, of_commit, of_res
 use Rattle.journal_model.proofs.StepNotes.{write_effects-notes, acknowledged-notes, reset-notes}
 use Rattle.journal_model.proofs.notes.ChangeNotes.{commit_effects-notes, response_effects-notes}
 use Rattle.journal_model.proofs.notes.SilentSteps.{refusal_notes, unread_notes}
-use Rattle.headline_law.proofs.sends.PlainSteps.{ArePlain, SettledPlain, refusal_plain, refused_plain, starved_plain, unread_plain, write_plain}
+use Rattle.journal_model.proofs.sends.PlainSteps.{ArePlain, SettledPlain, refusal_plain, refused_plain, starved_plain, unread_plain, write_plain}
 use Rattle.headline_law.proofs.sends.PlainCommits.{commit_plain, response_plain}
 
 -- the note keeps an answer, or adds an observer

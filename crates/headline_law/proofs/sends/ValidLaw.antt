@@ -29,10 +29,10 @@ use Rattle.journal_model.specs.PlacedRows.{Within, code_sent}
 use Rattle.journal_model.specs.AnswersAsFormed.{looks_with_tag}
 use Rattle.journal_model.proofs.entries.JournalLaws.{Made, each_row}
 use Rattle.journal_model.proofs.Jobs.{heard_as_hearing, heard_no_look, heard_a_look}
-use Rattle.headline_law.proofs.sends.PlainSteps.{IsPlain, ArePlain, SettledPlain}
-use Rattle.headline_law.proofs.sends.ValidSends.{NoneValid, NoConfirmableValid, look_valid}
+use Rattle.journal_model.proofs.sends.PlainSteps.{IsPlain, ArePlain, SettledPlain}
+use Rattle.journal_model.proofs.sends.ValidSends.{NoneValid, NoConfirmableValid, look_valid}
 use Rattle.journal_model.proofs.EventRows.{AllRows, RowOf, row_of, row_within, said_by}
-use Rattle.headline_law.proofs.sends.TickSends.{AskedPlain}
+use Rattle.journal_model.proofs.sends.TickSends.{AskedPlain}
 use Rattle.headline_law.proofs.sends.RowSends.{NoteFact, Before, StepSends, effects_send}
 use Rattle.rd_base.proofs.lemmas.Among.{all_among}
 

@@ -3,6 +3,7 @@
 -- End theorems, for what keeps the observers of a journal: nothing here cites them.
 use Rattle.std.proofs.Common.{◌≡◌, ℕ, ◌≤◌, Bool, true, false, not, ◌||◌, cond, List, [], ◌∷◌, ◌++◌, length, None, refl, sym, ap, subst, ◌∙◌, append-nil, arith}
 use Rattle.std.specs.List.{list_any, AllByRecursion, IsAmong}
+use Rattle.std.proofs.lemmas.List.Folds.{list_any-append}
 use Rattle.rd_base.specs.declared.queries.Query.{Query}
 use Rattle.rd_base.proofs.lemmas.Among.{all_at_index}
 use Rattle.history_model.specs.declared.entries.Entry.{Entry}
@@ -19,7 +20,7 @@ use Rattle.event_model.proofs.DueLaws.{IsLookedAt, due_later, due_entered, due_j
 use Rattle.journal_model.specs.declared.steps.Step.{Step}
 use Rattle.journal_model.specs.declared.rows.Row.{Row}
 use Rattle.journal_model.specs.Journal.{is_look, is_desk_row, transition_of, events, entries, entries_of, now, latest, transitions}
-use Rattle.journal_model.specs.Effects.{Effects, joined}
+use Rattle.journal_model.specs.Effects.{Effects, nothing, joined}
 use Rattle.journal_model.specs.Rows.{row_with, row_moment, AreRows}
 use Rattle.journal_model.specs.UnfinishedRow.{making}
 use Rattle.journal_model.proofs.EntriesNoted.{entries_in, NotesNext, none, one, entries_in-append}
@@ -135,6 +136,30 @@ row-due rows r o all desk among quiet =
         ∙ ap (λ more. (entry_marks o.query (entries rows) more || is_lapse_of o.query (now rows) r.moment.0 (replay (entries rows)).records) || is_due o (events rows) (transitions rows)) (sym h)))
 
 -- ---- a row that is being made
+
+-- time passes before anything is done: an observer is due where a record lapses meanwhile that gives lines to its query, or it was due before
+pub due-making_passes : (rows : List Row) (s : Step) (starved : Bool) (o : Observer) → KnownIn rows o → is_look s.kind ≡ false → now rows ≤ row_moment rows s
+    → is_due o (events (making rows s starved nothing)) (transitions (making rows s starved nothing))
+    ≡ (is_lapse_of o.query (now rows) (row_moment rows s) (replay (entries rows)).records || is_due o (events rows) (transitions rows))
+due-making_passes rows s starved o known desk order = row_passes rows (row_with s (row_moment rows s) starved nothing) o known (ap not desk) refl order refl
+
+-- then an entry is made, and nobody is looked at: an observer is due where the record that the entry is about gives other lines after it, or it was due before
+pub due-making_enters : (rows : List Row) (s : Step) (starved : Bool) (done more : Effects) (o : Observer) (entry : Entry) (first : ℕ) → KnownIn rows o → is_look s.kind ≡ false → now rows ≤ row_moment rows s
+    → list_any (is_looking_for (name_of o)) done.notes ≡ false → list_any (is_looking_for (name_of o)) more.notes ≡ false → entries_in done.notes ≡ [] → entries_in more.notes ≡ entry ∷ []
+    → entry.moment.0 ≡ row_moment rows s → change_refusal first (entries rows) entry ≡ None
+    → is_due o (events (making rows s starved (joined done more))) (transitions (making rows s starved (joined done more)))
+    ≡ (entry_marks o.query (entries rows) (entry ∷ []) || is_due o (events (making rows s starved done)) (transitions (making rows s starved done)))
+due-making_enters rows s starved done more o entry first known desk order quiet also none_yet single at accepts =
+    row_enters rows (row_with s (row_moment rows s) starved (joined done more)) o entry first known (ap not desk) looks_none order enters (sym at) accepts
+    ∙ ap (λ b. entry_marks o.query (entries rows) (entry ∷ []) || b)
+    (ap (λ m. is_lapse_of o.query (now rows) m (replay (entries rows)).records || is_due o (events rows) (transitions rows)) at
+    ∙ sym (row_passes rows (row_with s (row_moment rows s) starved done) o known (ap not desk) quiet order none_yet))
+  where
+    looks_none : list_any (is_looking_for (name_of o)) (done.notes ++ more.notes) ≡ false
+    looks_none = list_any-append (is_looking_for (name_of o)) done.notes more.notes ∙ rw quiet also
+
+    enters : entries_in (done.notes ++ more.notes) ≡ entry ∷ []
+    enters = entries_in-append done.notes more.notes ∙ (ap (λ (es : List Entry). es ++ entries_in more.notes) none_yet ∙ single)
 
 -- what is done next enters nothing and looks at nobody: an observer is due as before
 pub due-making_quiet : (rows : List Row) (s : Step) (starved : Bool) (done more : Effects) (o : Observer) → entries_in more.notes ≡ [] → list_any (is_looking_for (name_of o)) more.notes ≡ false

@@ -22,8 +22,8 @@ use Rattle.journal_model.specs.Journal.{events, row_at}
 use Rattle.journal_model.specs.Effects.{Effects}
 use Rattle.journal_model.specs.Ticks.{is_confirmable_with, confirmable_sent, sent_again, each_of, notice_again, flight_again, notices_again, Ticking, ticking, events_with, block_shown, noticed_unless, listing_for, is_unchanged, noticed_if, is_looked_at, notice_next, notices, request_again, fetch_again, requests_again, tick_effects}
 use Rattle.message_model.proofs.ReadingLaws.{header_read}
-use Rattle.headline_law.proofs.sends.PlainSteps.{IsPlain, ArePlain}
-use Rattle.headline_law.proofs.sends.ValidSends.{NotValid, NoneValid, is_confirmable, NoConfirmableValid, body_code}
+use Rattle.journal_model.proofs.sends.PlainSteps.{IsPlain, ArePlain}
+use Rattle.journal_model.proofs.sends.ValidSends.{NotValid, NoneValid, is_confirmable, NoConfirmableValid, body_code}
 use Rattle.rd_base.proofs.lemmas.Each.{each_append}
 use Rattle.rd_base.proofs.lemmas.Among.{find_passes}
 

@@ -55,11 +55,11 @@ use Rattle.journal_model.proofs.StepNotes.{look_effects-notes, write_effects-not
 use Rattle.journal_model.proofs.notes.ChangeNotes.{change_made-notes, registering-notes, response_effects-notes}
 use Rattle.journal_model.proofs.notes.SilentSteps.{refusal_notes, unread_notes, looked_notes}
 use Rattle.journal_model.proofs.observers.ObserversKnow.{IsNoTick}
-use Rattle.headline_law.proofs.notes.LookupNotes.{IsAsking, lookup_fits}
-use Rattle.headline_law.proofs.sends.BodyAnswers.{Wanted, wanted_by, IsBodyOf, Bears, same_message, tag-length, IsUsable, szx-usable, request-usable, body_bears, with_reply}
-use Rattle.headline_law.proofs.sends.ValidSends.{is_confirmable}
-use Rattle.headline_law.proofs.datagrams.FittingReplies.{IsGoodReply, reply_read, reply_fits, good_bare, good_unavailable, good_body_reply, good_change, good_registering}
-use Rattle.headline_law.proofs.datagrams.OwnSends.{answer_unconfirmable, KeepsTag}
+use Rattle.journal_model.proofs.notes.LookupNotes.{IsAsking, lookup_fits}
+use Rattle.journal_model.proofs.sends.BodyAnswers.{Wanted, wanted_by, IsBodyOf, Bears, same_message, tag-length, IsUsable, szx-usable, request-usable, body_bears, with_reply}
+use Rattle.journal_model.proofs.sends.ValidSends.{is_confirmable}
+use Rattle.journal_model.proofs.datagrams.FittingReplies.{IsGoodReply, reply_read, reply_fits, good_bare, good_unavailable, good_body_reply, good_change, good_registering}
+use Rattle.journal_model.proofs.datagrams.OwnSends.{answer_unconfirmable, KeepsTag}
 
 -- octets that settle the write of a place: its commit answers it so
 pub record SettledBy (kind : StepKind) (s : Step) (place : ℕ) (octets : List ℕ) : Type 0 where

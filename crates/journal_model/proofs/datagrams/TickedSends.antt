@@ -32,13 +32,13 @@ use Rattle.journal_model.specs.SentDatagrams.{IsFitting, is_response}
 use Rattle.journal_model.specs.AnswersAsFormed.{is_content}
 use Rattle.journal_model.proofs.NoteKinds.{of_again, of_resent, are}
 use Rattle.journal_model.proofs.StepNotes.{notices_again-notes, requests_again-notes}
-use Rattle.headline_law.proofs.notes.LookupNotes.{IsAsking}
-use Rattle.headline_law.proofs.flights.NoticesAgain.{events_after_again}
-use Rattle.headline_law.proofs.sends.BodyAnswers.{wanted_by_observer, same_message, tag-length, notice_bears, with_reply}
-use Rattle.headline_law.proofs.sends.ValidSends.{is_confirmable}
-use Rattle.headline_law.proofs.sends.TickSends.{FoundSent, sent_by-FoundSent, confirmable_of, each_of_sent, again_sent}
-use Rattle.headline_law.proofs.datagrams.FittingReplies.{IsGoodReply, reply_read, reply_fits, good_body_reply}
-use Rattle.headline_law.proofs.datagrams.NotedSends.{FirstSent, NoteFact, NoteFacts, first_before, first_after, facts_before, facts_after, is_telling, quiet_facts, first_from}
+use Rattle.journal_model.proofs.notes.LookupNotes.{IsAsking}
+use Rattle.journal_model.proofs.flights.NoticesAgain.{events_after_again}
+use Rattle.journal_model.proofs.sends.BodyAnswers.{wanted_by_observer, same_message, tag-length, notice_bears, with_reply}
+use Rattle.journal_model.proofs.sends.ValidSends.{is_confirmable}
+use Rattle.journal_model.proofs.sends.TickSends.{FoundSent, sent_by-FoundSent, confirmable_of, each_of_sent, again_sent}
+use Rattle.journal_model.proofs.datagrams.FittingReplies.{IsGoodReply, reply_read, reply_fits, good_body_reply}
+use Rattle.journal_model.proofs.datagrams.NotedSends.{FirstSent, NoteFact, NoteFacts, first_before, first_after, facts_before, facts_after, is_telling, quiet_facts, first_from}
 
 -- a datagram of a tick
 pub record IsTicked (d : Peer × List ℕ) : Type 0 where

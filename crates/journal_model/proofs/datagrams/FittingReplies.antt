@@ -45,7 +45,7 @@ use Rattle.journal_model.specs.Changes.{Outcome, refused_as, entered_unless, cha
 use Rattle.journal_model.specs.Registrations.{collected_before, is_one_too_many, block1_option, block_taken, block_unless, block_after, block_uploaded, registration_outcome, registering}
 use Rattle.journal_model.specs.SentDatagrams.{IsFitting}
 use Rattle.journal_model.proofs.MessageSizeLaws.{room_for, spelling-most}
-use Rattle.headline_law.proofs.sends.BodyAnswers.{with_reply, uint_bytes-length, block_value-length, options_of, options_in_order, IsShortTag, IsUsable, part_of}
+use Rattle.journal_model.proofs.sends.BodyAnswers.{with_reply, uint_bytes-length, block_value-length, options_of, options_in_order, IsShortTag, IsUsable, part_of}
 use Rattle.record_model.specs.Bodies.{linked_references}
 use Rattle.record_model.specs.Refusals.{first_unlimited}
 use Rattle.rd_base.specs.declared.submitted_links.SubmittedLink.{SubmittedLink}

@@ -20,11 +20,13 @@ use Rattle.journal_model.specs.Machine.{is_look_datagram, Job, write_job, keep_j
 use Rattle.journal_model.specs.PlacedRows.{Within, Commits, admits}
 use Rattle.journal_model.specs.HoldsEachOnce.{AdmittedAt}
 use Rattle.journal_model.proofs.entries.JournalLaws.{Made, each_row, RowMade, each_made, journal-AreRows, desk-AreRows}
-use Rattle.journal_model.proofs.desks.OpenAdmissions.{OwnAdmission, row-OwnAdmission}
+use Rattle.journal_model.proofs.desks.OpenAdmissions.{OwnAdmission, row-OwnAdmission, OpenAdmission, commit-IsOpen}
+use Rattle.event_model.specs.AdmissionOrder.{IsOpen}
+use Rattle.message_model.proofs.MessageLaws.{ok_is}
 use Rattle.journal_model.proofs.desks.CommitsOnce as desks
 use Rattle.journal_model.specs.Looks.{held_after}
 use Rattle.event_model.specs.KeptAnswers.{Answer}
-use Rattle.journal_model.specs.Journal.{entries, row_at}
+use Rattle.journal_model.specs.Journal.{events, entries, row_at}
 
 -- the row at a place admitted the write of a job of a worker
 record JobFrom (rows : List Row) (worker place : ℕ) (job : Job) : Type 0 where
@@ -184,3 +186,18 @@ desk-place rows before r place journal within commits =
     let kind : it.step.kind ≡ step.Commit place = ap (λ (x : Row). x.step.kind) (sym it.is) ∙ commits in
     subst (λ (x : Row). AdmittedAt before place x.step) (sym it.is)
     (open_admitted before it.step place (desk-AreRows before it.journal) (subst (CommitsOpen before it.step) kind it.may.commits))
+
+-- what a commit is of, as a table of exchanges asks: its admission stands, with the peer of the step and the Message ID of the message in its datagram
+-- An end theorem: nothing here cites it.
+pub commit-opens : (rows : List Row) (s : Step) (place : ℕ) (m : Message) → IsDeskJournal rows → (it : IsOpenFor s place rows) → reading s.datagram ≡ Ok m → IsOpen place s.peer m.mid it.admission.moment.0 (events rows)
+commit-opens rows s place m journal it read =
+    let opened : OpenAdmission place s.peer it.admission rows = commit-IsOpen rows s place journal it in
+    let at : AtPlace rows place it.admission = at_place place rows it.admission it.found in
+    let own : OwnAdmission it.admission = own_of rows at.before it.admission (desk-AreRows rows journal) at.within it.admits in
+    let mids : opened.mid ≡ own.message.mid = ap first_mid (sym opened.noted ∙ own.noted) in
+    let same : own.message ≡ m = ok_is own.message m (sym own.read ∙ (ap reading it.datagram ∙ read)) in
+    subst (λ mid. IsOpen place s.peer mid it.admission.moment.0 (events rows)) (mids ∙ ap (λ (x : Message). x.mid) same) opened.stands
+  where
+    first_mid : List Note → ℕ
+    first_mid (note.Admitted peer mid ∷ notes) = mid
+    first_mid _ = 0

@@ -60,9 +60,9 @@ use Rattle.journal_model.specs.Rows.{served, refusal_answered, unread_answered, 
 use Rattle.journal_model.specs.SentDatagrams.{IsFitting, is_response, AnswersRequest, AnswersRepeat}
 use Rattle.journal_model.proofs.MessageSizeLaws.{spelling-most}
 use Rattle.journal_model.proofs.observers.ObserversKnow.{IsNoTick}
-use Rattle.headline_law.proofs.sends.BodyAnswers.{block_value-length, same_message, tag-length, request-usable, szx-usable}
-use Rattle.headline_law.proofs.sends.ValidSends.{is_confirmable, answer_apart}
-use Rattle.headline_law.proofs.datagrams.FittingReplies.{IsGoodReply, reply_read, reply_fits, good_bare, good_starved, good_unavailable, good_refusal, good_part_reply, good_body_reply, good_valid, good_change, good_registering}
+use Rattle.journal_model.proofs.sends.BodyAnswers.{block_value-length, same_message, tag-length, request-usable, szx-usable}
+use Rattle.journal_model.proofs.sends.ValidSends.{is_confirmable, answer_apart}
+use Rattle.journal_model.proofs.datagrams.FittingReplies.{IsGoodReply, reply_read, reply_fits, good_bare, good_starved, good_unavailable, good_refusal, good_part_reply, good_body_reply, good_valid, good_change, good_registering}
 
 -- a datagram of a step that is no tick, after rows
 pub record IsOwn (rows : List Row) (s : Step) (d : Peer × List ℕ) : Type 0 where

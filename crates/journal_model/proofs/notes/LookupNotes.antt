@@ -31,7 +31,7 @@ use Rattle.journal_model.specs.Requests.{kind_of, query_of, asked_block, number_
 use Rattle.journal_model.specs.Looks.{look_effects}
 use Rattle.journal_model.specs.Lookups.{listing_now, block_now, block_of_kept, later_block, removal, without, addition, observer_of, keeping, observed_if, observed, unobserved, observation_effects, first_block_effects, block_effects, lookup_effects}
 use Rattle.journal_model.proofs.StepNotes.{look_effects-notes}
-use Rattle.headline_law.proofs.sends.BodyAnswers.{szx-usable, request-usable}
+use Rattle.journal_model.proofs.sends.BodyAnswers.{szx-usable, request-usable}
 
 -- a request with this key asks for this query
 pub record Asks (key : List ℕ) (query : Query) : Type 0 where

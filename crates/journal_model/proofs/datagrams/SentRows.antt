@@ -33,14 +33,13 @@ use Rattle.journal_model.proofs.EventRows.{AllRows, RowOf, row_of, row_within, s
 use Rattle.journal_model.proofs.RowEquations.{effects-Tick, row-step}
 use Rattle.journal_model.proofs.entries.JournalLaws.{RowMade, each_made}
 use Rattle.journal_model.proofs.desks.OpenAdmissions.{OwnAdmission, row-OwnAdmission}
-use Rattle.headline_law.proofs.notes.LookupNotes.{IsAsking, OfWatched, observers_all}
-use Rattle.headline_law.proofs.flights.NoticesAgain.{events_after_again}
-use Rattle.headline_law.proofs.flights.CarriedListings.{stood}
-use Rattle.headline_law.proofs.sends.BodyAnswers.{same_message}
-use Rattle.headline_law.proofs.sends.ValidSends.{is_confirmable}
-use Rattle.headline_law.proofs.datagrams.OwnSends.{IsOwn, KnownBefore, KeepsTag, effects_own}
-use Rattle.headline_law.proofs.datagrams.NotedSends.{SettledBy, NoteFact, NoteFacts, effects_facts}
-use Rattle.headline_law.proofs.datagrams.TickedSends.{IsTicked, IsResendable, Resendable, TickSends, tick_sends}
+use Rattle.journal_model.proofs.notes.LookupNotes.{IsAsking, OfWatched, observers_all}
+use Rattle.journal_model.proofs.flights.NoticesAgain.{events_after_again, stood}
+use Rattle.journal_model.proofs.sends.BodyAnswers.{same_message}
+use Rattle.journal_model.proofs.sends.ValidSends.{is_confirmable}
+use Rattle.journal_model.proofs.datagrams.OwnSends.{IsOwn, KnownBefore, KeepsTag, effects_own}
+use Rattle.journal_model.proofs.datagrams.NotedSends.{SettledBy, NoteFact, NoteFacts, effects_facts}
+use Rattle.journal_model.proofs.datagrams.TickedSends.{IsTicked, IsResendable, Resendable, TickSends, tick_sends}
 
 -- a datagram of a row, by its step
 abbrev pub IsSentBy : StepKind → List Row → Step → Peer × List ℕ → Type 0

@@ -20,13 +20,14 @@ use Rattle.journal_model.specs.Effects.{Effects}
 use Rattle.journal_model.specs.Ticks.{confirmable_sent, sent_again, each_of, notice_again, flight_again, notices_again}
 use Rattle.journal_model.proofs.NoteKinds.{of_again, none_of}
 use Rattle.journal_model.proofs.StepNotes.{notices_again-notes}
-use Rattle.headline_law.proofs.sends.TickSends.{sent_by-FoundSent, each_of_sent}
+use Rattle.journal_model.proofs.sends.TickSends.{sent_by-FoundSent, each_of_sent}
 use Rattle.rd_base.proofs.lemmas.Among.{Among, all_among, among_all}
 use Rattle.journal_model.proofs.FlightKeys.{flight_key, is_landing, key_same_all}
-use Rattle.headline_law.proofs.flights.WaitedPeers.{stands_on, Waits, flies_key, IsAgain, again_stands}
+use Rattle.journal_model.proofs.flights.WaitedPeers.{stands_on, Waits, flies_key, IsAgain, again_stands}
 use Rattle.std.proofs.lemmas.Bool.{or_left, or_right}
 use Rattle.rd_base.proofs.lemmas.Numbers.{eqb-refl}
-use Rattle.rd_base.proofs.lemmas.Each.{each_one, each_append}
+use Rattle.rd_base.proofs.lemmas.Each.{each_one, each_append, each_failing}
+use Rattle.journal_model.proofs.notes.LookupNotes.{OfWatched, observers_all}
 
 -- what is noted for one is noted for all
 each_of_any : {A : Type 0} (test : Note → Bool) (does : A → Effects) (x : A) (xs : List A) → Among x xs → list_any test (does x).notes ≡ true → list_any test (each_of does xs).notes ≡ true
@@ -164,3 +165,17 @@ again_waits rows moment word o f it = record {
   of_peer = is_same_peer-refl o.peer;
   flies = flies_key o (events_after_again rows moment word) ∙ (ap is_some (again_key rows moment word o) ∙ (sym (flies_key o (events rows)) ∙ ap is_some it.flies));
 }
+
+-- ---- who stands
+
+-- who stands after the first part stood before it
+pub stood : (rows : List Row) (moment word : ℕ) (P : Observer → Type 0) → AllByRecursion P (observers (events rows)) → AllByRecursion P (observers (events_after_again rows moment word))
+stood rows moment word P all = observers_all P (length rows) moment word (notices_again rows moment).notes (events rows) (each_failing is_added (OfWatched P) one (notices_again rows moment).notes (again_none is_added (λ p t. refl) (λ p m. refl) rows moment)) all
+  where
+    is_added : Note → Bool
+    is_added (note.Watched o) = true
+    is_added _ = false
+
+    one : (n : Note) → is_added n ≡ false → OfWatched P n
+    one (note.Watched o) h = absurd (false≢true (sym h))
+    one _ h = tt
