@@ -1,4 +1,4 @@
--- The headline: of each journal of the machine, and so of each trace, its registrations, its answers, its tags and its observers are as promised.
+-- The headline: of each journal of the machine, and so of each trace, its registrations, its answers, its tags, its observers and its datagrams are as promised; and what of that holds of each journal of a desk.
 use Rattle.std.proofs.Common.{ℕ, List}
 use Rattle.journal_model.specs.HoldsEachOnce.{HoldsEachOnce}
 use Rattle.journal_model.specs.AnswersAsFormed.{AnswersAsFormed}
@@ -6,15 +6,16 @@ use Rattle.journal_model.specs.TagsDecideStates.{TagsDecideStates}
 use Rattle.journal_model.specs.ObserversKnow.{ObserversKnow}
 use Rattle.journal_model.specs.SentDatagrams.{SendsToWhoAsked}
 use Rattle.headline_law.proofs.datagrams.DatagramLaws.{journal-SendsToWhoAsked}
-use Rattle.journal_model.specs.Headline.{Headline}
-use Rattle.headline_law.proofs.entries.HoldsEachOnce.{journal-HoldsEachOnce}
+use Rattle.journal_model.specs.Headline.{Headline, DeskHeadline}
+use Rattle.headline_law.proofs.entries.HoldsEachOnce.{journal-HoldsEachOnce, desk-HoldsEachOnce}
 use Rattle.headline_law.proofs.rows.AnswersAsFormed.{answers_as_formed}
-use Rattle.headline_law.proofs.rows.TaggedAnswers.{journal-TagsDecideStates}
-use Rattle.journal_model.proofs.observers.ObserversKnow.{journal-ObserversKnow}
+use Rattle.headline_law.proofs.rows.TaggedAnswers.{journal-TagsDecideStates, desk-FormedTagsDecideStates}
+use Rattle.journal_model.proofs.observers.ObserversKnow.{journal-ObserversKnow, desk-ObserversKnow}
 use Rattle.trace_model.specs.Steps.{journal}
 use Rattle.trace_model.proofs.JournalLaw.{journal-IsJournal}
 use Rattle.journal_model.specs.declared.rows.Row.{Row}
 use Rattle.journal_model.specs.Machine.{IsJournal}
+use Rattle.journal_model.specs.DeskJournal.{IsDeskJournal}
 
 -- of each journal, whole
 pub journal-Headline : (rows : List Row) → IsJournal rows → Headline rows
@@ -24,6 +25,15 @@ journal-Headline rows journal = record {
   tags = journal-TagsDecideStates rows journal;
   observers = journal-ObserversKnow rows journal;
   sends = journal-SendsToWhoAsked rows journal;
+}
+
+-- of each journal of a desk
+-- An end theorem: nothing here cites it.
+pub desk-DeskHeadline : (rows : List Row) → IsDeskJournal rows → DeskHeadline rows
+desk-DeskHeadline rows journal = record {
+  changes = desk-HoldsEachOnce rows journal;
+  tags = desk-FormedTagsDecideStates rows journal;
+  observers = desk-ObserversKnow rows journal;
 }
 
 -- ---- traces

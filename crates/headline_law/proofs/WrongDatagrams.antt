@@ -1,7 +1,7 @@
 -- Rows that send what they should not, to whom they should not, or not what they note; and a commit of what was not its own: none of them has the headline.
 -- Beside each datagram its parts are shown: type, code, Message ID, token, options, payload.
-use Rattle.std.proofs.Common.{◌≡◌, inl, inr, ℕ, ◌+◌, ◌≤◌, Bool, true, false, List, [], ◌∷◌, length, Option, Some, None, Result, Ok, Err, codes, refl, sym, ap, subst, ◌∙◌, arith}
-use Rattle.std.specs.List.{range_with_len, list_any, IsAmong}
+use Rattle.std.proofs.Common.{◌≡◌, inl, inr, ℕ, true, false, List, [], ◌∷◌, Some, None, Result, Ok, Err, codes, refl, sym, ap, subst, ◌∙◌, arith}
+use Rattle.std.specs.List.{range_with_len, list_any}
 use Rattle.std.proofs.lemmas.Bool.{false≢true}
 use Rattle.std.proofs.lemmas.List.FromFn.{length-range_with_len}
 use Rattle.rd_base.specs.declared.peers.Host.{Host}
@@ -15,7 +15,6 @@ use Rattle.message_model.specs.Message.{Message}
 use Rattle.message_model.specs.Reading.{reading}
 use Rattle.message_model.specs.Spelling.{spelling}
 use Rattle.message_model.proofs.OnLiterals.{messages_on_literals}
-use Rattle.event_model.specs.declared.notes.Note.{Note}
 use Rattle.event_model.specs.declared.notes.Note.TheVariants as note
 use Rattle.event_model.specs.Observers.{observers}
 use Rattle.event_model.specs.Repeats.{is_admission_of}
@@ -26,11 +25,10 @@ use Rattle.journal_model.specs.Journal.{events}
 use Rattle.journal_model.specs.Requests.{asked_block}
 use Rattle.journal_model.specs.HoldsEachOnce.{AdmittedAt}
 use Rattle.journal_model.specs.AnswersAsFormed.{IsBlockOf}
-use Rattle.journal_model.specs.SentDatagrams.{Datagram, IsFitting, AnswersRequest, AnswersRepeat, IsAnswer, IsNotice, SendsFirst}
+use Rattle.journal_model.specs.SentDatagrams.{Datagram, IsFitting, IsAnswer, IsNotice, SendsFirst}
 use Rattle.journal_model.specs.Headline.{Headline}
 use Rattle.journal_model.proofs.MessageSizeLaws.{message_size-spelling}
 use Rattle.headline_law.proofs.entries.FailedLaws.{within_cases, nothing_within}
-use Rattle.journal_model.proofs.sends.BodyAnswers.{same_message}
 use Rattle.headline_law.proofs.WrongRows.{row_of, lookup, answer, sent_first}
 
 -- the datagram that the one row of a journal sends

@@ -96,6 +96,10 @@ row_within P rows before r all within = after within.later (subst (AllRows P) wi
     after [] h = h.0
     after (x ∷ later) h = after later h.1
 
+-- a row within rows is within more of them
+pub within_more : (x : Row) (rest before : List Row) (r : Row) → Within rest before r → Within (x ∷ rest) before r
+within_more x rest before r within = record { later = x ∷ within.later; whole = ap (λ rows. x ∷ rows) within.whole }
+
 -- what the last note says is said by the last event that says something
 pub said_by : {A : Type 0} (says : Note → Option A) (past : List Event) (x : A) → last_said says past ≡ Some x
     → (e : Event) × (last_event (λ n. is_some (says n)) past ≡ Some e) × (says e.note ≡ Some x)

@@ -1,6 +1,6 @@
 -- A message is spelled by as many octets as its size says; a message of which a part is written is no longer than the whole.
 -- End theorems, for what writes messages: all but `message_size-spelling` and `options_size-most` nothing here cites.
-use Rattle.std.proofs.Common.{◌≡◌, ℕ, ◌+◌, ◌-◌, ◌≤◌, Bool, true, false, cond, nat_lt, List, [], ◌∷◌, ◌++◌, length, refl, sym, ap, subst, ◌∙◌, arith, length-append}
+use Rattle.std.proofs.Common.{◌≡◌, ℕ, ◌+◌, ◌-◌, ◌≤◌, Bool, true, false, cond, nat_lt, List, [], ◌∷◌, ◌++◌, length, refl, ap, ◌∙◌, arith, length-append}
 use Rattle.message_model.specs.declared.messages.Kind4.{Kind4}
 use Rattle.message_model.specs.Message.{Message, Opt, end_number}
 use Rattle.message_model.specs.Spelling.{first_extended, first_long, header_spelling, extension_of, option_spelling, options_spelling, payload_spelling, spelling}

@@ -5,7 +5,6 @@ use Rattle.message_model.specs.Message.{Message}
 use Rattle.message_model.specs.Request.{etags_in}
 use Rattle.history_model.specs.Live.{live}
 use Rattle.history_model.specs.Listing.{tag}
-use Rattle.journal_model.specs.declared.steps.StepKind.TheVariants as step
 use Rattle.journal_model.specs.declared.rows.Row.{Row}
 use Rattle.journal_model.specs.Journal.{entries}
 use Rattle.journal_model.specs.Requests.{asked_block}

@@ -12,6 +12,7 @@ use Rattle.journal_model.specs.Journal.{events, latest}
 use Rattle.journal_model.specs.Rows.{AreRows}
 use Rattle.journal_model.specs.PlacedRows.{Within, admits}
 use Rattle.journal_model.specs.HoldsEachOnce.{EndedWithoutMemory}
+use Rattle.journal_model.proofs.EventRows.{within_more}
 use Rattle.journal_model.proofs.entries.RowLaws.{row-moment_latest}
 use Rattle.journal_model.proofs.entries.JournalLaws.{RowMade, newest_made, each_made, latest-row, latest-before}
 use Rattle.headline_law.proofs.entries.Admissions.{row_admits}
@@ -31,10 +32,6 @@ nothing_within before r within = by within.later within.whole
     by : (later : List Row) → [] ≡ later ++ r ∷ before → ⊥
     by [] whole = absurd cc
     by (y ∷ later) whole = absurd cc
-
--- within more rows
-within_more : (x : Row) (rest before : List Row) (r : Row) → Within rest before r → Within (x ∷ rest) before r
-within_more x rest before r within = record { later = x ∷ within.later; whole = ap (λ rows. x ∷ rows) within.whole }
 
 -- the moment of a row is not above the greatest
 moment-latest : (rows before : List Row) (r : Row) → Within rows before r → r.moment.0 ≤ latest rows

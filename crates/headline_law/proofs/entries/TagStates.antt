@@ -1,5 +1,5 @@
 -- Equal tags at two rows mean one state.
-use Rattle.std.proofs.Common.{◌≡◌, ◌≤◌, List, ◌∷◌, arith, subst, sym}
+use Rattle.std.proofs.Common.{◌≡◌, ◌≤◌, List, ◌∷◌, arith}
 use Rattle.std.proofs.Math.Nat.{max-le, le_refl}
 use Rattle.rd_base.specs.declared.queries.Query.{Query}
 use Rattle.history_model.specs.Live.{live, last_moment}

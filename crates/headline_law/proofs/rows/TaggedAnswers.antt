@@ -22,7 +22,7 @@ use Rattle.journal_model.specs.DeskJournal.{IsDeskJournal}
 use Rattle.journal_model.specs.Requests.{asked_block}
 use Rattle.journal_model.specs.PlacedRows.{Within, Placed, last_row}
 use Rattle.journal_model.specs.BodyFormers.{former_of_body, former_of_kept, former_of_notice, former_noted, former_at}
-use Rattle.journal_model.specs.AnswersAsFormed.{FormedAs, Asked, IsBlockOf, Sent, is_listing}
+use Rattle.journal_model.specs.AnswersAsFormed.{FormedAs, Asked, IsBlockOf, Sent}
 use Rattle.journal_model.specs.TagsDecideStates.{query_of_sent, AreBlocksOfOne, TagsDecideStates, FormedTagsDecideStates}
 use Rattle.journal_model.proofs.entries.JournalLaws.{journal-AreRows, desk-AreRows}
 use Rattle.headline_law.proofs.entries.TagStates.{tags_tell}

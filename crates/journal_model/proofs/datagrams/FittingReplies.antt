@@ -1,5 +1,5 @@
 -- Replies that can be read when they are sent, and fit a datagram: refusals, changes, bodies and 2.03.
-use Rattle.std.proofs.Common.{◌≡◌, ℕ, ◌+◌, ◌^◌, ◌<◌, ◌≤◌, Bool, true, false, cond, List, [], ◌∷◌, ◌++◌, length, Option, Some, None, unwrap_or, option_map, find, codes, decimal, nat_lt, nat_le, Ok, refl, sym, ap, subst, ◌∙◌, arith, length-append}
+use Rattle.std.proofs.Common.{◌≡◌, ℕ, ◌+◌, ◌^◌, ◌<◌, ◌≤◌, Bool, true, false, cond, List, [], ◌∷◌, ◌++◌, length, Option, Some, None, unwrap_or, option_map, find, codes, decimal, nat_lt, nat_le, Ok, refl, subst, arith, length-append}
 use Rattle.std.specs.List.{AllByRecursion}
 use Rattle.std.proofs.lemmas.Bool.{leb-false}
 use Rattle.std.proofs.lemmas.Fmt.{length-decimal-le_wide}
@@ -13,7 +13,7 @@ use Rattle.message_model.specs.declared.requests.Refusal.TheVariants as refused_
 use Rattle.message_model.specs.Codes as codes_of
 use Rattle.message_model.specs.Message.{Message, Opt, longest_token}
 use Rattle.message_model.specs.OptionTable as table
-use Rattle.message_model.specs.Blocks.{block_value, block_of}
+use Rattle.message_model.specs.Blocks.{block_of}
 use Rattle.message_model.specs.Numbers.{uint_bytes}
 use Rattle.message_model.specs.Reading.{reading}
 use Rattle.message_model.specs.Refusals.{refusal_of, refusal_code, refusal_word, link_format}
@@ -28,8 +28,8 @@ use Rattle.history_model.specs.declared.entries.Entry.{Entry}
 use Rattle.history_model.specs.declared.refusals.Refusal.{Refusal}
 use Rattle.history_model.specs.declared.refusals.Refusal.TheVariants as refusal
 use Rattle.history_model.specs.Refusals.{max_entries, refusal_in, change_refusal}
-use Rattle.history_model.specs.Replay.{State, replay, is_live_named, number_named}
-use Rattle.history_model.proofs.Acceptance.{Accepted, accepted}
+use Rattle.history_model.specs.Replay.{replay, is_live_named}
+use Rattle.history_model.proofs.Acceptance.{accepted}
 use Rattle.history_model.proofs.NumberLaws.{IsNumberedUpTo, replay-HasRisingNumbers, last_number-le-length}
 use Rattle.event_model.specs.declared.notes.Note.{Note}
 use Rattle.event_model.specs.declared.notes.Note.TheVariants as note
@@ -41,11 +41,11 @@ use Rattle.journal_model.specs.Effects.{Reply, bare, diagnostic}
 use Rattle.journal_model.specs.Requests.{sent_block, number_of, szx_of, has_bad_query, has_bad_payload, refusal_or_next, refusal_of_request}
 use Rattle.journal_model.specs.Bodies.{block2_option, answered_block, part_reply, body_reply}
 use Rattle.journal_model.specs.Looks.{still_valid}
-use Rattle.journal_model.specs.Changes.{Outcome, refused_as, entered_unless, change_made, BodyRead, bad_body, good_body, links_or_bad, limited_links, body_read, registered_links, registration, created_at, number_after, entry_of_step}
+use Rattle.journal_model.specs.Changes.{Outcome, refused_as, entered_unless, change_made, good_body, links_or_bad, limited_links, body_read, registered_links, registration, created_at, number_after, entry_of_step}
 use Rattle.journal_model.specs.Registrations.{collected_before, is_one_too_many, block1_option, block_taken, block_unless, block_after, block_uploaded, registration_outcome, registering}
 use Rattle.journal_model.specs.SentDatagrams.{IsFitting}
 use Rattle.journal_model.proofs.MessageSizeLaws.{room_for, spelling-most}
-use Rattle.journal_model.proofs.sends.BodyAnswers.{with_reply, uint_bytes-length, block_value-length, options_of, options_in_order, IsShortTag, IsUsable, part_of}
+use Rattle.journal_model.proofs.sends.BodyAnswers.{with_reply, uint_bytes-length, block_value-length, options_of, options_in_order, IsShortTag, part_of}
 use Rattle.record_model.specs.Bodies.{linked_references}
 use Rattle.record_model.specs.Refusals.{first_unlimited}
 use Rattle.rd_base.specs.declared.submitted_links.SubmittedLink.{SubmittedLink}

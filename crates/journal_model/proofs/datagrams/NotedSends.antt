@@ -1,6 +1,6 @@
 -- What notes say of what their row sends: the answer that settles a write is that of its commit; a body that was formed for an observer is sent to it;
 -- and a kept answer has a tag of eight octets.
-use Rattle.std.proofs.Common.{◌≡◌, inl, inr, ℕ, ◌<◌, ◌≤◌, ◌==◌, Bool, true, false, cond, List, [], ◌∷◌, ◌++◌, length, Option, Some, None, codes, nat_lt, nat_le, Result, Ok, Err, refl, sym, ap, subst, ◌∙◌, arith}
+use Rattle.std.proofs.Common.{◌≡◌, inl, inr, ℕ, ◌≤◌, ◌==◌, Bool, true, false, cond, List, [], ◌∷◌, ◌++◌, length, Option, Some, None, codes, nat_le, Result, Ok, Err, refl, sym, ap, subst, ◌∙◌, arith}
 use Rattle.std.specs.List.{AllByRecursion}
 use Rattle.std.proofs.lemmas.Bool.{and_parts, false≢true, ltb-false}
 use Rattle.rd_base.specs.declared.peers.Peer.{Peer}
@@ -8,7 +8,6 @@ use Rattle.rd_base.proofs.lemmas.Among.{Among, among_front}
 use Rattle.rd_base.proofs.lemmas.Each.{each_append, each_weaker}
 use Rattle.message_model.specs.declared.blocks.Block.{Block}
 use Rattle.message_model.specs.declared.messages.Kind4.{Kind4}
-use Rattle.message_model.specs.declared.messages.Kind4.TheVariants.{Con}
 use Rattle.message_model.specs.declared.messages.Role.{Role}
 use Rattle.message_model.specs.declared.messages.Role.TheVariants as role
 use Rattle.message_model.specs.declared.messages.Unread.{Unread}
@@ -17,17 +16,15 @@ use Rattle.message_model.specs.declared.requests.Path.{Path}
 use Rattle.message_model.specs.declared.requests.Path.TheVariants as path
 use Rattle.message_model.specs.Codes as codes_of
 use Rattle.message_model.specs.Message.{Message, role_of, longest_token}
-use Rattle.message_model.specs.Blocks.{reserved_szx, block_of}
+use Rattle.message_model.specs.Blocks.{block_of}
 use Rattle.message_model.specs.Reading.{reading}
 use Rattle.message_model.specs.Request.{path_in, observe_in}
 use Rattle.message_model.specs.RequestKey.{key_in}
 use Rattle.message_model.specs.Spelling.{spelling}
 use Rattle.message_model.proofs.ReadingLaws.{header_read}
-use Rattle.history_model.specs.Listing.{listing, tag}
+use Rattle.history_model.specs.Listing.{tag}
 use Rattle.event_model.specs.declared.notes.Note.{Note}
 use Rattle.event_model.specs.declared.notes.Note.TheVariants as note
-use Rattle.event_model.specs.declared.notes.Observer.{Observer}
-use Rattle.event_model.specs.Same.{RequestName}
 use Rattle.event_model.specs.KeptAnswers.{Answer, kept_answer}
 use Rattle.event_model.specs.Observers.{observers, is_observer, has_room_for, observe_value}
 use Rattle.event_model.specs.Fetches.{max_fetches, fetches, is_fetching}
@@ -56,7 +53,7 @@ use Rattle.journal_model.proofs.notes.ChangeNotes.{change_made-notes, registerin
 use Rattle.journal_model.proofs.notes.SilentSteps.{refusal_notes, unread_notes, looked_notes}
 use Rattle.journal_model.proofs.observers.ObserversKnow.{IsNoTick}
 use Rattle.journal_model.proofs.notes.LookupNotes.{IsAsking, lookup_fits}
-use Rattle.journal_model.proofs.sends.BodyAnswers.{Wanted, wanted_by, IsBodyOf, Bears, same_message, tag-length, IsUsable, szx-usable, request-usable, body_bears, with_reply}
+use Rattle.journal_model.proofs.sends.BodyAnswers.{Wanted, IsBodyOf, Bears, same_message, tag-length, IsUsable, szx-usable, request-usable, body_bears, with_reply}
 use Rattle.journal_model.proofs.sends.ValidSends.{is_confirmable}
 use Rattle.journal_model.proofs.datagrams.FittingReplies.{IsGoodReply, reply_read, reply_fits, good_bare, good_unavailable, good_body_reply, good_change, good_registering}
 use Rattle.journal_model.proofs.datagrams.OwnSends.{answer_unconfirmable, KeepsTag}

@@ -1,11 +1,10 @@
 -- What each step but a tick sends: datagrams that can be read and fit, to the peer of the step; a response among them has the token of the step's request,
 -- or of the write that it repeats, and is not confirmable.
-use Rattle.std.proofs.Common.{◌≡◌, ◌⊎◌, inl, inr, ℕ, ◌+◌, ◌<◌, ◌≤◌, ◌==◌, ◌&&◌, Bool, true, false, cond, List, [], ◌∷◌, ◌++◌, length, Option, Some, None, option_map, codes, nat_lt, nat_le, bytes_eq, is_none, Result, Ok, Err, refl, sym, ap, subst, ◌∙◌, arith}
-use Rattle.std.specs.List.{list_any, AllByRecursion}
+use Rattle.std.proofs.Common.{◌≡◌, ◌⊎◌, inl, ℕ, ◌+◌, ◌<◌, ◌≤◌, ◌==◌, ◌&&◌, Bool, true, false, cond, List, [], ◌∷◌, length, Option, Some, None, option_map, codes, nat_le, bytes_eq, is_none, Result, Ok, Err, refl, sym, ap, subst, ◌∙◌, arith}
+use Rattle.std.specs.List.{AllByRecursion}
 use Rattle.std.proofs.lemmas.Bool.{and_parts, false≢true}
 use Rattle.std.proofs.lemmas.Slice.Eq.{bytes_eq-Decides}
 use Rattle.rd_base.specs.declared.peers.Peer.{Peer}
-use Rattle.rd_base.specs.declared.parameters.RegParams.{RegParams}
 use Rattle.rd_base.proofs.lemmas.Each.{each_append}
 use Rattle.message_model.specs.declared.blocks.Block.{Block}
 use Rattle.message_model.specs.declared.messages.Kind4.{Kind4}
@@ -17,18 +16,16 @@ use Rattle.message_model.specs.declared.messages.Unread.TheVariants as unread
 use Rattle.message_model.specs.declared.requests.Path.{Path}
 use Rattle.message_model.specs.declared.requests.Path.TheVariants as path
 use Rattle.message_model.specs.Codes as codes_of
-use Rattle.message_model.specs.Message.{Message, Opt, role_of, longest_token}
+use Rattle.message_model.specs.Message.{Message, role_of, longest_token}
 use Rattle.message_model.specs.OptionTable.{first_bad_option}
 use Rattle.message_model.specs.Blocks.{block_of}
 use Rattle.message_model.specs.Reading.{reading}
-use Rattle.message_model.specs.Request.{path_in, queries_in, observe_in}
+use Rattle.message_model.specs.Request.{path_in, observe_in}
 use Rattle.message_model.specs.RequestKey.{key_in}
 use Rattle.message_model.specs.Spelling.{header_spelling, spelling}
 use Rattle.message_model.proofs.MessageLaws.{reading_in_order}
 use Rattle.message_model.proofs.ReadingLaws.{header_read}
-use Rattle.message_model.proofs.TailLemmas.{AreInOrder}
 use Rattle.record_model.specs.Discovery.{discovery}
-use Rattle.record_model.specs.Parameters.{registration_values}
 use Rattle.history_model.specs.declared.entries.Entry.{Entry}
 use Rattle.history_model.specs.Listing.{listing, tag}
 use Rattle.event_model.specs.declared.notes.Note.{Note}
@@ -44,16 +41,16 @@ use Rattle.journal_model.specs.declared.steps.StepKind.{StepKind}
 use Rattle.journal_model.specs.declared.steps.StepKind.TheVariants as step
 use Rattle.journal_model.specs.declared.rows.Row.{Row}
 use Rattle.journal_model.specs.Journal.{events, entries}
-use Rattle.journal_model.specs.Effects.{Effects, Reply, bare, diagnostic, answer_kind, answer_mid, answer, answering, without_memory, empty_message, mid_of, drawn_for}
-use Rattle.journal_model.specs.Requests.{refusal_of_request, asked_block, number_of, szx_of, query_of, is_lookup, register, deregister, is_later_block, Method, get, post, put, delete, other_method, method_of}
+use Rattle.journal_model.specs.Effects.{Reply, bare, diagnostic, answer_kind, answer_mid, answer, answering, empty_message, mid_of, drawn_for}
+use Rattle.journal_model.specs.Requests.{refusal_of_request, asked_block, number_of, szx_of, query_of, register, deregister, is_later_block, Method, get, post, put, delete, other_method, method_of}
 use Rattle.journal_model.specs.Bodies.{is_long, body_reply}
-use Rattle.journal_model.specs.Sought.{Sought, listing_of, own_links, sought_at, body, body_tag}
-use Rattle.journal_model.specs.Looks.{Look, answered, held, names_tag, unless_long, unless_valid, found_under, look_for, look, look_sent, look_effects, looked, keep_effects}
+use Rattle.journal_model.specs.Sought.{listing_of, sought_at, body}
+use Rattle.journal_model.specs.Looks.{names_tag, unless_long, unless_valid, look_for, look, look_sent, look_effects, looked, keep_effects}
 use Rattle.journal_model.specs.Lookups.{listing_now, block_now, block_of_kept, later_block, without, observed_if, observed, unobserved, observation_effects, first_block_effects, block_effects, lookup_effects}
 use Rattle.journal_model.specs.Writes.{again_answered, admitted_unless, write_unless, write_effects}
 use Rattle.journal_model.specs.Changes.{Outcome}
 use Rattle.journal_model.specs.Registrations.{registering}
-use Rattle.journal_model.specs.Commits.{settling, updating, removing, fetched_block, fetch_request, simple_unless, on_location, write_done, commit_effects}
+use Rattle.journal_model.specs.Commits.{settling, updating, removing, fetch_request, simple_unless, on_location, write_done, commit_effects}
 use Rattle.journal_model.specs.EmptyMessages.{acknowledged, reset}
 use Rattle.journal_model.specs.Responses.{has_mid_of, is_response_to, answered_request, request_of, fetch_of, strange, acknowledgement, more_follow, block_in, is_elsewhere, ends_fetch, gathering, response_taken, response_to, response_to_request, response_effects}
 use Rattle.journal_model.specs.Rows.{served, refusal_answered, unread_answered, request_answered, message_effects, heard, done, kept_body, effects}

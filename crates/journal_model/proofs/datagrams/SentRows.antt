@@ -1,5 +1,5 @@
 -- What each row sends and notes of that, in rows of steps whose commits are of rows that admitted, and whose keeps have tags of eight octets.
-use Rattle.std.proofs.Common.{◌≡◌, inl, inr, ℕ, ◌==◌, ◌&&◌, ◌||◌, Bool, true, false, cond, List, [], ◌∷◌, ◌++◌, length, Option, Some, None, option_and_then, Result, Ok, Err, refl, sym, ap, subst, ◌∙◌, eqb-true, arith, append_assoc, ◌<◌}
+use Rattle.std.proofs.Common.{◌≡◌, inl, inr, ℕ, ◌==◌, Bool, true, false, cond, List, [], ◌∷◌, ◌++◌, length, Option, Some, None, option_and_then, Ok, refl, sym, ap, subst, ◌∙◌, eqb-true, arith, append_assoc, ◌<◌}
 use Rattle.std.specs.Prelude.{is_some}
 use Rattle.std.specs.List.{list_any, AllByRecursion}
 use Rattle.std.proofs.lemmas.Bool.{and_parts, false≢true, ne_eqb}
@@ -12,7 +12,6 @@ use Rattle.message_model.specs.Message.{Message}
 use Rattle.message_model.specs.Reading.{reading}
 use Rattle.event_model.specs.declared.notes.Note.{Note}
 use Rattle.event_model.specs.declared.notes.Note.TheVariants as note
-use Rattle.event_model.specs.declared.notes.Observer.{Observer}
 use Rattle.event_model.specs.Same.{RequestName, is_same_peer, is_same_request}
 use Rattle.event_model.specs.Events.{Event, last_event, last_said}
 use Rattle.event_model.specs.Repeats.{is_admission_of, is_admitting, is_kept, repeated, answer_noted, settled}
@@ -26,17 +25,16 @@ use Rattle.journal_model.specs.declared.rows.Row.{Row}
 use Rattle.journal_model.specs.Journal.{events, row_at}
 use Rattle.journal_model.specs.Rows.{effects, row_moment, row, AreRows, empty, added}
 use Rattle.journal_model.specs.Ticks.{tick_effects}
-use Rattle.journal_model.specs.PlacedRows.{Within, Placed, Commits, admits}
+use Rattle.journal_model.specs.PlacedRows.{Within, Placed, Commits}
 use Rattle.journal_model.specs.HoldsEachOnce.{AdmittedAt}
-use Rattle.journal_model.specs.SentDatagrams.{is_response, AnswersRequest, AnswersRepeat}
-use Rattle.journal_model.proofs.EventRows.{AllRows, RowOf, row_of, row_within, said_by}
+use Rattle.journal_model.specs.SentDatagrams.{AnswersRequest, AnswersRepeat}
+use Rattle.journal_model.proofs.EventRows.{AllRows, RowOf, row_of, row_within, within_more, said_by}
 use Rattle.journal_model.proofs.RowEquations.{effects-Tick, row-step}
-use Rattle.journal_model.proofs.entries.JournalLaws.{RowMade, each_made}
-use Rattle.journal_model.proofs.desks.OpenAdmissions.{OwnAdmission, row-OwnAdmission}
+use Rattle.journal_model.proofs.entries.CommitPlaces.{AtPlace, at_place, own_of}
+use Rattle.journal_model.proofs.desks.OpenAdmissions.{OwnAdmission}
 use Rattle.journal_model.proofs.notes.LookupNotes.{IsAsking, OfWatched, observers_all}
 use Rattle.journal_model.proofs.flights.NoticesAgain.{events_after_again, stood}
 use Rattle.journal_model.proofs.sends.BodyAnswers.{same_message}
-use Rattle.journal_model.proofs.sends.ValidSends.{is_confirmable}
 use Rattle.journal_model.proofs.datagrams.OwnSends.{IsOwn, KnownBefore, KeepsTag, effects_own}
 use Rattle.journal_model.proofs.datagrams.NotedSends.{SettledBy, NoteFact, NoteFacts, effects_facts}
 use Rattle.journal_model.proofs.datagrams.TickedSends.{IsTicked, IsResendable, Resendable, TickSends, tick_sends}
@@ -82,20 +80,6 @@ at_length (x ∷ later) before r = rw (ne_eqb (length before) (length (later ++ 
 within_at : (rows before : List Row) (r : Row) → Within rows before r → row_at (length before) rows ≡ Some r
 within_at rows before r within = subst (λ (all : List Row). row_at (length before) all ≡ Some r) (sym within.whole) (at_length within.later before r)
 
--- a row at a place stands among the rows
-record Standing (rows : List Row) (r : Row) : Type 0 where
-  before : List Row
-  within : Within rows before r
-
-standing_at : (place : ℕ) (rows : List Row) (r : Row) → row_at place rows ≡ Some r → Standing rows r
-unfolding row_at
-standing_at place [] r found = absurd (let h : None ≡ Some r = found in cc)
-standing_at place (x ∷ rest) r found = by (place == length rest) found (λ h. standing_at place rest r h)
-  where
-    by : (b : Bool) → cond b (Some x) (row_at place rest) ≡ Some r → (row_at place rest ≡ Some r → Standing rest r) → Standing (x ∷ rest) r
-    by true is more = record { before = rest; within = record { later = []; whole = ap (λ (y : Row). y ∷ rest) (same_Some x r is) } }
-    by false is more = let it : Standing rest r = more is in record { before = it.before; within = record { later = x ∷ it.within.later; whole = ap (λ (all : List Row). x ∷ all) it.within.whole } }
-
 -- a row within rows before a row of them is within them
 within_through : (rows before deeper : List Row) (r other : Row) → Within rows before r → Within before deeper other → Within rows deeper other
 within_through rows before deeper r other outer inner =
@@ -106,7 +90,7 @@ within_through rows before deeper r other outer inner =
 -- what earlier rows sent can be sent again
 resendable : (rows : List Row) → AllRows RowSent rows → Resendable rows
 resendable rows all place r at =
-    let it : Standing rows r = standing_at place rows r at in
+    let it : AtPlace rows place r = at_place place rows r at in
     let sent : RowSent it.before r = row_within RowSent rows it.before r all it.within in
     by r.step.kind it.before sent.sent
   where
@@ -189,12 +173,6 @@ last_admission moment peer mid rows first e = by (last_event (is_admission_of pe
         → last_event (is_admission_of peer mid) (events rows) ≡ Some first
     by None h g = absurd (let no : None ≡ Some first = g in cc)
     by (Some a) h g = one (is_kept moment (events rows) a) a h g
-
--- what a row of a step admits is its own
-own_of : (rows before : List Row) (r : Row) → AreRows rows → Within rows before r → list_any is_admitting r.notes ≡ true → OwnAdmission r
-own_of rows before r all within some =
-    let it : RowMade before r = each_made rows before r all within in
-    subst OwnAdmission (sym it.is) (row-OwnAdmission before it.step it.starved (subst (λ (x : Row). list_any is_admitting x.notes ≡ true) it.is some))
 
 -- an admission of a peer and a Message ID is one
 admits_some : (peer : Peer) (mid : ℕ) (n : Note) → is_admission_of peer mid n ≡ true → is_admitting n ≡ true
@@ -330,10 +308,6 @@ asking_row rows r sends all =
     by : (n : Note) → NoteFact r.step.kind r.step r.sent n → OfWatched IsAsking n
     by (note.Watched o) h = h
     by _ h = tt
-
--- within more rows
-within_more : (x : Row) (rest before : List Row) (r : Row) → Within rest before r → Within (x ∷ rest) before r
-within_more x rest before r within = record { later = x ∷ within.later; whole = ap (λ rows. x ∷ rows) within.whole }
 
 -- all rows
 pub rows_sent : (rows : List Row) → AreRows rows → CommitsPlaced rows → KeepsTags rows → AllSent rows

@@ -1,10 +1,9 @@
 -- What a tick sends: datagrams that can be read and fit; each response among them is a 2.05; and each body that it notes as formed is sent.
-use Rattle.std.proofs.Common.{◌≡◌, ℕ, ◌+◌, ◌<◌, ◌≤◌, ◌==◌, ◌||◌, Bool, true, false, cond, List, [], ◌∷◌, ◌++◌, length, fold, Option, Some, None, nat_lt, nat_le, Ok, refl, sym, ap, subst, ◌∙◌, arith}
+use Rattle.std.proofs.Common.{◌≡◌, ℕ, ◌+◌, ◌<◌, ◌==◌, ◌||◌, Bool, true, false, cond, List, [], ◌∷◌, ◌++◌, length, fold, Option, Some, None, nat_le, Ok, refl, subst, arith}
 use Rattle.std.specs.List.{AllByRecursion}
 use Rattle.std.proofs.lemmas.Bool.{false≢true}
 use Rattle.rd_base.specs.declared.peers.Peer.{Peer}
 use Rattle.rd_base.proofs.lemmas.Each.{each_append}
-use Rattle.message_model.specs.declared.blocks.Block.{Block}
 use Rattle.message_model.specs.declared.messages.Kind4.TheVariants.{Con}
 use Rattle.message_model.specs.Codes as codes_of
 use Rattle.message_model.specs.Message.{Message}
@@ -16,7 +15,6 @@ use Rattle.event_model.specs.declared.notes.Note.{Note}
 use Rattle.event_model.specs.declared.notes.Note.TheVariants as note
 use Rattle.event_model.specs.declared.notes.Observer.{Observer}
 use Rattle.event_model.specs.Events.{Event}
-use Rattle.event_model.specs.KeptAnswers.{Answer}
 use Rattle.event_model.specs.Observers.{name_of, observers, observe_value, last_body_formed}
 use Rattle.event_model.specs.Flights.{Flight, max_again, deadline, flight}
 use Rattle.event_model.specs.Fetches.{Request, fetches, last_request, request_noted, is_waiting, resendings, fetch_deadline}
@@ -24,21 +22,21 @@ use Rattle.journal_model.specs.declared.steps.Step.{Step}
 use Rattle.journal_model.specs.declared.steps.StepKind.TheVariants as step
 use Rattle.journal_model.specs.declared.rows.Row.{Row}
 use Rattle.journal_model.specs.Journal.{events, entries, row_at}
-use Rattle.journal_model.specs.Effects.{Effects, Reply, mid_of}
+use Rattle.journal_model.specs.Effects.{Effects, mid_of}
 use Rattle.journal_model.specs.Requests.{szx_of, number_of}
 use Rattle.journal_model.specs.Bodies.{is_long, part_reply, body_reply}
-use Rattle.journal_model.specs.Ticks.{confirmable_sent, sent_again, each_of, notice_again, flight_again, notices_again, Ticking, ticking, events_with, first_block, block_shown, is_unchanged, noticed_unless, listing_for, noticed_if, is_looked_at, notice_next, notices, request_again, fetch_again, requests_again, tick_effects}
+use Rattle.journal_model.specs.Ticks.{confirmable_sent, sent_again, notice_again, flight_again, notices_again, Ticking, ticking, events_with, first_block, block_shown, is_unchanged, noticed_unless, listing_for, noticed_if, is_looked_at, notice_next, notices, request_again, fetch_again, requests_again, tick_effects}
 use Rattle.journal_model.specs.SentDatagrams.{IsFitting, is_response}
 use Rattle.journal_model.specs.AnswersAsFormed.{is_content}
-use Rattle.journal_model.proofs.NoteKinds.{of_again, of_resent, are}
+use Rattle.journal_model.proofs.NoteKinds.{of_again, of_resent}
 use Rattle.journal_model.proofs.StepNotes.{notices_again-notes, requests_again-notes}
 use Rattle.journal_model.proofs.notes.LookupNotes.{IsAsking}
 use Rattle.journal_model.proofs.flights.NoticesAgain.{events_after_again}
 use Rattle.journal_model.proofs.sends.BodyAnswers.{wanted_by_observer, same_message, tag-length, notice_bears, with_reply}
 use Rattle.journal_model.proofs.sends.ValidSends.{is_confirmable}
-use Rattle.journal_model.proofs.sends.TickSends.{FoundSent, sent_by-FoundSent, confirmable_of, each_of_sent, again_sent}
-use Rattle.journal_model.proofs.datagrams.FittingReplies.{IsGoodReply, reply_read, reply_fits, good_body_reply}
-use Rattle.journal_model.proofs.datagrams.NotedSends.{FirstSent, NoteFact, NoteFacts, first_before, first_after, facts_before, facts_after, is_telling, quiet_facts, first_from}
+use Rattle.journal_model.proofs.sends.TickSends.{sent_by-FoundSent, confirmable_of, each_of_sent, again_sent}
+use Rattle.journal_model.proofs.datagrams.FittingReplies.{reply_read, reply_fits, good_body_reply}
+use Rattle.journal_model.proofs.datagrams.NotedSends.{FirstSent, NoteFact, NoteFacts, facts_before, facts_after, is_telling, quiet_facts, first_from}
 
 -- a datagram of a tick
 pub record IsTicked (d : Peer × List ℕ) : Type 0 where

@@ -10,7 +10,6 @@ use Rattle.message_model.specs.declared.messages.Role.TheVariants as role
 use Rattle.message_model.specs.declared.messages.Unread.{Unread}
 use Rattle.message_model.specs.declared.requests.Path.{Path}
 use Rattle.message_model.specs.declared.requests.Path.TheVariants as path
-use Rattle.message_model.specs.Codes as codes_of
 use Rattle.message_model.specs.Message.{Message, role_of}
 use Rattle.message_model.specs.OptionTable.{first_bad_option}
 use Rattle.message_model.specs.Reading.{reading}

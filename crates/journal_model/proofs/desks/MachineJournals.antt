@@ -1,11 +1,8 @@
 -- A journal of the machine is one of a desk, where what is handed in with each step is as a desk wants it.
-use Rattle.std.proofs.Common.{◌≡◌, ℕ, ◌==◌, Bool, true, false, cond, List, [], ◌∷◌, length, Option, Some, None, Result, Ok, Err, refl, sym, ap, subst, ◌∙◌, eqb-true, arith}
+use Rattle.std.proofs.Common.{◌≡◌, ℕ, ◌==◌, Bool, true, false, cond, List, [], ◌∷◌, length, Option, Some, None, refl, sym, ap, subst, ◌∙◌, eqb-true, arith}
 use Rattle.std.specs.List.{list_any}
 use Rattle.std.proofs.lemmas.Bool.{false≢true, ne_eqb}
-use Rattle.rd_base.specs.declared.peers.Peer.{Peer}
 use Rattle.rd_base.proofs.lemmas.Numbers.{eqb-refl}
-use Rattle.message_model.specs.declared.messages.Unread.{Unread}
-use Rattle.message_model.specs.Message.{Message}
 use Rattle.message_model.specs.Reading.{reading}
 use Rattle.event_model.specs.declared.notes.Note.{Note}
 use Rattle.event_model.specs.declared.notes.Note.TheVariants as note

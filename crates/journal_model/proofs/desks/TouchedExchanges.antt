@@ -5,7 +5,6 @@ use Rattle.std.proofs.lemmas.Bool.{false≢true}
 use Rattle.rd_base.proofs.lemmas.Numbers.{eqb-refl}
 use Rattle.message_model.specs.declared.requests.Path.{Path}
 use Rattle.message_model.specs.declared.requests.Path.TheVariants as path
-use Rattle.message_model.specs.Codes as codes_of
 use Rattle.message_model.specs.Message.{Message}
 use Rattle.message_model.specs.Reading.{reading}
 use Rattle.message_model.specs.Request.{path_in}

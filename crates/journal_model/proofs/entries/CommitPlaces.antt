@@ -1,9 +1,7 @@
 -- A commit is of a row that admitted its own write, by the same worker and with the same datagram of the same peer: in journals of the machine, and in those of desks.
-use Rattle.std.proofs.Common.{◌≡◌, ℕ, ◌==◌, Bool, true, false, cond, List, [], ◌∷◌, length, Option, Some, None, Result, Ok, Err, refl, sym, ap, subst, ◌∙◌, eqb-true}
+use Rattle.std.proofs.Common.{◌≡◌, ℕ, ◌==◌, Bool, true, false, cond, List, [], ◌∷◌, length, Option, Some, None, Ok, refl, sym, ap, subst, ◌∙◌, eqb-true}
 use Rattle.std.specs.List.{list_any}
-use Rattle.rd_base.specs.declared.peers.Peer.{Peer}
 use Rattle.rd_base.proofs.lemmas.Numbers.{eqb-refl}
-use Rattle.message_model.specs.declared.messages.Unread.{Unread}
 use Rattle.message_model.specs.Message.{Message}
 use Rattle.message_model.specs.Reading.{reading}
 use Rattle.event_model.specs.declared.notes.Note.{Note}
@@ -19,6 +17,7 @@ use Rattle.journal_model.specs.DeskJournal.{IsOpenFor, CommitsOpen, IsDeskJourna
 use Rattle.journal_model.specs.Machine.{is_look_datagram, Job, write_job, keep_job, job_after, job_of, MayBegin, hears, goes, ticks, IsJournal}
 use Rattle.journal_model.specs.PlacedRows.{Within, Commits, admits}
 use Rattle.journal_model.specs.HoldsEachOnce.{AdmittedAt}
+use Rattle.journal_model.proofs.EventRows.{within_more}
 use Rattle.journal_model.proofs.entries.JournalLaws.{Made, each_row, RowMade, each_made, journal-AreRows, desk-AreRows}
 use Rattle.journal_model.proofs.desks.OpenAdmissions.{OwnAdmission, row-OwnAdmission, OpenAdmission, commit-IsOpen}
 use Rattle.event_model.specs.AdmissionOrder.{IsOpen}
@@ -44,7 +43,7 @@ from_more : (r : Row) (rows : List Row) (worker place : ℕ) (job : Job) → Job
 from_more r rows worker place job it = record {
   before = it.before;
   row = it.row;
-  within = record { later = r ∷ it.within.later; whole = ap (λ (all : List Row). r ∷ all) it.within.whole };
+  within = within_more r rows it.before it.row it.within;
   place_is = it.place_is;
   admitted = it.admitted;
   worker_is = it.worker_is;
@@ -98,7 +97,7 @@ job_from worker (r ∷ before) place job e commits = by (r.step.worker == worker
     by false other h more = from_more r before worker place job (more h)
 
 -- what a row of a step admits is its own
-own_of : (rows before : List Row) (r : Row) → AreRows rows → Within rows before r → list_any is_admitting r.notes ≡ true → OwnAdmission r
+pub own_of : (rows before : List Row) (r : Row) → AreRows rows → Within rows before r → list_any is_admitting r.notes ≡ true → OwnAdmission r
 own_of rows before r all within some =
     let it : RowMade before r = each_made rows before r all within in
     subst OwnAdmission (sym it.is) (row-OwnAdmission before it.step it.starved (subst (λ (x : Row). list_any is_admitting x.notes ≡ true) it.is some))
@@ -142,12 +141,12 @@ journal-place rows before r place journal within commits =
 -- ---- journals of desks
 
 -- the row at a place stands among the rows, after so many
-record AtPlace (rows : List Row) (place : ℕ) (r : Row) : Type 0 where
-  before : List Row
-  within : Within rows before r
-  place_is : length before ≡ place
+pub record AtPlace (rows : List Row) (place : ℕ) (r : Row) : Type 0 where
+  pub before : List Row
+  pub within : Within rows before r
+  pub place_is : length before ≡ place
 
-at_place : (place : ℕ) (rows : List Row) (r : Row) → row_at place rows ≡ Some r → AtPlace rows place r
+pub at_place : (place : ℕ) (rows : List Row) (r : Row) → row_at place rows ≡ Some r → AtPlace rows place r
 unfolding row_at
 at_place place [] r found = absurd (let h : None ≡ Some r = found in cc)
 at_place place (x ∷ rest) r found = by (place == length rest) refl found (λ h. at_place place rest r h)
@@ -158,7 +157,7 @@ at_place place (x ∷ rest) r found = by (place == length rest) refl found (λ h
         record { before = rest; within = record { later = []; whole = ap (λ (y : Row). y ∷ rest) same }; place_is = sym (eqb-true place (length rest) at) }
     by false at is more =
         let it : AtPlace rest place r = more is in
-        record { before = it.before; within = record { later = x ∷ it.within.later; whole = ap (λ (all : List Row). x ∷ all) it.within.whole }; place_is = it.place_is }
+        record { before = it.before; within = within_more x rest it.before r it.within; place_is = it.place_is }
 
 -- a commit of an open admission is of a row that admitted its own write
 open_admitted : (rows : List Row) (s : Step) (place : ℕ) → AreRows rows → IsOpenFor s place rows → AdmittedAt rows place s

@@ -2,7 +2,7 @@
 use Rattle.std.proofs.Common.{◌≡◌, ℕ, List, [], ◌∷◌, refl}
 use Rattle.message_model.specs.declared.messages.Kind4.TheVariants.{Ack, Rst}
 use Rattle.message_model.specs.Codes as codes_of
-use Rattle.message_model.specs.Message.{Message, Opt}
+use Rattle.message_model.specs.Message.{Message}
 use Rattle.message_model.specs.OptionTable as table
 use Rattle.journal_model.specs.Effects.{empty_message}
 use Rattle.journal_model.specs.MessageSizes.{extension_size, message_size}

@@ -11,7 +11,6 @@ use Rattle.history_model.specs.ChangedParts.{is_other_part, is_lapse_of}
 use Rattle.history_model.specs.Replay.{replay, numbered, number_about}
 use Rattle.history_model.specs.Live.{live}
 use Rattle.history_model.specs.Refusals.{change_refusal}
-use Rattle.event_model.specs.declared.notes.Note.{Note}
 use Rattle.event_model.specs.declared.notes.Observer.{Observer}
 use Rattle.event_model.specs.Observers.{name_of, observers}
 use Rattle.event_model.specs.Due.{Transition, is_looking_for, is_due}

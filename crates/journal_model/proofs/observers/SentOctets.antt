@@ -1,6 +1,6 @@
 -- The octets of messages that wait: what earlier rows sent is as before with one row more, so notices in flight and requests of fetches show the same octets.
 -- End theorems, for what keeps the observers and the fetches of a journal: nothing here cites them.
-use Rattle.std.proofs.Common.{◌≡◌, ℕ, ◌<◌, ◌&&◌, Bool, true, false, cond, List, [], ◌∷◌, length, map, find, filter_map, Option, Some, None, option_map, option_and_then, unwrap_or, refl, sym, ap, ap₂, ◌∙◌, arith}
+use Rattle.std.proofs.Common.{◌≡◌, ℕ, ◌<◌, ◌&&◌, Bool, true, false, cond, List, [], ◌∷◌, length, map, find, filter_map, Option, Some, None, option_map, option_and_then, unwrap_or, refl, ap, ap₂, arith}
 use Rattle.std.specs.List.{cons_option}
 use Rattle.std.proofs.lemmas.Bool.{ne_eqb}
 use Rattle.std.proofs.lemmas.Option.{same_Some}
@@ -10,7 +10,7 @@ use Rattle.event_model.specs.declared.notes.Observer.{Observer}
 use Rattle.event_model.specs.Same.{is_same_peer}
 use Rattle.event_model.specs.Events.{Event, has_event, last_event, events_since}
 use Rattle.event_model.specs.Observers.{name_of, observers}
-use Rattle.event_model.specs.Flights.{OctetsSent, is_forming_for, notice_mid, is_landing_of, Flight, flight_after, flight, waiting_notice}
+use Rattle.event_model.specs.Flights.{is_forming_for, notice_mid, is_landing_of, Flight, flight_after, flight, waiting_notice}
 use Rattle.event_model.specs.Due.{Transition, Watching, watching, observers_standing}
 use Rattle.event_model.specs.Fetches.{Request, Fetch, is_request_to, request_noted, last_request, fetches, fetch_asked, fetch_of, fetches_running}
 use Rattle.event_model.proofs.FlightLaws.{waiting_notice-octets}
