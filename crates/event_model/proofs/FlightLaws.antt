@@ -1,5 +1,5 @@
 -- The notice in flight to an observer with one event more, by what that notes: it is formed, sent again, acknowledged, or left as it is.
--- End theorems, for what keeps the events of a journal: nothing here cites them.
+-- Those of observers that are added or removed, of the notes of a row, and of octets are end theorems, for what keeps the events of a journal: nothing here cites them.
 use Rattle.std.proofs.Common.{◌≡◌, ℕ, ◌+◌, ◌*◌, ◌^◌, suc, Bool, true, false, ◌||◌, cond, List, [], ◌∷◌, length, filter, Option, Some, None, option_map, option_and_then, refl, sym, ap, ◌∙◌, arith, mul_assoc}
 use Rattle.std.specs.List.{list_any}
 use Rattle.std.proofs.Math.Nat.{pow-suc}

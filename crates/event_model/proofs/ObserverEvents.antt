@@ -1,5 +1,5 @@
 -- Who observes with one event more, or with the notes of a row: one is added, one is removed, or none of it.
--- End theorems, for what keeps the events of a journal: nothing here cites them.
+-- Those of the notes of a row are end theorems, for what keeps the events of a journal: nothing here cites them.
 use Rattle.std.proofs.Common.{◌≡◌, ℕ, Bool, true, false, not, ◌||◌, cond, List, [], ◌∷◌, ◌++◌, filter, refl, sym, ap, ◌∙◌, append-nil}
 use Rattle.std.specs.List.{list_any}
 use Rattle.std.proofs.lemmas.Bool.{false≢true}

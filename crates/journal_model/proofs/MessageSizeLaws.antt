@@ -1,5 +1,5 @@
 -- A message is spelled by as many octets as its size says; a message of which a part is written is no longer than the whole.
--- End theorems, for what writes messages: all but `message_size-spelling` and `options_size-most` nothing here cites.
+-- `options_size-append` and `message_size-begun` are end theorems, for what writes messages: nothing here cites them.
 use Rattle.std.proofs.Common.{◌≡◌, ℕ, ◌+◌, ◌-◌, ◌≤◌, Bool, true, false, cond, nat_lt, List, [], ◌∷◌, ◌++◌, length, refl, ap, ◌∙◌, arith, length-append}
 use Rattle.message_model.specs.declared.messages.Kind4.{Kind4}
 use Rattle.message_model.specs.Message.{Message, Opt, end_number}

@@ -1,6 +1,6 @@
 -- Who is due after a row, by the marks of a desk: where a record lapses meanwhile that gives lines to a query, and where the record that an entry is about
 -- gives other lines after it than before. Together these marks are exactly the change of the row's transition.
--- End theorems, for what keeps the observers of a journal: nothing here cites them.
+-- End theorems, for what keeps the observers of a journal: nothing else here cites them.
 use Rattle.std.proofs.Common.{◌≡◌, ℕ, ◌≤◌, Bool, true, false, not, ◌||◌, cond, List, [], ◌∷◌, ◌++◌, length, None, refl, sym, ap, subst, ◌∙◌, append-nil, arith}
 use Rattle.std.specs.List.{list_any, AllByRecursion, IsAmong}
 use Rattle.std.proofs.lemmas.List.Folds.{list_any-append}
