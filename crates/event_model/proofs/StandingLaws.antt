@@ -1,16 +1,15 @@
 -- What a table of observers shows with one event more, by its note: one is added or removed, one gets a body or is found to know it, or what waits for one changes.
 -- End theorems, for what keeps the observers of a journal: nothing here cites them.
-use Rattle.std.proofs.Common.{◌≡◌, ℕ, ◌≤◌, Bool, true, false, not, ◌||◌, cond, List, [], ◌∷◌, ◌++◌, map, filter, Option, Some, None, option_map, option_and_then, refl, sym, ap, ap₂, ◌∙◌}
-use Rattle.std.specs.List.{list_any, AllByRecursion}
+use Rattle.std.proofs.Common.{◌≡◌, ℕ, ◌≤◌, Bool, true, false, not, ◌||◌, cond, List, [], ◌∷◌, ◌++◌, map, filter, Option, Some, option_map, option_and_then, refl, ap, ap₂, ◌∙◌}
+use Rattle.std.specs.List.{AllByRecursion}
 use Rattle.rd_base.specs.declared.peers.Peer.{Peer}
-use Rattle.event_model.specs.declared.notes.Note.{Note}
 use Rattle.event_model.specs.declared.notes.Note.TheVariants as note
 use Rattle.event_model.specs.declared.notes.Observer.{Observer}
 use Rattle.event_model.specs.Same.{RequestName, is_same_request}
 use Rattle.event_model.specs.Events.{Event, last_said}
 use Rattle.event_model.specs.Observers.{name_of, observers, last_body_formed}
 use Rattle.event_model.specs.Flights.{Sent, OctetsSent, is_landing_of, is_again_of, waiting_notice}
-use Rattle.event_model.specs.Due.{Transition, is_looking_for, is_due, Watching, watching, observers_standing}
+use Rattle.event_model.specs.Due.{Transition, Watching, watching, observers_standing}
 use Rattle.event_model.proofs.NotedLaws.{event_at}
 use Rattle.event_model.proofs.DueLaws.{due_quiet, due_looked}
 use Rattle.event_model.proofs.ObserverEvents.{without_named, observers-Watched, observers-Unwatched, observers-quiet}

@@ -11,7 +11,9 @@ use Rattle.rd_base.proofs.lemmas.Among.{all_at_index}
 use Rattle.message_model.specs.declared.messages.Unread.{Unread}
 use Rattle.message_model.specs.declared.messages.Unread.TheVariants as unread
 use Rattle.message_model.specs.Codes as codes_of
-use Rattle.message_model.specs.Message.{Message}
+use Rattle.message_model.specs.declared.messages.Kind4.TheVariants.{Ack}
+use Rattle.message_model.specs.declared.messages.Role.TheVariants as role
+use Rattle.message_model.specs.Message.{Message, role_of}
 use Rattle.message_model.specs.Reading.{reading}
 use Rattle.message_model.specs.Spelling.{spelling}
 use Rattle.message_model.proofs.OnLiterals.{messages_on_literals}
@@ -22,6 +24,7 @@ use Rattle.event_model.proofs.ManyObservers.{peer}
 use Rattle.journal_model.specs.declared.steps.StepKind.TheVariants as step
 use Rattle.journal_model.specs.declared.rows.Row.{Row}
 use Rattle.journal_model.specs.Journal.{events}
+use Rattle.journal_model.specs.Effects.{empty_message}
 use Rattle.journal_model.specs.Requests.{asked_block}
 use Rattle.journal_model.specs.HoldsEachOnce.{AdmittedAt}
 use Rattle.journal_model.specs.AnswersAsFormed.{IsBlockOf}
@@ -127,6 +130,27 @@ under_another_falls h =
 
     other : (m : Message) → lookup ≡ m → 194 ∷ [] ≡ m.token → ⊥
     other m is e = different (ap head (e ∙ sym (ap (λ (x : Message). x.token) is)))
+
+-- a response to what is no request: an acknowledgement is answered
+abbrev unasked : Row
+unasked = row_of step.Admit (spelling (empty_message Ack 16)) false ((peer 1, spelling (refusal [])) ∷ []) []
+
+-- An end theorem: nothing here cites it.
+pub unasked_falls : Headline (unasked ∷ []) → ⊥
+unfolding messages_on_literals
+unasked_falls h =
+    let it : IsAnswer (record { row = unasked; before = [] }) (peer 1) (refusal []) =
+    h.sends.addressed (sent_first unasked (peer 1) (spelling (refusal [])) (refusal []) [] refl refl) refl in
+    elim it.answers [
+      | inl request ↦ other request.request (same (empty_message Ack 16) request.request (let read : reading (spelling (empty_message Ack 16)) ≡ Ok request.request = request.read in read)) request.asks
+      | inr repeat ↦ nothing_within repeat.first.before repeat.first.row repeat.within
+    ]
+  where
+    same : (m n : Message) → ◌≡◌ {A = Result Message Unread} (Ok m) (Ok n) → m ≡ n
+    same m n e = cc
+
+    other : (m : Message) → empty_message Ack 16 ≡ m → role_of m.kind m.code ≡ role.Request → ⊥
+    other m is asks = let no : role.Acknowledgement ≡ role.Request = ap (λ (x : Message). role_of x.kind x.code) is ∙ asks in absurd cc
 
 -- a tick sends what is no 2.05
 abbrev tick_refuses : Row

@@ -116,7 +116,7 @@ pub record EndedWithoutMemory (rows : List Row) (place : ℕ) : Type 0 where
   pub failed : list_any (is_failure_of place) row.notes ≡ true
   pub sent : code_sent row.sent ≡ codes_of.internal_server_error
 
--- the row at a place admitted its own write: that of its peer, with the Message ID of the message in its datagram;
+-- the row at a place admitted its own write: that of its peer, with the Message ID of the request in its datagram;
 -- and its worker, peer and datagram are those of a later step
 pub record AdmittedAt (rows : List Row) (place : ℕ) (s : Step) : Type 0 where
   pub before : List Row
@@ -125,6 +125,7 @@ pub record AdmittedAt (rows : List Row) (place : ℕ) (s : Step) : Type 0 where
   pub place_is : length before ≡ place
   pub message : Message
   pub read : reading row.step.datagram ≡ Ok message
+  pub asks : role_of message.kind message.code ≡ role.Request
   pub admitted : admits row.step.peer message.mid row ≡ true
   pub worker : row.step.worker ≡ s.worker
   pub from_peer : row.step.peer ≡ s.peer

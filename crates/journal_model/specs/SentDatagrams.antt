@@ -45,16 +45,18 @@ is_response_role role.Ignored = false
 abbrev pub is_response : Message → Bool
 is_response m = is_response_role (role_of m.kind m.code)
 
--- a response has the token of the request in the datagram of a step
+-- the datagram of a step is a request, and a response has its token
 pub record AnswersRequest (s : Step) (m : Message) : Type 0 where
   pub request : Message
   pub read : reading s.datagram ≡ Ok request
+  pub asks : role_of request.kind request.code ≡ role.Request
   pub token : m.token ≡ request.token
 
--- the datagram of a step is a write that comes again: an earlier row admitted one of the same peer with the same Message ID. A response has the token of that one
+-- the datagram of a step is a request that comes again: an earlier row admitted one of the same peer with the same Message ID. A response has the token of that one
 pub record AnswersRepeat (before : List Row) (s : Step) (m : Message) : Type 0 where
   pub again : Message
   pub read : reading s.datagram ≡ Ok again
+  pub asks : role_of again.kind again.code ≡ role.Request
   pub first : Placed
   pub within : Within before first.before first.row
   pub request : Message

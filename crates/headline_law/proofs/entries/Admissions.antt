@@ -75,7 +75,7 @@ effects_admit kind starved rows moment s peer mid = by (effects kind starved row
   where
     by : (ns : List Note) → StepNoted kind starved rows moment s ns → Admits rows moment peer mid ns
     by ns (noted.nothing blank) = nothing_noted rows moment peer mid ns blank
-    by ns (noted.write m here read is) = subst (Admits rows moment peer mid) (sym is) (write_admits rows moment s m peer mid)
+    by ns (noted.write m here read asks is) = subst (Admits rows moment peer mid) (sym is) (write_admits rows moment s m peer mid)
     by ns (noted.lookup m here read at is) = never_of of_lookup (λ p n. refl) rows moment peer mid ns (ap (are of_lookup) is ∙ lookup_effects-notes rows moment s m)
     by ns (noted.empty here all) = never_of of_empty (λ p n. refl) rows moment peer mid ns all
     by ns (noted.response m here read responds is) = never_of of_response (λ p n. refl) rows moment peer mid ns (ap (are of_response) is ∙ response_effects-notes rows moment s m)

@@ -242,7 +242,7 @@ step_enters starved rows moment s ns it = by it
 
     by : StepNoted s.kind starved rows moment s ns → AllEnter P ns
     by (noted.nothing blank) = none_enter P ns (ap entries_in blank)
-    by (noted.write m here read is) = none_enter P ns (ap entries_in is ∙ write_effects-entries_in (events rows) moment s m)
+    by (noted.write m here read asks is) = none_enter P ns (ap entries_in is ∙ write_effects-entries_in (events rows) moment s m)
     by (noted.lookup m here read at is) = none_enter P ns (ap entries_in is ∙ lookup_effects-entries_in rows moment s m)
     by (noted.empty here all) = none_enter P ns (empty-entries_in ns all)
     by (noted.response m here read responds is) = subst (AllEnter P) (sym is) (response_enters rows moment s m P

@@ -54,7 +54,7 @@ commit_of_failure kind starved rows moment s place ns it h = by it
 
     by : StepNoted kind starved rows moment s ns → kind ≡ step.Commit place
     by (noted.nothing blank) = no (ap (fails place) blank)
-    by (noted.write m here read is) = no (never_of of_write (λ p. refl) place ns (ap (are of_write) is ∙ write_effects-notes (events rows) moment s m))
+    by (noted.write m here read asks is) = no (never_of of_write (λ p. refl) place ns (ap (are of_write) is ∙ write_effects-notes (events rows) moment s m))
     by (noted.lookup m here read at is) = no (never_of of_lookup (λ p. refl) place ns (ap (are of_lookup) is ∙ lookup_effects-notes rows moment s m))
     by (noted.empty here all) = no (never_of of_empty (λ p. refl) place ns all)
     by (noted.response m here read responds is) = no (never_of of_response (λ p. refl) place ns (ap (are of_response) is ∙ response_effects-notes rows moment s m))

@@ -4,7 +4,8 @@ use Rattle.std.specs.Prelude.{is_none, option_map}
 use Rattle.std.specs.List.{AllByRecursion}
 use Rattle.std.proofs.lemmas.Bool.{and_parts}
 use Rattle.rd_base.specs.declared.peers.Peer.{Peer}
-use Rattle.message_model.specs.Message.{Message}
+use Rattle.message_model.specs.declared.messages.Role.TheVariants as role
+use Rattle.message_model.specs.Message.{Message, role_of}
 use Rattle.message_model.specs.Reading.{reading}
 use Rattle.message_model.specs.RequestKey.{key_in}
 use Rattle.history_model.specs.Listing.{listing, tag}
@@ -100,6 +101,7 @@ pub record KeepOf (rows : List Row) (worker : ℕ) (m : Message) (body current :
   pub found : look_of worker rows ≡ Some look
   pub is_kept : KeptAt (entries (look.row ∷ look.before)) look.row.moment.0 (key_in m) body current
   pub query_is : is_kept.query ≡ query_of m
+  pub asks : role_of m.kind m.code ≡ role.Request
 
 -- a row of a look notes nothing, and its datagram is that of a look
 record LookRow (before : List Row) (r : Row) : Type 0 where
@@ -138,6 +140,7 @@ keep_of rows s m body current journal may kind read = record {
     tag_is = parts.1 ∙ ap (λ history. tag history held.look.row.moment.0) (sym same_entries);
   };
   query_is = refl;
+  asks = subst (λ (x : Message). role_of x.kind x.code ≡ role.Request) (same_message looks_at.message m held.look.row.step.datagram looks_at.read_is same_read) looks_at.asks;
 }
   where
     job : Job

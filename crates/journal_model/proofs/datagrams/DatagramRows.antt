@@ -19,7 +19,7 @@ use Rattle.journal_model.proofs.observers.ObserversKnow.{IsNoTick}
 use Rattle.journal_model.proofs.datagrams.OwnSends.{IsOwn}
 use Rattle.journal_model.proofs.datagrams.NotedSends.{FirstSent, NoteFact}
 use Rattle.journal_model.proofs.datagrams.TickedSends.{IsTicked}
-use Rattle.journal_model.proofs.datagrams.SentRows.{IsSentBy, RowSent, AllSent, KeepsTags, rows_sent}
+use Rattle.journal_model.proofs.datagrams.SentRows.{IsSentBy, RowSent, AllSent, AreForRequests, rows_sent}
 
 -- ---- rows of which each datagram is known
 
@@ -74,20 +74,20 @@ sent-content rows all it tick responds =
 
 -- ---- journals of desks
 
--- what each row of a journal of a desk sends, where each keep has a tag of eight octets: so it can be read and fits, and what is noted as formed is sent
-desk_sent : (rows : List Row) → IsDeskJournal rows → KeepsTags rows → AllSent rows
-desk_sent rows journal tags = rows_sent rows (desk-AreRows rows journal) (λ before r place within commits. desk-place rows before r place journal within commits) tags
+-- what each row of a journal of a desk sends, where each look, commit and keep is made for a request, and each keep has a tag of eight octets: so it can be read and fits, and what is noted as formed is sent
+desk_sent : (rows : List Row) → IsDeskJournal rows → AreForRequests rows → AllSent rows
+desk_sent rows journal requests = rows_sent rows (desk-AreRows rows journal) (λ before r place within commits. desk-place rows before r place journal within commits) requests
 
 -- End theorems: nothing here cites them.
-pub desk-fitting : (rows : List Row) → IsDeskJournal rows → KeepsTags rows → (datagram : Datagram rows) → IsFitting datagram.octets
-desk-fitting rows journal tags datagram = sent-fitting rows (desk_sent rows journal tags) datagram
+pub desk-fitting : (rows : List Row) → IsDeskJournal rows → AreForRequests rows → (datagram : Datagram rows) → IsFitting datagram.octets
+desk-fitting rows journal requests datagram = sent-fitting rows (desk_sent rows journal requests) datagram
 
-pub desk-formed : (rows : List Row) → IsDeskJournal rows → KeepsTags rows → (before : List Row) (r : Row) (peer : Peer) (token body : List ℕ) (mid : Option ℕ) → Within rows before r
+pub desk-formed : (rows : List Row) → IsDeskJournal rows → AreForRequests rows → (before : List Row) (r : Row) (peer : Peer) (token body : List ℕ) (mid : Option ℕ) → Within rows before r
     → IsAmong r.notes (note.Formed peer token body mid) → SendsFirst r peer token body
-desk-formed rows journal tags before r peer token body mid within among = sent-formed rows (desk_sent rows journal tags) before r peer token body mid within among
+desk-formed rows journal requests before r peer token body mid within among = sent-formed rows (desk_sent rows journal requests) before r peer token body mid within among
 
-pub desk-answer : (rows : List Row) → IsDeskJournal rows → KeepsTags rows → (it : Sent rows) → IsNoTick it.here.row.step.kind → is_response it.message ≡ true → IsAnswer it.here it.peer it.message
-desk-answer rows journal tags it no_tick responds = sent-answer rows (desk_sent rows journal tags) it no_tick responds
+pub desk-answer : (rows : List Row) → IsDeskJournal rows → AreForRequests rows → (it : Sent rows) → IsNoTick it.here.row.step.kind → is_response it.message ≡ true → IsAnswer it.here it.peer it.message
+desk-answer rows journal requests it no_tick responds = sent-answer rows (desk_sent rows journal requests) it no_tick responds
 
-pub desk-content : (rows : List Row) → IsDeskJournal rows → KeepsTags rows → (it : Sent rows) → it.here.row.step.kind ≡ step.Tick → is_response it.message ≡ true → is_content it.message ≡ true
-desk-content rows journal tags it tick responds = sent-content rows (desk_sent rows journal tags) it tick responds
+pub desk-content : (rows : List Row) → IsDeskJournal rows → AreForRequests rows → (it : Sent rows) → it.here.row.step.kind ≡ step.Tick → is_response it.message ≡ true → is_content it.message ≡ true
+desk-content rows journal requests it tick responds = sent-content rows (desk_sent rows journal requests) it tick responds

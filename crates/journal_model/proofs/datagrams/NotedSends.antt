@@ -56,7 +56,7 @@ use Rattle.journal_model.proofs.notes.LookupNotes.{IsAsking, lookup_fits}
 use Rattle.journal_model.proofs.sends.BodyAnswers.{Wanted, IsBodyOf, Bears, same_message, tag-length, IsUsable, szx-usable, request-usable, body_bears, with_reply}
 use Rattle.journal_model.proofs.sends.ValidSends.{is_confirmable}
 use Rattle.journal_model.proofs.datagrams.FittingReplies.{IsGoodReply, reply_read, reply_fits, good_bare, good_unavailable, good_body_reply, good_change, good_registering}
-use Rattle.journal_model.proofs.datagrams.OwnSends.{answer_unconfirmable, KeepsTag}
+use Rattle.journal_model.proofs.datagrams.OwnSends.{answer_unconfirmable, IsForRequest}
 
 -- octets that settle the write of a place: its commit answers it so
 pub record SettledBy (kind : StepKind) (s : Step) (place : ℕ) (octets : List ℕ) : Type 0 where
@@ -255,13 +255,14 @@ never_tells (note.Formed peer token body mid) h = absurd (false≢true h)
 never_tells _ h = refl
 
 -- an answer settles its write
-settled_by : (place : ℕ) (s : Step) (m : Message) (reply : Reply) → reading s.datagram ≡ Ok m → IsGoodReply reply → SettledBy (step.Commit place) s place (spelling (answer s m reply))
-settled_by place s m reply read good = record {
+settled_by : (place : ℕ) (s : Step) (m : Message) (reply : Reply) → reading s.datagram ≡ Ok m → role_of m.kind m.code ≡ role.Request → IsGoodReply reply → SettledBy (step.Commit place) s place (spelling (answer s m reply))
+settled_by place s m reply read asks good = record {
   commits = refl;
   fits = reply_fits (answer_kind m.kind) (answer_mid s m m.kind) m.token reply small good;
   answers = λ n e responds. record {
     request = m;
     read = read;
+    asks = asks;
     token = ap (λ (x : Message). x.token) (sym (same_message (answer s m reply) n (spelling (answer s m reply)) (reply_read (answer_kind m.kind) (answer_mid s m m.kind) m.token reply small good) e));
   };
   unconfirmable = answer_unconfirmable s m reply;
@@ -270,15 +271,15 @@ settled_by place s m reply read good = record {
     small : length m.token ≤ longest_token
     small = (header_read s.datagram m read).token
 
-pub commit_facts : (rows : List Row) (moment place : ℕ) (s : Step) (m : Message) → reading s.datagram ≡ Ok m
+pub commit_facts : (rows : List Row) (moment place : ℕ) (s : Step) (m : Message) → reading s.datagram ≡ Ok m → role_of m.kind m.code ≡ role.Request
     → NoteFacts (step.Commit place) s (commit_effects rows moment place s m).sent (commit_effects rows moment place s m).notes
 unfolding commit_effects answering
-commit_facts rows moment place s m read = by (path_in m)
+commit_facts rows moment place s m read asks = by (path_in m)
   where
     outcome : (o : Outcome) → IsGoodReply o.reply → are of_change o.notes ≡ true → NoteFacts (step.Commit place) s (settling place s m o).sent (settling place s m o).notes
     outcome o good notes =
         each_append (NoteFact (step.Commit place) s (settling place s m o).sent) o.notes (note.Settled place (spelling (answer s m o.reply)) ∷ [])
-        (quiet_facts of_change never_tells (step.Commit place) s (settling place s m o).sent o.notes notes) (settled_by place s m o.reply read good, tt)
+        (quiet_facts of_change never_tells (step.Commit place) s (settling place s m o).sent o.notes notes) (settled_by place s m o.reply read asks good, tt)
 
     changed_reply : IsGoodReply (bare codes_of.changed)
     changed_reply = good_bare codes_of.changed refl (λ e. absurd (omega (arith, e)))
@@ -287,9 +288,9 @@ commit_facts rows moment place s m read = by (path_in m)
     deleted_reply = good_bare codes_of.deleted refl (λ e. absurd (omega (arith, e)))
 
     simple : (running too_many : Bool) → NoteFacts (step.Commit place) s (simple_unless running too_many (events rows) place s m).sent (simple_unless running too_many (events rows) place s m).notes
-    simple true too_many = (settled_by place s m (diagnostic codes_of.service_unavailable (codes "fetching")) read (good_unavailable (codes "fetching") (omega arith)), tt)
-    simple false true = (settled_by place s m (diagnostic codes_of.service_unavailable (codes "fetches")) read (good_unavailable (codes "fetches") (omega arith)), tt)
-    simple false false = (settled_by place s m (bare codes_of.changed) read changed_reply, (tt, tt))
+    simple true too_many = (settled_by place s m (diagnostic codes_of.service_unavailable (codes "fetching")) read asks (good_unavailable (codes "fetching") (omega arith)), tt)
+    simple false true = (settled_by place s m (diagnostic codes_of.service_unavailable (codes "fetches")) read asks (good_unavailable (codes "fetches") (omega arith)), tt)
+    simple false false = (settled_by place s m (bare codes_of.changed) read asks changed_reply, (tt, tt))
 
     removes : (number : ℕ) → NoteFacts (step.Commit place) s (settling place s m (removing rows moment s number)).sent (settling place s m (removing rows moment s number)).notes
     removes number = outcome (removing rows moment s number) (good_change (entries rows) _ _ (λ e. deleted_reply)) (change_made-notes of_change (λ entry. refl) (entries rows) _ _ refl)
@@ -375,27 +376,27 @@ role_facts role.Response false rows moment s m read =
 role_facts role.Ignored starved rows moment s m read = tt
 
 -- any step but a tick
-pub effects_facts : (kind : StepKind) (starved : Bool) (rows : List Row) (moment : ℕ) (s : Step) → IsNoTick kind → ((m : Message) → reading s.datagram ≡ Ok m → KeepsTag kind)
+pub effects_facts : (kind : StepKind) (starved : Bool) (rows : List Row) (moment : ℕ) (s : Step) → IsNoTick kind → ((m : Message) → reading s.datagram ≡ Ok m → IsForRequest kind m)
     → NoteFacts kind s (effects kind starved rows moment s).sent (effects kind starved rows moment s).notes
 unfolding effects keep_effects answering
-effects_facts step.Admit starved rows moment s no_tick tagged = by (reading s.datagram) refl
+effects_facts step.Admit starved rows moment s no_tick fair = by (reading s.datagram) refl
   where
     by : (read : Result Message Unread) → reading s.datagram ≡ read → NoteFacts step.Admit s (heard starved rows moment s read).sent (heard starved rows moment s read).notes
     by (Err fault) e = no_facts step.Admit s (unread_answered s fault).sent (unread_answered s fault).notes (unread_notes s fault)
     by (Ok m) e = role_facts (role_of m.kind m.code) starved rows moment s m e
-effects_facts step.Look starved rows moment s no_tick tagged =
+effects_facts step.Look starved rows moment s no_tick fair =
     no_facts step.Look s (looked starved (entries rows) moment s (reading s.datagram)).sent (looked starved (entries rows) moment s (reading s.datagram)).notes
     (looked_notes starved (entries rows) moment s (reading s.datagram))
-effects_facts (step.Commit place) starved rows moment s no_tick tagged = by starved (reading s.datagram) refl
+effects_facts (step.Commit place) starved rows moment s no_tick fair = by starved (reading s.datagram) refl
   where
     by : (b : Bool) (read : Result Message Unread) → reading s.datagram ≡ read → NoteFacts (step.Commit place) s (done b rows moment place s read).sent (done b rows moment place s read).notes
     by b (Err fault) e = tt
     by true (Ok m) e = (tt, tt)
-    by false (Ok m) e = commit_facts rows moment place s m e
-effects_facts (step.Keep body current) starved rows moment s no_tick tagged = by starved (reading s.datagram) refl
+    by false (Ok m) e = commit_facts rows moment place s m e (fair m e)
+effects_facts (step.Keep body current) starved rows moment s no_tick fair = by starved (reading s.datagram) refl
   where
     by : (b : Bool) (read : Result Message Unread) → reading s.datagram ≡ read → NoteFacts (step.Keep body current) s (kept_body b s read body current).sent (kept_body b s read body current).notes
     by b (Err fault) e = tt
     by true (Ok m) e = tt
-    by false (Ok m) e = (tagged m e, tt)
-effects_facts step.Tick starved rows moment s no_tick tagged = absurd no_tick
+    by false (Ok m) e = ((fair m e).1, tt)
+effects_facts step.Tick starved rows moment s no_tick fair = absurd no_tick

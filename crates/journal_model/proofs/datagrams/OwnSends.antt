@@ -80,13 +80,14 @@ unfolding spelling header_spelling
 answer_unconfirmable s m reply = answer_apart m.kind (length m.token)
 
 -- an answer
-pub own_answer : (rows : List Row) (s : Step) (m : Message) (reply : Reply) → reading s.datagram ≡ Ok m → IsGoodReply reply → IsOwn rows s (s.peer, spelling (answer s m reply))
-own_answer rows s m reply read good = record {
+pub own_answer : (rows : List Row) (s : Step) (m : Message) (reply : Reply) → reading s.datagram ≡ Ok m → role_of m.kind m.code ≡ role.Request → IsGoodReply reply → IsOwn rows s (s.peer, spelling (answer s m reply))
+own_answer rows s m reply read asks good = record {
   fits = reply_fits (answer_kind m.kind) (answer_mid s m m.kind) m.token reply small good;
   to = refl;
   answers = λ n e responds. inl (record {
     request = m;
     read = read;
+    asks = asks;
     token = ap (λ (x : Message). x.token) (sym (same_message (answer s m reply) n (spelling (answer s m reply)) (reply_read (answer_kind m.kind) (answer_mid s m m.kind) m.token reply small good) e));
   });
   confirmable = λ n e con. absurd (false≢true (sym (answer_unconfirmable s m reply) ∙ con));
@@ -96,9 +97,9 @@ own_answer rows s m reply read good = record {
     small = (header_read s.datagram m read).token
 
 -- alone
-pub own_answering : (rows : List Row) (s : Step) (m : Message) (reply : Reply) (notes : List Note) → reading s.datagram ≡ Ok m → IsGoodReply reply → AreOwn rows s (answering s m reply notes).sent
+pub own_answering : (rows : List Row) (s : Step) (m : Message) (reply : Reply) (notes : List Note) → reading s.datagram ≡ Ok m → role_of m.kind m.code ≡ role.Request → IsGoodReply reply → AreOwn rows s (answering s m reply notes).sent
 unfolding answering
-own_answering rows s m reply notes read good = (own_answer rows s m reply read good, tt)
+own_answering rows s m reply notes read asks good = (own_answer rows s m reply read asks good, tt)
 
 -- a message that is no response
 own_other : (rows : List Row) (s : Step) (m : Message) → reading (spelling m) ≡ Ok m → length (spelling m) ≤ 1_280 → is_response m ≡ false → IsOwn rows s (s.peer, spelling m)
@@ -142,23 +143,23 @@ own_request rows s mid token b small = by b
 
 -- the answer that a repeat gets is one of its step, and a kept answer has a tag of eight octets
 pub record KnownBefore (rows : List Row) : Type 0 where
-  pub repeats : (s : Step) (m : Message) (moment : ℕ) (first : Event) (octets : List ℕ) → reading s.datagram ≡ Ok m → repeated moment s.peer m.mid (events rows) ≡ Some first → settled first.place (events rows) ≡ Some octets
+  pub repeats : (s : Step) (m : Message) (moment : ℕ) (first : Event) (octets : List ℕ) → reading s.datagram ≡ Ok m → role_of m.kind m.code ≡ role.Request → repeated moment s.peer m.mid (events rows) ≡ Some first → settled first.place (events rows) ≡ Some octets
       → IsOwn rows s (s.peer, octets)
   pub kept : (moment : ℕ) (name : RequestName) (found : Answer) → kept_answer moment name (events rows) ≡ Some found → length found.tag ≡ 8
 
 -- ---- steps
 
 -- a write as it is heard
-write_own : (rows : List Row) (moment : ℕ) (s : Step) (m : Message) → KnownBefore rows → reading s.datagram ≡ Ok m → AreOwn rows s (write_effects (events rows) moment s m).sent
+write_own : (rows : List Row) (moment : ℕ) (s : Step) (m : Message) → KnownBefore rows → reading s.datagram ≡ Ok m → role_of m.kind m.code ≡ role.Request → AreOwn rows s (write_effects (events rows) moment s m).sent
 unfolding write_effects
-write_own rows moment s m past read = by (repeated moment s.peer m.mid (events rows)) refl
+write_own rows moment s m past read asks = by (repeated moment s.peer m.mid (events rows)) refl
   where
     again : (first : Event) → repeated moment s.peer m.mid (events rows) ≡ Some first → (octets : Option (List ℕ)) → settled first.place (events rows) ≡ octets → AreOwn rows s (again_answered s octets).sent
     again first found None e = tt
-    again first found (Some octets) e = (past.repeats s m moment first octets read found e, tt)
+    again first found (Some octets) e = (past.repeats s m moment first octets read asks found e, tt)
 
     full : (b : Bool) → AreOwn rows s (admitted_unless b s m).sent
-    full true = own_answering rows s m (diagnostic codes_of.service_unavailable (codes "exchanges")) [] read (good_unavailable (codes "exchanges") (omega arith))
+    full true = own_answering rows s m (diagnostic codes_of.service_unavailable (codes "exchanges")) [] read asks (good_unavailable (codes "exchanges") (omega arith))
     full false = tt
 
     by : (first : Option Event) → repeated moment s.peer m.mid (events rows) ≡ first → AreOwn rows s (write_unless first (events rows) moment s m).sent
@@ -170,23 +171,23 @@ usable : (m : Message) → szx_of (asked_block m) < 7
 usable m = szx-usable (asked_block m) (request-usable m)
 
 -- a look
-look_own : (rows : List Row) (history : List Entry) (moment : ℕ) (s : Step) (m : Message) → reading s.datagram ≡ Ok m → AreOwn rows s (look_effects history moment s m).sent
+look_own : (rows : List Row) (history : List Entry) (moment : ℕ) (s : Step) (m : Message) → reading s.datagram ≡ Ok m → role_of m.kind m.code ≡ role.Request → AreOwn rows s (look_effects history moment s m).sent
 unfolding look_effects look
-look_own rows history moment s m read = by (path_in m)
+look_own rows history moment s m read asks = by (path_in m)
   where
     long : (b : Bool) (found : Answer) → length found.tag ≡ 8 → AreOwn rows s (look_sent s m (Some (unless_long b m found))).sent
     long true found short = tt
-    long false found short = own_answering rows s m (body_reply (Some found.tag) None (asked_block m) found.body) [] read (good_body_reply (Some found.tag) None (asked_block m) found.body short (usable m))
+    long false found short = own_answering rows s m (body_reply (Some found.tag) None (asked_block m) found.body) [] read asks (good_body_reply (Some found.tag) None (asked_block m) found.body short (usable m))
 
     valid : (b : Bool) (found : Answer) → length found.tag ≡ 8 → AreOwn rows s (look_sent s m (Some (unless_valid b m found))).sent
-    valid true found short = own_answering rows s m _ [] read (good_valid found.tag short)
+    valid true found short = own_answering rows s m _ [] read asks (good_valid found.tag short)
     valid false found short = long (is_long (asked_block m) found.body) found short
 
     lists : AreOwn rows s (look_sent s m (Some (look_for history moment m (listing_of (query_of m))))).sent
     lists = valid (names_tag (tag history moment) m) (record { body = listing (query_of m) history moment; tag = tag history moment }) (tag-length history moment)
 
     by : (p : Path) → AreOwn rows s (look_sent s m (option_map (look_for history moment m) (sought_at p (query_of m)))).sent
-    by path.Core = own_answering rows s m (body_reply None None (asked_block m) (discovery (query_of m))) [] read (good_body_reply None None (asked_block m) (discovery (query_of m)) tt (usable m))
+    by path.Core = own_answering rows s m (body_reply None None (asked_block m) (discovery (query_of m))) [] read asks (good_body_reply None None (asked_block m) (discovery (query_of m)) tt (usable m))
     by path.SimpleRd = tt
     by path.Rd = tt
     by (path.Location number) = tt
@@ -195,9 +196,9 @@ look_own rows history moment s m read = by (path_in m)
     by path.Other = tt
 
 -- a lookup that the journal takes part in
-lookup_own : (rows : List Row) (moment : ℕ) (s : Step) (m : Message) → KnownBefore rows → reading s.datagram ≡ Ok m → AreOwn rows s (lookup_effects rows moment s m).sent
+lookup_own : (rows : List Row) (moment : ℕ) (s : Step) (m : Message) → KnownBefore rows → reading s.datagram ≡ Ok m → role_of m.kind m.code ≡ role.Request → AreOwn rows s (lookup_effects rows moment s m).sent
 unfolding lookup_effects later_block observed unobserved
-lookup_own rows moment s m past read = by (is_later_block m)
+lookup_own rows moment s m past read asks = by (is_later_block m)
   where
     now : Answer
     now = listing_now rows moment m
@@ -206,26 +207,26 @@ lookup_own rows moment s m past read = by (is_later_block m)
     short = tag-length (entries rows) moment
 
     now_block : (part : Option (List ℕ × Bool)) → block_of (listing_now rows moment m).body (number_of (asked_block m)) (szx_of (asked_block m)) ≡ part → AreOwn rows s (block_now s m (listing_now rows moment m) part).sent
-    now_block None cut = own_answering rows s m _ [] read (good_part_reply (Some (tag (entries rows) moment)) None (asked_block m) (listing_now rows moment m).body None short (usable m) cut)
-    now_block (Some part) cut = own_answering rows s m _ _ read (good_part_reply (Some (tag (entries rows) moment)) None (asked_block m) (listing_now rows moment m).body (Some part) short (usable m) cut)
+    now_block None cut = own_answering rows s m _ [] read asks (good_part_reply (Some (tag (entries rows) moment)) None (asked_block m) (listing_now rows moment m).body None short (usable m) cut)
+    now_block (Some part) cut = own_answering rows s m _ _ read asks (good_part_reply (Some (tag (entries rows) moment)) None (asked_block m) (listing_now rows moment m).body (Some part) short (usable m) cut)
 
     later : (found : Option Answer) → kept_answer moment (s.peer, key_in m) (events rows) ≡ found → AreOwn rows s (block_of_kept s m (listing_now rows moment m) found).sent
-    later (Some found) e = own_answering rows s m (body_reply (Some found.tag) None (asked_block m) found.body) _ read (good_body_reply (Some found.tag) None (asked_block m) found.body (past.kept moment (s.peer, key_in m) found e) (usable m))
+    later (Some found) e = own_answering rows s m (body_reply (Some found.tag) None (asked_block m) found.body) _ read asks (good_body_reply (Some found.tag) None (asked_block m) found.body (past.kept moment (s.peer, key_in m) found e) (usable m))
     later None e = now_block (block_of (listing_now rows moment m).body (number_of (asked_block m)) (szx_of (asked_block m))) refl
 
     with_value : (b : Bool) → AreOwn rows s (observed_if b rows s m (listing_now rows moment m)).sent
-    with_value true = own_answering rows s m (body_reply (Some (tag (entries rows) moment)) (Some (observe_value (events rows))) (asked_block m) (listing_now rows moment m).body) _ read
+    with_value true = own_answering rows s m (body_reply (Some (tag (entries rows) moment)) (Some (observe_value (events rows))) (asked_block m) (listing_now rows moment m).body) _ read asks
         (good_body_reply (Some (tag (entries rows) moment)) (Some (observe_value (events rows))) (asked_block m) (listing_now rows moment m).body short (usable m))
-    with_value false = own_answering rows s m (body_reply (Some (tag (entries rows) moment)) None (asked_block m) (listing_now rows moment m).body) _ read
+    with_value false = own_answering rows s m (body_reply (Some (tag (entries rows) moment)) None (asked_block m) (listing_now rows moment m).body) _ read asks
         (good_body_reply (Some (tag (entries rows) moment)) None (asked_block m) (listing_now rows moment m).body short (usable m))
 
     valued : (b c : Bool) → AreOwn rows s (observation_effects b c rows moment s m).sent
     valued true c = with_value (has_room_for (query_of m) (without (s.peer, m.token) (observers (events rows))))
     valued false true = with_value false
-    valued false false = look_own rows (entries rows) moment s m read
+    valued false false = look_own rows (entries rows) moment s m read asks
 
     observe : (o : Option ℕ) → AreOwn rows s (first_block_effects o rows moment s m).sent
-    observe None = look_own rows (entries rows) moment s m read
+    observe None = look_own rows (entries rows) moment s m read asks
     observe (Some value) = valued (value == register) (value == deregister)
 
     by : (b : Bool) → AreOwn rows s (block_effects b rows moment s m).sent
@@ -233,24 +234,24 @@ lookup_own rows moment s m past read = by (is_later_block m)
     by false = observe (observe_in m)
 
 -- a request that is heard
-request_own : (rows : List Row) (moment : ℕ) (s : Step) (m : Message) → KnownBefore rows → reading s.datagram ≡ Ok m → AreOwn rows s (request_answered (refusal_of_request m) rows moment s m).sent
+request_own : (rows : List Row) (moment : ℕ) (s : Step) (m : Message) → KnownBefore rows → reading s.datagram ≡ Ok m → role_of m.kind m.code ≡ role.Request → AreOwn rows s (request_answered (refusal_of_request m) rows moment s m).sent
 unfolding served
-request_own rows moment s m past read = by (refusal_of_request m) refl
+request_own rows moment s m past read asks = by (refusal_of_request m) refl
   where
     refused : (kind : Kind4) (bad : Option ℕ) (reply : Reply) → IsGoodReply reply → AreOwn rows s (refusal_answered kind bad s m reply).sent
     refused Non (Some number) reply good = tt
-    refused Non None reply good = own_answering rows s m reply [] read good
-    refused Con bad reply good = own_answering rows s m reply [] read good
-    refused Ack bad reply good = own_answering rows s m reply [] read good
-    refused Rst bad reply good = own_answering rows s m reply [] read good
+    refused Non None reply good = own_answering rows s m reply [] read asks good
+    refused Con bad reply good = own_answering rows s m reply [] read asks good
+    refused Ack bad reply good = own_answering rows s m reply [] read asks good
+    refused Rst bad reply good = own_answering rows s m reply [] read asks good
 
     on : (p : Path) → AreOwn rows s (served p rows moment s m).sent
-    on path.Core = look_own rows (entries rows) moment s m read
-    on path.Res = lookup_own rows moment s m past read
-    on path.Ep = lookup_own rows moment s m past read
-    on path.SimpleRd = write_own rows moment s m past read
-    on path.Rd = write_own rows moment s m past read
-    on (path.Location number) = write_own rows moment s m past read
+    on path.Core = look_own rows (entries rows) moment s m read asks
+    on path.Res = lookup_own rows moment s m past read asks
+    on path.Ep = lookup_own rows moment s m past read asks
+    on path.SimpleRd = write_own rows moment s m past read asks
+    on path.Rd = write_own rows moment s m past read asks
+    on (path.Location number) = write_own rows moment s m past read asks
     on path.Other = tt
 
     by : (refusal : Option Reply) → refusal_of_request m ≡ refusal → AreOwn rows s (request_answered refusal rows moment s m).sent
@@ -263,9 +264,9 @@ unfolding next_token
 next_short past = omega arith
 
 -- a commit of a write
-commit_own : (rows : List Row) (moment place : ℕ) (s : Step) (m : Message) → reading s.datagram ≡ Ok m → AreOwn rows s (commit_effects rows moment place s m).sent
+commit_own : (rows : List Row) (moment place : ℕ) (s : Step) (m : Message) → reading s.datagram ≡ Ok m → role_of m.kind m.code ≡ role.Request → AreOwn rows s (commit_effects rows moment place s m).sent
 unfolding commit_effects answering
-commit_own rows moment place s m read = by (path_in m)
+commit_own rows moment place s m read asks = by (path_in m)
   where
     changed_reply : IsGoodReply (bare codes_of.changed)
     changed_reply = good_bare codes_of.changed refl (λ e. absurd (omega (arith, e)))
@@ -274,12 +275,12 @@ commit_own rows moment place s m read = by (path_in m)
     deleted_reply = good_bare codes_of.deleted refl (λ e. absurd (omega (arith, e)))
 
     outcome : (o : Outcome) → IsGoodReply o.reply → AreOwn rows s (settling place s m o).sent
-    outcome o good = (own_answer rows s m o.reply read good, tt)
+    outcome o good = (own_answer rows s m o.reply read asks good, tt)
 
     simple : (running too_many : Bool) → AreOwn rows s (simple_unless running too_many (events rows) place s m).sent
-    simple true too_many = (own_answer rows s m (diagnostic codes_of.service_unavailable (codes "fetching")) read (good_unavailable (codes "fetching") (omega arith)), tt)
-    simple false true = (own_answer rows s m (diagnostic codes_of.service_unavailable (codes "fetches")) read (good_unavailable (codes "fetches") (omega arith)), tt)
-    simple false false = (own_answer rows s m (bare codes_of.changed) read changed_reply, (own_request rows s (mid_of s.worker (s.drawn + drawn_for m.kind)) (next_token (events rows)) None (next_short (events rows)), tt))
+    simple true too_many = (own_answer rows s m (diagnostic codes_of.service_unavailable (codes "fetching")) read asks (good_unavailable (codes "fetching") (omega arith)), tt)
+    simple false true = (own_answer rows s m (diagnostic codes_of.service_unavailable (codes "fetches")) read asks (good_unavailable (codes "fetches") (omega arith)), tt)
+    simple false false = (own_answer rows s m (bare codes_of.changed) read asks changed_reply, (own_request rows s (mid_of s.worker (s.drawn + drawn_for m.kind)) (next_token (events rows)) None (next_short (events rows)), tt))
 
     removes : (number : ℕ) → AreOwn rows s (settling place s m (removing rows moment s number)).sent
     removes number = outcome (removing rows moment s number) (good_change (entries rows) _ _ (λ e. deleted_reply))
@@ -357,16 +358,16 @@ response_own rows moment s m read = by (fetch_of s m (events rows)) refl
         (ends_fetch m (gathered s.peer (events rows)) (length (collected s.peer (events rows)))) request (subst (λ (t : List ℕ). length t ≤ 8) same token))
 
 -- a message that is heard
-role_own : (r : Role) (starved : Bool) (rows : List Row) (moment : ℕ) (s : Step) (m : Message) → KnownBefore rows → reading s.datagram ≡ Ok m → AreOwn rows s (message_effects r starved rows moment s m).sent
+role_own : (r : Role) (starved : Bool) (rows : List Row) (moment : ℕ) (s : Step) (m : Message) → KnownBefore rows → reading s.datagram ≡ Ok m → role_of m.kind m.code ≡ r → AreOwn rows s (message_effects r starved rows moment s m).sent
 unfolding acknowledged reset
-role_own role.Ping starved rows moment s m past read = (own_reset rows s m.mid, tt)
-role_own role.Acknowledgement starved rows moment s m past read = tt
-role_own role.Reset starved rows moment s m past read = tt
-role_own role.Request true rows moment s m past read = own_answering rows s m (bare codes_of.internal_server_error) [] read good_starved
-role_own role.Request false rows moment s m past read = request_own rows moment s m past read
-role_own role.Response true rows moment s m past read = tt
-role_own role.Response false rows moment s m past read = response_own rows moment s m read
-role_own role.Ignored starved rows moment s m past read = tt
+role_own role.Ping starved rows moment s m past read is = (own_reset rows s m.mid, tt)
+role_own role.Acknowledgement starved rows moment s m past read is = tt
+role_own role.Reset starved rows moment s m past read is = tt
+role_own role.Request true rows moment s m past read is = own_answering rows s m (bare codes_of.internal_server_error) [] read is good_starved
+role_own role.Request false rows moment s m past read is = request_own rows moment s m past read is
+role_own role.Response true rows moment s m past read is = tt
+role_own role.Response false rows moment s m past read is = response_own rows moment s m read
+role_own role.Ignored starved rows moment s m past read is = tt
 
 -- what is no message
 unread_own : (rows : List Row) (s : Step) (fault : Unread) → AreOwn rows s (unread_answered s fault).sent
@@ -377,35 +378,38 @@ unread_own rows s (unread.Format Non mid) = tt
 unread_own rows s (unread.Format Ack mid) = tt
 unread_own rows s (unread.Format Rst mid) = tt
 
--- a keep has a tag of eight octets
-abbrev pub KeepsTag : StepKind → Type 0
-KeepsTag (step.Keep body current) = length current ≡ 8
-KeepsTag _ = Unit {0}
+-- a step that answers what it does not hear first is made for a request, the message in its datagram; and a keep has a tag of eight octets
+abbrev pub IsForRequest : StepKind → Message → Type 0
+IsForRequest step.Admit m = Unit {0}
+IsForRequest step.Look m = role_of m.kind m.code ≡ role.Request
+IsForRequest (step.Commit place) m = role_of m.kind m.code ≡ role.Request
+IsForRequest (step.Keep body current) m = (role_of m.kind m.code ≡ role.Request) × (length current ≡ 8)
+IsForRequest step.Tick m = Unit {0}
 
 -- any step but a tick
-pub effects_own : (kind : StepKind) (starved : Bool) (rows : List Row) (moment : ℕ) (s : Step) → IsNoTick kind → ((m : Message) → reading s.datagram ≡ Ok m → KeepsTag kind) → KnownBefore rows → AreOwn rows s (effects kind starved rows moment s).sent
+pub effects_own : (kind : StepKind) (starved : Bool) (rows : List Row) (moment : ℕ) (s : Step) → IsNoTick kind → ((m : Message) → reading s.datagram ≡ Ok m → IsForRequest kind m) → KnownBefore rows → AreOwn rows s (effects kind starved rows moment s).sent
 unfolding effects keep_effects
-effects_own step.Admit starved rows moment s no_tick tagged past = by (reading s.datagram) refl
+effects_own step.Admit starved rows moment s no_tick fair past = by (reading s.datagram) refl
   where
     by : (read : Result Message Unread) → reading s.datagram ≡ read → AreOwn rows s (heard starved rows moment s read).sent
     by (Err fault) e = unread_own rows s fault
-    by (Ok m) e = role_own (role_of m.kind m.code) starved rows moment s m past e
-effects_own step.Look starved rows moment s no_tick tagged past = by starved (reading s.datagram) refl
+    by (Ok m) e = role_own (role_of m.kind m.code) starved rows moment s m past e refl
+effects_own step.Look starved rows moment s no_tick fair past = by starved (reading s.datagram) refl
   where
     by : (b : Bool) (read : Result Message Unread) → reading s.datagram ≡ read → AreOwn rows s (looked b (entries rows) moment s read).sent
     by b (Err fault) e = tt
-    by true (Ok m) e = own_answering rows s m (bare codes_of.internal_server_error) [] e good_starved
-    by false (Ok m) e = look_own rows (entries rows) moment s m e
-effects_own (step.Commit place) starved rows moment s no_tick tagged past = by starved (reading s.datagram) refl
+    by true (Ok m) e = own_answering rows s m (bare codes_of.internal_server_error) [] e (fair m e) good_starved
+    by false (Ok m) e = look_own rows (entries rows) moment s m e (fair m e)
+effects_own (step.Commit place) starved rows moment s no_tick fair past = by starved (reading s.datagram) refl
   where
     by : (b : Bool) (read : Result Message Unread) → reading s.datagram ≡ read → AreOwn rows s (done b rows moment place s read).sent
     by b (Err fault) e = tt
-    by true (Ok m) e = own_answering rows s m (bare codes_of.internal_server_error) (note.Failed place ∷ []) e good_starved
-    by false (Ok m) e = commit_own rows moment place s m e
-effects_own (step.Keep body current) starved rows moment s no_tick tagged past = by starved (reading s.datagram) refl
+    by true (Ok m) e = own_answering rows s m (bare codes_of.internal_server_error) (note.Failed place ∷ []) e (fair m e) good_starved
+    by false (Ok m) e = commit_own rows moment place s m e (fair m e)
+effects_own (step.Keep body current) starved rows moment s no_tick fair past = by starved (reading s.datagram) refl
   where
     by : (b : Bool) (read : Result Message Unread) → reading s.datagram ≡ read → AreOwn rows s (kept_body b s read body current).sent
     by b (Err fault) e = tt
-    by true (Ok m) e = own_answering rows s m (bare codes_of.internal_server_error) [] e good_starved
-    by false (Ok m) e = own_answering rows s m (body_reply (Some current) None (asked_block m) body) _ e (good_body_reply (Some current) None (asked_block m) body (tagged m e) (usable m))
-effects_own step.Tick starved rows moment s no_tick tagged past = absurd no_tick
+    by true (Ok m) e = own_answering rows s m (bare codes_of.internal_server_error) [] e (fair m e).0 good_starved
+    by false (Ok m) e = own_answering rows s m (body_reply (Some current) None (asked_block m) body) _ e (fair m e).0 (good_body_reply (Some current) None (asked_block m) body (fair m e).1 (usable m))
+effects_own step.Tick starved rows moment s no_tick fair past = absurd no_tick

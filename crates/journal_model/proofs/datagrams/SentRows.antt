@@ -1,4 +1,4 @@
--- What each row sends and notes of that, in rows of steps whose commits are of rows that admitted, and whose keeps have tags of eight octets.
+-- What each row sends and notes of that, in rows of steps whose commits are of rows that admitted, and whose looks, commits and keeps are made for requests, under tags of eight octets.
 use Rattle.std.proofs.Common.{◌≡◌, inl, inr, ℕ, ◌==◌, Bool, true, false, cond, List, [], ◌∷◌, ◌++◌, length, Option, Some, None, option_and_then, Ok, refl, sym, ap, subst, ◌∙◌, eqb-true, arith, append_assoc, ◌<◌}
 use Rattle.std.specs.Prelude.{is_some}
 use Rattle.std.specs.List.{list_any, AllByRecursion}
@@ -8,7 +8,8 @@ use Rattle.rd_base.specs.declared.peers.Peer.{Peer}
 use Rattle.rd_base.proofs.lemmas.Numbers.{eqb-refl}
 use Rattle.rd_base.proofs.lemmas.Among.{Among, all_among, any_among}
 use Rattle.rd_base.proofs.lemmas.Each.{each_weaker}
-use Rattle.message_model.specs.Message.{Message}
+use Rattle.message_model.specs.declared.messages.Role.TheVariants as role
+use Rattle.message_model.specs.Message.{Message, role_of}
 use Rattle.message_model.specs.Reading.{reading}
 use Rattle.event_model.specs.declared.notes.Note.{Note}
 use Rattle.event_model.specs.declared.notes.Note.TheVariants as note
@@ -35,7 +36,7 @@ use Rattle.journal_model.proofs.desks.OpenAdmissions.{OwnAdmission}
 use Rattle.journal_model.proofs.notes.LookupNotes.{IsAsking, OfWatched, observers_all}
 use Rattle.journal_model.proofs.flights.NoticesAgain.{events_after_again, stood}
 use Rattle.journal_model.proofs.sends.BodyAnswers.{same_message}
-use Rattle.journal_model.proofs.datagrams.OwnSends.{IsOwn, KnownBefore, KeepsTag, effects_own}
+use Rattle.journal_model.proofs.datagrams.OwnSends.{IsOwn, KnownBefore, IsForRequest, effects_own}
 use Rattle.journal_model.proofs.datagrams.NotedSends.{SettledBy, NoteFact, NoteFacts, effects_facts}
 use Rattle.journal_model.proofs.datagrams.TickedSends.{IsTicked, IsResendable, Resendable, TickSends, tick_sends}
 
@@ -61,9 +62,9 @@ pub record AllSent (rows : List Row) : Type 0 where
 abbrev pub CommitsPlaced : List Row → Type 0
 CommitsPlaced rows = (before : List Row) (r : Row) (place : ℕ) → Within rows before r → Commits r place → AdmittedAt before place r.step
 
--- each keep of a datagram that can be read has a tag of eight octets
-abbrev pub KeepsTags : List Row → Type 0
-KeepsTags rows = (before : List Row) (r : Row) (m : Message) → Within rows before r → reading r.step.datagram ≡ Ok m → KeepsTag r.step.kind
+-- each look, commit and keep is made for a request, where its datagram can be read; and each keep has a tag of eight octets
+abbrev pub AreForRequests : List Row → Type 0
+AreForRequests rows = (before : List Row) (r : Row) (m : Message) → Within rows before r → reading r.step.datagram ≡ Ok m → IsForRequest r.step.kind m
 
 -- ---- rows at places
 
@@ -207,9 +208,9 @@ its_own r own n peer mid among h = by (subst (Among n) own.noted among)
     by (inr none) = absurd none
 
 -- so a repeat gets the answer of the write that it repeats
-repeats_own : (rows : List Row) → AreRows rows → CommitsPlaced rows → AllRows RowSent rows → (s : Step) (m : Message) (moment : ℕ) (first : Event) (octets : List ℕ) → reading s.datagram ≡ Ok m
+repeats_own : (rows : List Row) → AreRows rows → CommitsPlaced rows → AllRows RowSent rows → (s : Step) (m : Message) (moment : ℕ) (first : Event) (octets : List ℕ) → reading s.datagram ≡ Ok m → role_of m.kind m.code ≡ role.Request
     → repeated moment s.peer m.mid (events rows) ≡ Some first → settled first.place (events rows) ≡ Some octets → IsOwn rows s (s.peer, octets)
-repeats_own rows made placed all s m moment first octets read rep stl = record {
+repeats_own rows made placed all s m moment first octets read asks rep stl = record {
   fits = done_by.by_it.fits;
   to = refl;
   answers = λ n e responds. inr (answered n (done_by.by_it.answers n e responds));
@@ -245,6 +246,7 @@ repeats_own rows made placed all s m moment first octets read rep stl = record {
         record {
           again = m;
           read = read;
+          asks = asks;
           first = it.placed;
           within = it.within;
           request = own.message;
@@ -264,9 +266,9 @@ known_before rows made placed all = record {
 -- ---- one row more
 
 -- the row of a step
-row_sent : (rows : List Row) (s : Step) (starved : Bool) → AreRows rows → CommitsPlaced rows → ((m : Message) → reading s.datagram ≡ Ok m → KeepsTag s.kind) → AllSent rows → RowSent rows (row rows s starved)
+row_sent : (rows : List Row) (s : Step) (starved : Bool) → AreRows rows → CommitsPlaced rows → ((m : Message) → reading s.datagram ≡ Ok m → IsForRequest s.kind m) → AllSent rows → RowSent rows (row rows s starved)
 unfolding row
-row_sent rows s starved made placed tagged all = by s.kind refl
+row_sent rows s starved made placed fair all = by s.kind refl
   where
     moment : ℕ
     moment = row_moment rows s
@@ -281,8 +283,8 @@ row_sent rows s starved made placed tagged all = by s.kind refl
     whole : (k : StepKind) → s.kind ≡ k → Sends k → RowSent rows (row rows s starved)
     whole k is h = let back : Sends s.kind = subst Sends (sym is) h in record { sent = back.0; facts = back.1 }
 
-    tags : (k : StepKind) → s.kind ≡ k → (m : Message) → reading s.datagram ≡ Ok m → KeepsTag k
-    tags k is m read = subst KeepsTag is (tagged m read)
+    requests : (k : StepKind) → s.kind ≡ k → (m : Message) → reading s.datagram ≡ Ok m → IsForRequest k m
+    requests k is m read = subst (λ (x : StepKind). IsForRequest x m) is (fair m read)
 
     ticks : TickSends s (tick_effects starved rows (row_moment rows s) s)
     ticks = tick_sends starved rows (row_moment rows s) s (resendable rows all.each) asking
@@ -291,12 +293,12 @@ row_sent rows s starved made placed tagged all = by s.kind refl
     past = known_before rows made placed all.each
 
     by : (k : StepKind) → s.kind ≡ k → RowSent rows (row rows s starved)
-    by step.Admit is = whole step.Admit is (effects_own step.Admit starved rows (row_moment rows s) s tt (tags step.Admit is) past, effects_facts step.Admit starved rows (row_moment rows s) s tt (tags step.Admit is))
-    by step.Look is = whole step.Look is (effects_own step.Look starved rows (row_moment rows s) s tt (tags step.Look is) past, effects_facts step.Look starved rows (row_moment rows s) s tt (tags step.Look is))
+    by step.Admit is = whole step.Admit is (effects_own step.Admit starved rows (row_moment rows s) s tt (requests step.Admit is) past, effects_facts step.Admit starved rows (row_moment rows s) s tt (requests step.Admit is))
+    by step.Look is = whole step.Look is (effects_own step.Look starved rows (row_moment rows s) s tt (requests step.Look is) past, effects_facts step.Look starved rows (row_moment rows s) s tt (requests step.Look is))
     by (step.Commit place) is = whole (step.Commit place) is
-        (effects_own (step.Commit place) starved rows (row_moment rows s) s tt (tags (step.Commit place) is) past, effects_facts (step.Commit place) starved rows (row_moment rows s) s tt (tags (step.Commit place) is))
+        (effects_own (step.Commit place) starved rows (row_moment rows s) s tt (requests (step.Commit place) is) past, effects_facts (step.Commit place) starved rows (row_moment rows s) s tt (requests (step.Commit place) is))
     by (step.Keep body current) is = whole (step.Keep body current) is
-        (effects_own (step.Keep body current) starved rows (row_moment rows s) s tt (tags (step.Keep body current) is) past, effects_facts (step.Keep body current) starved rows (row_moment rows s) s tt (tags (step.Keep body current) is))
+        (effects_own (step.Keep body current) starved rows (row_moment rows s) s tt (requests (step.Keep body current) is) past, effects_facts (step.Keep body current) starved rows (row_moment rows s) s tt (requests (step.Keep body current) is))
     by step.Tick is = whole step.Tick is (rw (effects-Tick starved rows (row_moment rows s) s) ticks.sent, rw (effects-Tick starved rows (row_moment rows s) s) ticks.facts)
 
 -- the observers that a row adds ask for their queries
@@ -310,17 +312,17 @@ asking_row rows r sends all =
     by _ h = tt
 
 -- all rows
-pub rows_sent : (rows : List Row) → AreRows rows → CommitsPlaced rows → KeepsTags rows → AllSent rows
+pub rows_sent : (rows : List Row) → AreRows rows → CommitsPlaced rows → AreForRequests rows → AllSent rows
 unfolding events observers
-rows_sent [] empty placed tags = record { each = tt; asking = tt }
-rows_sent (r ∷ before) (added {rows} s starved made) placed tags =
-    let rest : AllSent before = rows_sent before made (λ deeper x place within. placed deeper x place (within_more r before deeper x within)) (λ deeper x m within. tags deeper x m (within_more r before deeper x within)) in
+rows_sent [] empty placed requests = record { each = tt; asking = tt }
+rows_sent (r ∷ before) (added {rows} s starved made) placed requests =
+    let rest : AllSent before = rows_sent before made (λ deeper x place within. placed deeper x place (within_more r before deeper x within)) (λ deeper x m within. requests deeper x m (within_more r before deeper x within)) in
     let here : RowSent before (row before s starved) =
     row_sent before s starved made (λ deeper x place within. placed deeper x place (within_more r before deeper x within))
     (λ m read. own_tags m read) rest in
     record { each = (here, rest.each); asking = asking_row before (row before s starved) here rest.asking }
   where
-    own_tags : (m : Message) → reading s.datagram ≡ Ok m → KeepsTag s.kind
+    own_tags : (m : Message) → reading s.datagram ≡ Ok m → IsForRequest s.kind m
     own_tags m read =
-        subst (λ (t : Step). KeepsTag t.kind) (row-step before s starved)
-        (tags before (row before s starved) m (record { later = []; whole = refl }) (ap (λ (t : Step). reading t.datagram) (row-step before s starved) ∙ read))
+        subst (λ (t : Step). IsForRequest t.kind m) (row-step before s starved)
+        (requests before (row before s starved) m (record { later = []; whole = refl }) (ap (λ (t : Step). reading t.datagram) (row-step before s starved) ∙ read))

@@ -75,7 +75,7 @@ notes_below kind rows moment s notes early (aside all) = by notes all
     by : (ns : List Note) → are is_aside ns ≡ true → AllByRecursion (NamesBelow (length rows)) ns
     by [] h = tt
     by (n ∷ ns) h = let both = and_parts (is_aside n) (are is_aside ns) h in (one n both.0, by ns both.1)
-notes_below kind rows moment s notes early (admits m here read is none) = subst (AllByRecursion (NamesBelow (length rows))) (sym is) (tt, tt)
+notes_below kind rows moment s notes early (admits m here read asks is none) = subst (AllByRecursion (NamesBelow (length rows))) (sym is) (tt, tt)
 notes_below kind rows moment s notes early (ends place here all) = by notes all
   where
     one : (n : Note) → ends_at place n ≡ true → NamesBelow (length rows) n
@@ -143,7 +143,7 @@ one_more rows s r late early touches order = record {
 
     by : Touches s.kind rows r.moment.0 s r.notes → IsOrderly (noted (length rows) r.moment.0 r.step.word r.notes (events rows))
     by (aside all) = IsOrderly-noted (length rows) r.moment.0 r.step.word r.notes (events rows) (none_of is_aside is_admitting never_aside r.notes all) order.orderly
-    by (admits m kind read is none) =
+    by (admits m kind read asks is none) =
         subst (λ (ns : List Note). IsOrderly (noted (length rows) r.moment.0 r.step.word ns (events rows))) (sym is)
         (IsOrderly-admitted s.peer m.mid (event_at (length rows) r.moment.0 r.step.word (note.Admitted s.peer m.mid)) (events rows) refl
         (record { no_repeat = none; new_place = new_place rows order.before; in_time = none_after rows r.moment.0 late order.before }) order.orderly)

@@ -132,7 +132,7 @@ row_writes rows s starved some = by (row-Touches rows s starved)
 
     by : Touches s.kind rows (row rows s starved).moment.0 s (row rows s starved).notes → is_write_reading (reading s.datagram) ≡ true
     by (aside all) = absurd (never is_aside none_aside (row rows s starved).notes all some)
-    by (admits m here read is none) = effects_write s.kind starved rows (row_moment rows s) s here some
+    by (admits m here read asks is none) = effects_write s.kind starved rows (row_moment rows s) s here some
     by (ends place here all) = absurd (never (ends_at place) (none_ends place) (row rows s starved).notes all some)
 
 -- the row of a place that admitted something was of a write

@@ -71,7 +71,7 @@ ends_none kind rows moment s notes place other (aside all) = none_of is_aside (i
     never (note.Settled p reply) h = absurd (false≢true h)
     never (note.Failed p) h = absurd (false≢true h)
     never _ h = refl
-ends_none kind rows moment s notes place other (admits m here read is none) = ap (list_any (is_ending_of place)) is
+ends_none kind rows moment s notes place other (admits m here read asks is none) = ap (list_any (is_ending_of place)) is
 ends_none kind rows moment s notes place other (ends q here all) = none_of (ends_at q) (is_ending_of place) never notes all
   where
     never : (n : Note) → ends_at q n ≡ true → is_ending_of place n ≡ false

@@ -5,7 +5,8 @@ use Rattle.std.proofs.lemmas.Bool.{false≢true}
 use Rattle.rd_base.specs.declared.peers.Peer.{Peer}
 use Rattle.rd_base.proofs.lemmas.Numbers.{eqb-refl}
 use Rattle.rd_base.proofs.lemmas.Each.{none_pass}
-use Rattle.message_model.specs.Message.{Message}
+use Rattle.message_model.specs.declared.messages.Role.TheVariants as role
+use Rattle.message_model.specs.Message.{Message, role_of}
 use Rattle.message_model.specs.Reading.{reading}
 use Rattle.event_model.specs.declared.notes.Note.{Note}
 use Rattle.event_model.specs.declared.notes.Note.TheVariants as note
@@ -62,7 +63,7 @@ admission_notes kind rows moment s notes (aside all) some = absurd (false≢true
     never : (n : Note) → is_aside n ≡ true → is_admitting n ≡ false
     never (note.Admitted peer mid) h = absurd (false≢true h)
     never _ h = refl
-admission_notes kind rows moment s notes (admits m here read is none) some = (m.mid, is)
+admission_notes kind rows moment s notes (admits m here read asks is none) some = (m.mid, is)
 admission_notes kind rows moment s notes (ends place here all) some = absurd (false≢true (sym (none_of (ends_at place) is_admitting never notes all) ∙ some))
   where
     never : (n : Note) → ends_at place n ≡ true → is_admitting n ≡ false
@@ -123,10 +124,11 @@ commit-IsOpen rows s place journal it = subst (λ (p : Peer). OpenAdmission plac
 
 -- ---- what a row admits is its own
 
--- the row of a step that admits something notes this alone: the write of its peer, with the Message ID of the message in its datagram
+-- the row of a step that admits something notes this alone: the write of its peer, with the Message ID of the request in its datagram
 pub record OwnAdmission (r : Row) : Type 0 where
   pub message : Message
   pub read : reading r.step.datagram ≡ Ok message
+  pub asks : role_of message.kind message.code ≡ role.Request
   pub noted : r.notes ≡ note.Admitted r.step.peer message.mid ∷ []
 
 -- so does each row of a step
@@ -144,5 +146,5 @@ row-OwnAdmission rows s starved some = by (row-Touches rows s starved)
 
     by : Touches s.kind rows (row rows s starved).moment.0 s (row rows s starved).notes → OwnAdmission (row rows s starved)
     by (aside all) = absurd (false≢true (sym (none_of is_aside is_admitting never_aside (row rows s starved).notes all) ∙ some))
-    by (admits m here read is none) = record { message = m; read = read; noted = is }
+    by (admits m here read asks is none) = record { message = m; read = read; asks = asks; noted = is }
     by (ends place here all) = absurd (false≢true (sym (none_of (ends_at place) is_admitting (never_ends place) (row rows s starved).notes all) ∙ some))

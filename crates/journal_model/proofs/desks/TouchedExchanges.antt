@@ -5,7 +5,8 @@ use Rattle.std.proofs.lemmas.Bool.{false≢true}
 use Rattle.rd_base.proofs.lemmas.Numbers.{eqb-refl}
 use Rattle.message_model.specs.declared.requests.Path.{Path}
 use Rattle.message_model.specs.declared.requests.Path.TheVariants as path
-use Rattle.message_model.specs.Message.{Message}
+use Rattle.message_model.specs.declared.messages.Role.TheVariants as role
+use Rattle.message_model.specs.Message.{Message, role_of}
 use Rattle.message_model.specs.Reading.{reading}
 use Rattle.message_model.specs.Request.{path_in}
 use Rattle.message_model.specs.Spelling.{spelling}
@@ -43,7 +44,7 @@ ends_at place _ = true
 -- nothing; or one new admission; or the end of the one that is committed
 pub data Touches (kind : StepKind) (rows : List Row) (moment : ℕ) (s : Step) (notes : List Note) : Type 0 where
   aside : are is_aside notes ≡ true → Touches kind rows moment s notes
-  admits : (m : Message) → kind ≡ step.Admit → reading s.datagram ≡ Ok m → notes ≡ note.Admitted s.peer m.mid ∷ [] → repeated moment s.peer m.mid (events rows) ≡ None → Touches kind rows moment s notes
+  admits : (m : Message) → kind ≡ step.Admit → reading s.datagram ≡ Ok m → role_of m.kind m.code ≡ role.Request → notes ≡ note.Admitted s.peer m.mid ∷ [] → repeated moment s.peer m.mid (events rows) ≡ None → Touches kind rows moment s notes
   ends : (place : ℕ) → kind ≡ step.Commit place → are (ends_at place) notes ≡ true → Touches kind rows moment s notes
 
 -- notes of kinds that have nothing to do with exchanges
@@ -72,9 +73,9 @@ response_aside (note.Failed place) h = absurd (false≢true h)
 response_aside _ h = refl
 
 -- a write as it is heard
-write_touches : (rows : List Row) (moment : ℕ) (s : Step) (m : Message) → reading s.datagram ≡ Ok m → Touches step.Admit rows moment s (write_effects (events rows) moment s m).notes
+write_touches : (rows : List Row) (moment : ℕ) (s : Step) (m : Message) → reading s.datagram ≡ Ok m → role_of m.kind m.code ≡ role.Request → Touches step.Admit rows moment s (write_effects (events rows) moment s m).notes
 unfolding write_effects answering
-write_touches rows moment s m read = by (repeated moment s.peer m.mid (events rows)) refl
+write_touches rows moment s m read asks = by (repeated moment s.peer m.mid (events rows)) refl
   where
     again : (octets : Option (List ℕ)) → (again_answered s octets).notes ≡ []
     again None = refl
@@ -82,7 +83,7 @@ write_touches rows moment s m read = by (repeated moment s.peer m.mid (events ro
 
     full : (b : Bool) → repeated moment s.peer m.mid (events rows) ≡ None → Touches step.Admit rows moment s (admitted_unless b s m).notes
     full true none = aside refl
-    full false none = admits m refl read refl none
+    full false none = admits m refl read asks refl none
 
     by : (first : Option Event) → repeated moment s.peer m.mid (events rows) ≡ first → Touches step.Admit rows moment s (write_unless first (events rows) moment s m).notes
     by (Some first) found = aside (ap (are is_aside) (again (settled first.place (events rows))))
@@ -126,7 +127,7 @@ effects-Touches kind starved rows moment s = by (effects kind starved rows momen
   where
     by : (ns : List Note) → StepNoted kind starved rows moment s ns → Touches kind rows moment s ns
     by ns (noted.nothing blank) = aside (ap (are is_aside) blank)
-    by ns (noted.write m here read is) = subst (λ (k : StepKind). Touches k rows moment s ns) (sym here) (subst (Touches step.Admit rows moment s) (sym is) (write_touches rows moment s m read))
+    by ns (noted.write m here read asks is) = subst (λ (k : StepKind). Touches k rows moment s ns) (sym here) (subst (Touches step.Admit rows moment s) (sym is) (write_touches rows moment s m read asks))
     by ns (noted.lookup m here read at is) = aside (are-weaker of_lookup is_aside lookup_aside ns (ap (are of_lookup) is ∙ lookup_effects-notes rows moment s m))
     by ns (noted.empty here all) = aside (are-weaker of_empty is_aside empty_aside ns all)
     by ns (noted.response m here read responds is) = aside (are-weaker of_response is_aside response_aside ns (ap (are of_response) is ∙ response_effects-notes rows moment s m))

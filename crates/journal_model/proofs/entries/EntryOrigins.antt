@@ -40,7 +40,7 @@ effects-EntryOrigin kind starved rows moment s = by (effects kind starved rows m
 
     by : (ns : List Note) → StepNoted kind starved rows moment s ns → EntryOrigin kind rows moment s ns
     by ns (noted.nothing blank) = nowhere (ap entries_in blank)
-    by ns (noted.write m here read is) = nowhere (ap entries_in is ∙ write_effects-entries_in (events rows) moment s m)
+    by ns (noted.write m here read asks is) = nowhere (ap entries_in is ∙ write_effects-entries_in (events rows) moment s m)
     by ns (noted.lookup m here read at is) = nowhere (ap entries_in is ∙ lookup_effects-entries_in rows moment s m)
     by ns (noted.empty here all) = nowhere (empty-entries_in ns all)
     by ns (noted.response m here read responds is) = heard_entry m ns here read responds is (fetch_of s m (events rows)) refl (subst (EntryHeard s.peer (entries rows) moment) (sym is) (response_effects-EntryHeard rows moment s m))

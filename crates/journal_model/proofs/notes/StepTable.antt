@@ -32,7 +32,7 @@ use Rattle.journal_model.proofs.notes.SilentSteps.{refusal_notes, unread_notes, 
 -- what a step of a kind notes, after rows at a moment
 pub data StepNoted (kind : StepKind) (starved : Bool) (rows : List Row) (moment : ℕ) (s : Step) (notes : List Note) : Type 0 where
   nothing : notes ≡ [] → StepNoted kind starved rows moment s notes
-  write : (m : Message) → kind ≡ step.Admit → reading s.datagram ≡ Ok m → notes ≡ (write_effects (events rows) moment s m).notes → StepNoted kind starved rows moment s notes
+  write : (m : Message) → kind ≡ step.Admit → reading s.datagram ≡ Ok m → role_of m.kind m.code ≡ role.Request → notes ≡ (write_effects (events rows) moment s m).notes → StepNoted kind starved rows moment s notes
   lookup : (m : Message) → kind ≡ step.Admit → reading s.datagram ≡ Ok m → is_lookup (path_in m) ≡ true → notes ≡ (lookup_effects rows moment s m).notes → StepNoted kind starved rows moment s notes
   empty : kind ≡ step.Admit → are of_empty notes ≡ true → StepNoted kind starved rows moment s notes
   response : (m : Message) → kind ≡ step.Admit → reading s.datagram ≡ Ok m → role_of m.kind m.code ≡ role.Response → notes ≡ (response_effects rows moment s m).notes → StepNoted kind starved rows moment s notes
@@ -42,20 +42,20 @@ pub data StepNoted (kind : StepKind) (starved : Bool) (rows : List Row) (moment 
   tick : kind ≡ step.Tick → notes ≡ (tick_effects starved rows moment s).notes → StepNoted kind starved rows moment s notes
 
 -- a request that is served as it is heard
-served-StepNoted : (p : Path) (starved : Bool) (rows : List Row) (moment : ℕ) (s : Step) (m : Message) → reading s.datagram ≡ Ok m → path_in m ≡ p → StepNoted step.Admit starved rows moment s (served p rows moment s m).notes
+served-StepNoted : (p : Path) (starved : Bool) (rows : List Row) (moment : ℕ) (s : Step) (m : Message) → reading s.datagram ≡ Ok m → role_of m.kind m.code ≡ role.Request → path_in m ≡ p → StepNoted step.Admit starved rows moment s (served p rows moment s m).notes
 unfolding served
-served-StepNoted path.Core starved rows moment s m read at = nothing (look_effects-notes (entries rows) moment s m)
-served-StepNoted path.Res starved rows moment s m read at = lookup m refl read (ap is_lookup at) refl
-served-StepNoted path.Ep starved rows moment s m read at = lookup m refl read (ap is_lookup at) refl
-served-StepNoted path.SimpleRd starved rows moment s m read at = write m refl read refl
-served-StepNoted path.Rd starved rows moment s m read at = write m refl read refl
-served-StepNoted (path.Location number) starved rows moment s m read at = write m refl read refl
-served-StepNoted path.Other starved rows moment s m read at = nothing refl
+served-StepNoted path.Core starved rows moment s m read asks at = nothing (look_effects-notes (entries rows) moment s m)
+served-StepNoted path.Res starved rows moment s m read asks at = lookup m refl read (ap is_lookup at) refl
+served-StepNoted path.Ep starved rows moment s m read asks at = lookup m refl read (ap is_lookup at) refl
+served-StepNoted path.SimpleRd starved rows moment s m read asks at = write m refl read asks refl
+served-StepNoted path.Rd starved rows moment s m read asks at = write m refl read asks refl
+served-StepNoted (path.Location number) starved rows moment s m read asks at = write m refl read asks refl
+served-StepNoted path.Other starved rows moment s m read asks at = nothing refl
 
 -- a request as it is heard, refused or served
-request-StepNoted : (refusal : Option Reply) (starved : Bool) (rows : List Row) (moment : ℕ) (s : Step) (m : Message) → reading s.datagram ≡ Ok m → StepNoted step.Admit starved rows moment s (request_answered refusal rows moment s m).notes
-request-StepNoted (Some refusal) starved rows moment s m read = nothing (refusal_notes m.kind (first_bad_option m.options) s m refusal)
-request-StepNoted None starved rows moment s m read = served-StepNoted (path_in m) starved rows moment s m read refl
+request-StepNoted : (refusal : Option Reply) (starved : Bool) (rows : List Row) (moment : ℕ) (s : Step) (m : Message) → reading s.datagram ≡ Ok m → role_of m.kind m.code ≡ role.Request → StepNoted step.Admit starved rows moment s (request_answered refusal rows moment s m).notes
+request-StepNoted (Some refusal) starved rows moment s m read asks = nothing (refusal_notes m.kind (first_bad_option m.options) s m refusal)
+request-StepNoted None starved rows moment s m read asks = served-StepNoted (path_in m) starved rows moment s m read asks refl
 
 -- a message as it is heard
 role-StepNoted : (r : Role) (starved : Bool) (rows : List Row) (moment : ℕ) (s : Step) (m : Message) → reading s.datagram ≡ Ok m → role_of m.kind m.code ≡ r → StepNoted step.Admit starved rows moment s (message_effects r starved rows moment s m).notes
@@ -64,7 +64,7 @@ role-StepNoted role.Ping starved rows moment s m read is = nothing refl
 role-StepNoted role.Acknowledgement starved rows moment s m read is = empty refl (acknowledged-notes s.peer m.mid (events rows))
 role-StepNoted role.Reset starved rows moment s m read is = empty refl (reset-notes s.peer m.mid (events rows))
 role-StepNoted role.Request true rows moment s m read is = nothing refl
-role-StepNoted role.Request false rows moment s m read is = request-StepNoted (refusal_of_request m) false rows moment s m read
+role-StepNoted role.Request false rows moment s m read is = request-StepNoted (refusal_of_request m) false rows moment s m read is
 role-StepNoted role.Response true rows moment s m read is = nothing refl
 role-StepNoted role.Response false rows moment s m read is = response m refl read is refl
 role-StepNoted role.Ignored starved rows moment s m read is = nothing refl

@@ -134,7 +134,7 @@ step_observer_notes kind starved rows moment s no_tick = by (effects kind starve
 
     by : (ns : List Note) → StepNoted kind starved rows moment s ns → ObserverNotes rows moment ns
     by ns (noted.nothing blank) = no_observer_notes rows moment ns blank
-    by ns (noted.write m here read is) = quiet_kind of_write (λ o. refl) (λ p t b n. refl) (λ p t. refl) ns (ap (are of_write) is ∙ write_effects-notes (events rows) moment s m)
+    by ns (noted.write m here read asks is) = quiet_kind of_write (λ o. refl) (λ p t b n. refl) (λ p t. refl) ns (ap (are of_write) is ∙ write_effects-notes (events rows) moment s m)
     by ns (noted.lookup m here read at is) = subst (ObserverNotes rows moment) (sym is) (lookup_observer_notes rows moment s m)
     by ns (noted.empty here all) = quiet_kind of_empty (λ o. refl) (λ p t b n. refl) (λ p t. refl) ns all
     by ns (noted.response m here read responds is) = quiet_kind of_response (λ o. refl) (λ p t b n. refl) (λ p t. refl) ns (ap (are of_response) is ∙ response_effects-notes rows moment s m)
