@@ -71,7 +71,8 @@ abbrev pub is_again_of : Peer → ℕ → Note → Bool
 is_again_of peer mid (note.Again p m) = is_same_peer p peer && m == mid
 is_again_of peer mid _ = false
 
--- a notice in flight: its Message ID, the event that formed it, and those that sent it again, the newest first
+-- a notice in flight: its Message ID, the event that formed it, and those that sent it again, the newest first. What a table shows of it is `Sent`;
+-- rows want these events: by them a tick finds which row sent the notice first, and when it is sent again
 pub record Flight : Type 0 where
   pub mid : ℕ
   pub formed : Event

@@ -27,13 +27,17 @@ use Rattle.journal_model.specs.declared.steps.StepKind.TheVariants as step
 use Rattle.journal_model.specs.declared.rows.Row.{Row}
 use Rattle.journal_model.specs.Journal.{entries}
 use Rattle.journal_model.specs.Requests.{query_of, asked_block}
-use Rattle.journal_model.specs.Headline.{Placed, Asked, IsBlockOf, asked_at, Sent, Headline, EndedWithoutMemory, IsEntryOf, AdmittedAt, FormedAs, Validates, AreBlocksOfOne}
+use Rattle.journal_model.specs.PlacedRows.{Placed}
+use Rattle.journal_model.specs.HoldsEachOnce.{EndedWithoutMemory, IsEntryOf, AdmittedAt}
+use Rattle.journal_model.specs.AnswersAsFormed.{Asked, IsBlockOf, asked_at, Sent, FormedAs, Validates}
+use Rattle.journal_model.specs.TagsDecideStates.{AreBlocksOfOne}
+use Rattle.journal_model.specs.Headline.{Headline}
 use Rattle.headline_law.proofs.entries.FailedLaws.{within_cases, nothing_within}
 
 -- ---- what the rows have
 
 -- the row of a step with the datagram of a peer
-abbrev row_of : StepKind → List ℕ → Bool → List (Peer × List ℕ) → List Note → Row
+abbrev pub row_of : StepKind → List ℕ → Bool → List (Peer × List ℕ) → List Note → Row
 row_of kind datagram starved sent notes = record {
   step = record { kind = kind; worker = 0; handed = record { 0 = 0 }; word = 0; peer = peer 1; datagram = datagram; drawn = 0 };
   moment = record { 0 = 0 };
@@ -44,7 +48,7 @@ row_of kind datagram starved sent notes = record {
 }
 
 -- a lookup of the endpoints, in blocks of 16 octets: CON 0.01 m=0010 t=c1 [11 rd-lookup][11 ep][23 0/0/0]
-abbrev lookup : Message
+abbrev pub lookup : Message
 lookup = record {
   kind = Con;
   code = codes_of.get;
@@ -55,15 +59,15 @@ lookup = record {
 }
 
 -- an answer to it: ACK m=0010
-abbrev answer : ℕ → List ℕ → List Opt → List ℕ → Message
+abbrev pub answer : ℕ → List ℕ → List Opt → List ℕ → Message
 answer code token options payload = record { kind = Ack; code = code; mid = 16; token = token; options = options; payload = payload }
 
 -- a look that sends such an answer to a peer
-abbrev look_with : Peer → Message → Row
+abbrev pub look_with : Peer → Message → Row
 look_with to m = row_of step.Look (spelling lookup) false ((to, spelling m) ∷ []) []
 
 -- a message that the one row of a journal sends first
-abbrev sent_first : (r : Row) (to : Peer) (octets : List ℕ) (m : Message) (others : List (Peer × List ℕ)) → r.sent ≡ (to, octets) ∷ others → reading octets ≡ Ok m → Sent (r ∷ [])
+abbrev pub sent_first : (r : Row) (to : Peer) (octets : List ℕ) (m : Message) (others : List (Peer × List ℕ)) → r.sent ≡ (to, octets) ∷ others → reading octets ≡ Ok m → Sent (r ∷ [])
 sent_first r to octets m others is read = record {
   here = record { row = r; before = [] };
   within = record { later = []; whole = refl };

@@ -1,6 +1,1 @@
-pub mod TouchedExchanges
-pub mod AdmissionsInOrder
-pub mod OpenAdmissions
-pub mod MachineJournals
 pub mod TraceJournals
-pub mod CommitsOnce

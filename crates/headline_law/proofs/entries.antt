@@ -1,13 +1,6 @@
-pub mod ChangeEntries
-pub mod QuietSteps
-pub mod RowLaws
-pub mod JournalLaws
-pub mod ResponseEntries
-pub mod EntryOrigins
 pub mod TagStates
 pub mod EntryChanges
 pub mod CommitLaws
-pub mod CommitPlaces
 pub mod Admissions
 pub mod Failures
 pub mod FailedLaws

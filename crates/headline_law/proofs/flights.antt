@@ -1,5 +1,3 @@
-pub mod NoticesAgain
-pub mod WaitedPeers
 pub mod TickNotices
 pub mod FreshNotices
 pub mod TickFolds

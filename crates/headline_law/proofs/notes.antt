@@ -1,5 +1,1 @@
-pub mod ChangeNotes
-pub mod LookupNotes
-pub mod SilentSteps
 pub mod TickNotes
-pub mod StepTable

@@ -1,9 +1,5 @@
-pub mod BodyAnswers
-pub mod PlainSteps
 pub mod PlainCommits
 pub mod LookupSends
-pub mod ValidSends
-pub mod TickSends
 pub mod RowSends
 pub mod StepOutcomes
 pub mod ValidLaw

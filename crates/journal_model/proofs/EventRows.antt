@@ -8,7 +8,7 @@ use Rattle.event_model.specs.Events.{Event, noted, last_event, or_else, last_sai
 use Rattle.event_model.proofs.NotedLaws.{event_at, last_event-before}
 use Rattle.journal_model.specs.declared.rows.Row.{Row}
 use Rattle.journal_model.specs.Journal.{events, row_at}
-use Rattle.journal_model.specs.Headline.{Within, Placed, last_row}
+use Rattle.journal_model.specs.PlacedRows.{Within, Placed, last_row}
 use Rattle.rd_base.proofs.lemmas.Numbers.{eqb-refl}
 use Rattle.rd_base.proofs.lemmas.Among.{Among}
 
@@ -95,6 +95,10 @@ row_within P rows before r all within = after within.later (subst (AllRows P) wi
     after : (later : List Row) → AllRows P (later ++ r ∷ before) → P before r
     after [] h = h.0
     after (x ∷ later) h = after later h.1
+
+-- a row within rows is within more of them
+pub within_more : (x : Row) (rest before : List Row) (r : Row) → Within rest before r → Within (x ∷ rest) before r
+within_more x rest before r within = record { later = x ∷ within.later; whole = ap (λ rows. x ∷ rows) within.whole }
 
 -- what the last note says is said by the last event that says something
 pub said_by : {A : Type 0} (says : Note → Option A) (past : List Event) (x : A) → last_said says past ≡ Some x

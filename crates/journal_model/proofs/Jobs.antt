@@ -12,7 +12,8 @@ use Rattle.journal_model.specs.Journal.{is_look, is_heard, entries}
 use Rattle.journal_model.specs.Looks.{held_after}
 use Rattle.event_model.specs.KeptAnswers.{Answer}
 use Rattle.journal_model.specs.Machine.{is_look_datagram, hearing, Job, write_job, keep_job, job_after, job_of, MayBegin, hears, goes, ticks}
-use Rattle.journal_model.specs.Headline.{Within, Placed, last_row, look_of}
+use Rattle.journal_model.specs.PlacedRows.{Within, Placed, last_row}
+use Rattle.journal_model.specs.BodyFormers.{look_of}
 
 -- the job of an admission is its commit
 write_commits : (notes : List Note) (r : Row) (before : List Row) (job : Job) → write_job notes r before ≡ Some job → job.kind ≡ step.Commit (length before)

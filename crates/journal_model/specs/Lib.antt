@@ -1,4 +1,5 @@
 pub mod Journal
+pub mod MessageSizes
 pub mod Effects
 pub mod Requests
 pub mod Bodies
@@ -17,4 +18,11 @@ pub mod Machine
 pub mod Seats
 pub mod DeskJournal
 pub mod UnfinishedRow
+pub mod PlacedRows
+pub mod HoldsEachOnce
+pub mod BodyFormers
+pub mod AnswersAsFormed
+pub mod TagsDecideStates
+pub mod ObserversKnow
+pub mod SentDatagrams
 pub mod Headline

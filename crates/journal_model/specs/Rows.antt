@@ -108,3 +108,8 @@ row_with s moment starved e = record {
 -- the row of a step after a journal, in which memory ran out or did not
 unfoldable pub row : List Row → Step → Bool → Row
 row rows s starved = row_with s (row_moment rows s) starved (effects s.kind starved rows (row_moment rows s) s)
+
+-- each row is that of the rows before it and of a step, whoever may make which step: so it is in journals of the machine, and in those of desks
+pub data AreRows : List Row → Type 0 where
+  empty : AreRows []
+  added : {rows : List Row} → (s : Step) (starved : Bool) → AreRows rows → AreRows (row rows s starved ∷ rows)

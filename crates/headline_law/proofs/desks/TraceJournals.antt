@@ -1,26 +1,23 @@
 -- The journal of a trace is one of a desk.
-use Rattle.std.proofs.Common.{◌≡◌, ℕ, ◌<◌, ◌≤◌, ◌+◌, max, Bool, true, false, List, [], ◌∷◌, Option, Some, None, Result, Ok, Err, fold, refl, sym, ap, subst, ◌∙◌, arith}
+use Rattle.std.proofs.Common.{◌≡◌, ℕ, ◌<◌, ◌≤◌, ◌+◌, max, Bool, true, false, List, [], ◌∷◌, Option, Some, None, Result, Ok, Err, fold, refl, sym, subst, arith}
 use Rattle.std.specs.Prelude.{nat_lt}
 use Rattle.std.proofs.lemmas.Bool.{false≢true}
-use Rattle.rd_base.specs.declared.peers.Peer.{Peer}
 use Rattle.line_model.specs.declared.lines.Line.{Line}
 use Rattle.line_model.specs.declared.lines.Line.TheVariants as line
 use Rattle.line_model.specs.declared.lines.Reason.{Reason}
 use Rattle.line_model.specs.Lines.{line_of}
 use Rattle.line_model.specs.Texts.{lines_of}
 use Rattle.journal_model.specs.declared.steps.Step.{Step}
-use Rattle.journal_model.specs.declared.steps.StepKind.{StepKind}
-use Rattle.journal_model.specs.declared.steps.StepKind.TheVariants as step
 use Rattle.journal_model.specs.declared.rows.Row.{Row}
-use Rattle.journal_model.specs.Journal.{now, latest}
+use Rattle.journal_model.specs.Journal.{latest}
 use Rattle.journal_model.specs.Rows.{row}
 use Rattle.journal_model.specs.Machine.{Job, job_of, run, unstarved}
-use Rattle.journal_model.specs.DeskJournal.{ends_job, NoLaterLook, IsHanded, IsDeskJournal}
+use Rattle.journal_model.specs.DeskJournal.{NoLaterLook, IsHanded, IsDeskJournal}
 use Rattle.journal_model.proofs.EventRows.{AllRows}
 use Rattle.journal_model.proofs.RowEquations.{row-step}
-use Rattle.trace_model.specs.Steps.{come_step, go_step, step_of_worker, worker_of, if_worker, step_of_line, trace_line, trace_from, steps, journal}
+use Rattle.trace_model.specs.Steps.{come_step, go_step, step_of_worker, worker_of, if_worker, step_of_line, trace_line, trace_from, journal}
 use Rattle.trace_model.proofs.JournalLaw.{journal-IsJournal}
-use Rattle.headline_law.proofs.desks.MachineJournals.{journal-IsDeskJournal}
+use Rattle.journal_model.proofs.desks.MachineJournals.{journal-IsDeskJournal}
 
 -- each row's step was handed what a desk wants
 abbrev AllHanded : List Row → Type 0

@@ -17,12 +17,12 @@ use Rattle.journal_model.specs.Journal.{events}
 use Rattle.journal_model.specs.Effects.{answering}
 use Rattle.journal_model.specs.Writes.{again_answered, admitted_unless, write_unless, write_effects}
 use Rattle.journal_model.specs.Rows.{effects, row_moment, row}
-use Rattle.journal_model.specs.Headline.{admits}
+use Rattle.journal_model.specs.PlacedRows.{admits}
 use Rattle.journal_model.proofs.NoteKinds.{of_lookup, of_empty, of_tick, of_commit, of_response, are, none_of}
 use Rattle.journal_model.proofs.StepNotes.{keep_effects-notes, lookup_effects-notes, tick_effects-notes}
-use Rattle.headline_law.proofs.notes.StepTable.{StepNoted, effects-StepNoted}
-use Rattle.headline_law.proofs.notes.StepTable as noted
-use Rattle.headline_law.proofs.notes.ChangeNotes.{commit_effects-notes, response_effects-notes}
+use Rattle.journal_model.proofs.notes.StepTable.{StepNoted, effects-StepNoted}
+use Rattle.journal_model.proofs.notes.StepTable as noted
+use Rattle.journal_model.proofs.notes.ChangeNotes.{commit_effects-notes, response_effects-notes}
 
 -- one of the notes admits a write of a peer and a Message ID
 abbrev admitted : Peer → ℕ → List Note → Bool
@@ -75,8 +75,8 @@ effects_admit kind starved rows moment s peer mid = by (effects kind starved row
   where
     by : (ns : List Note) → StepNoted kind starved rows moment s ns → Admits rows moment peer mid ns
     by ns (noted.nothing blank) = nothing_noted rows moment peer mid ns blank
-    by ns (noted.write m here is) = subst (Admits rows moment peer mid) (sym is) (write_admits rows moment s m peer mid)
-    by ns (noted.lookup m here is) = never_of of_lookup (λ p n. refl) rows moment peer mid ns (ap (are of_lookup) is ∙ lookup_effects-notes rows moment s m)
+    by ns (noted.write m here read asks is) = subst (Admits rows moment peer mid) (sym is) (write_admits rows moment s m peer mid)
+    by ns (noted.lookup m here read at is) = never_of of_lookup (λ p n. refl) rows moment peer mid ns (ap (are of_lookup) is ∙ lookup_effects-notes rows moment s m)
     by ns (noted.empty here all) = never_of of_empty (λ p n. refl) rows moment peer mid ns all
     by ns (noted.response m here read responds is) = never_of of_response (λ p n. refl) rows moment peer mid ns (ap (are of_response) is ∙ response_effects-notes rows moment s m)
     by ns (noted.commit m place commits read is) = never_of of_commit (λ p n. refl) rows moment peer mid ns (ap (are of_commit) is ∙ commit_effects-notes rows moment place s m)

@@ -14,8 +14,8 @@ use Rattle.journal_model.specs.Rows.{row_moment, row}
 use Rattle.event_model.specs.KeptAnswers.{Answer}
 use Rattle.journal_model.specs.Looks.{held_after}
 use Rattle.journal_model.specs.Machine.{is_look_datagram, Job, write_job, keep_job, job_after, job_of, MayBegin, hears, goes, ticks, IsJournal, begun, made}
-use Rattle.journal_model.specs.Headline.{Within, Commits}
-use Rattle.headline_law.proofs.entries.JournalLaws.{Made, each_row}
+use Rattle.journal_model.specs.PlacedRows.{Within, Commits}
+use Rattle.journal_model.proofs.entries.JournalLaws.{Made, each_row}
 use Rattle.rd_base.proofs.lemmas.Numbers.{eqb-refl}
 
 -- no row commits the write of a place

@@ -33,15 +33,15 @@ use Rattle.journal_model.specs.Changes.{Outcome, refused_as, entered_unless, cha
 use Rattle.journal_model.specs.Registrations.{collected_before, is_one_too_many, block_taken, block_unless, block_after, block_uploaded, registration_outcome, registering}
 use Rattle.journal_model.specs.Commits.{settling, simple_unless, on_location, write_done, commit_effects, updating, removing}
 use Rattle.journal_model.specs.Responses.{fetch_of, strange, acknowledgement, more_follow, block_in, is_elsewhere, ends_fetch, completed, gathering, response_taken, response_to, response_to_request, response_effects}
-use Rattle.journal_model.specs.Rows.{row_moment, row}
-use Rattle.journal_model.specs.Machine.{IsJournal}
-use Rattle.journal_model.specs.Headline.{Within, AsksChange, IsEntryOf}
+use Rattle.journal_model.specs.Rows.{row_moment, row, AreRows}
+use Rattle.journal_model.specs.PlacedRows.{Within}
+use Rattle.journal_model.specs.HoldsEachOnce.{AsksChange, IsEntryOf}
 use Rattle.journal_model.proofs.NoteKinds.{empty-entries_in}
 use Rattle.journal_model.proofs.EntriesNoted.{entries_in}
-use Rattle.headline_law.proofs.notes.StepTable.{StepNoted, effects-StepNoted}
-use Rattle.headline_law.proofs.notes.StepTable as noted
-use Rattle.headline_law.proofs.entries.QuietSteps.{keep_effects-entries_in, lookup_effects-entries_in, write_effects-entries_in, tick_effects-entries_in}
-use Rattle.headline_law.proofs.entries.JournalLaws.{Made, each_row}
+use Rattle.journal_model.proofs.notes.StepTable.{StepNoted, effects-StepNoted}
+use Rattle.journal_model.proofs.notes.StepTable as noted
+use Rattle.journal_model.proofs.entries.QuietSteps.{keep_effects-entries_in, lookup_effects-entries_in, write_effects-entries_in, tick_effects-entries_in}
+use Rattle.journal_model.proofs.entries.JournalLaws.{RowMade, each_made}
 
 -- whatever a note enters is so
 abbrev Enters : (Entry → Type 0) → Note → Type 0
@@ -242,8 +242,8 @@ step_enters starved rows moment s ns it = by it
 
     by : StepNoted s.kind starved rows moment s ns → AllEnter P ns
     by (noted.nothing blank) = none_enter P ns (ap entries_in blank)
-    by (noted.write m here is) = none_enter P ns (ap entries_in is ∙ write_effects-entries_in (events rows) moment s m)
-    by (noted.lookup m here is) = none_enter P ns (ap entries_in is ∙ lookup_effects-entries_in rows moment s m)
+    by (noted.write m here read asks is) = none_enter P ns (ap entries_in is ∙ write_effects-entries_in (events rows) moment s m)
+    by (noted.lookup m here read at is) = none_enter P ns (ap entries_in is ∙ lookup_effects-entries_in rows moment s m)
     by (noted.empty here all) = none_enter P ns (empty-entries_in ns all)
     by (noted.response m here read responds is) = subst (AllEnter P) (sym is) (response_enters rows moment s m P
         (λ request links e body. record { stamped = refl; asked = inr (record { answers = record { kind = here; message = m; read = read; response = responds; request = request; fetch = e }; makes = (refl, body) }) }))
@@ -257,10 +257,10 @@ row_enters : (rows : List Row) (s : Step) (starved : Bool) → AllEnter (IsEntry
 unfolding row
 row_enters rows s starved = step_enters starved rows (row_moment rows s) s _ (effects-StepNoted s.kind starved rows (row_moment rows s) s)
 
--- in each journal
-pub journal-entry : (rows before : List Row) (r : Row) (entry : Entry) → IsJournal rows → Within rows before r → entries_of r ≡ entry ∷ [] → IsEntryOf before r.moment.0 r.step entry
+-- so it is of rows of steps
+pub rows-entry : (rows before : List Row) (r : Row) (entry : Entry) → AreRows rows → Within rows before r → entries_of r ≡ entry ∷ [] → IsEntryOf before r.moment.0 r.step entry
 unfolding row
-journal-entry rows before r entry journal within is =
-    let it : Made before r = each_row rows before r journal within in
+rows-entry rows before r entry all_rows within is =
+    let it : RowMade before r = each_made rows before r all_rows within in
     let all : AllEnter (IsEntryOf before r.moment.0 r.step) r.notes = subst (λ (x : Row). AllEnter (IsEntryOf before x.moment.0 x.step) x.notes) (sym it.is) (row_enters before it.step it.starved) in
     (subst (AllByRecursion (IsEntryOf before r.moment.0 r.step)) is (entered (IsEntryOf before r.moment.0 r.step) r.notes all)).0

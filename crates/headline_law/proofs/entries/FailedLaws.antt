@@ -9,10 +9,12 @@ use Rattle.event_model.proofs.KeptLaws.{last_failed}
 use Rattle.event_model.proofs.NotedLaws.{has_event-noted, last_event-before, Found, last_event-here}
 use Rattle.journal_model.specs.declared.rows.Row.{Row}
 use Rattle.journal_model.specs.Journal.{events, latest}
-use Rattle.journal_model.specs.Machine.{IsJournal}
-use Rattle.journal_model.specs.Headline.{Within, admits, EndedWithoutMemory}
-use Rattle.headline_law.proofs.entries.RowLaws.{row-moment_latest}
-use Rattle.headline_law.proofs.entries.JournalLaws.{Made, newest, each_row, latest-row, latest-before}
+use Rattle.journal_model.specs.Rows.{AreRows}
+use Rattle.journal_model.specs.PlacedRows.{Within, admits}
+use Rattle.journal_model.specs.HoldsEachOnce.{EndedWithoutMemory}
+use Rattle.journal_model.proofs.EventRows.{within_more}
+use Rattle.journal_model.proofs.entries.RowLaws.{row-moment_latest}
+use Rattle.journal_model.proofs.entries.JournalLaws.{RowMade, newest_made, each_made, latest-row, latest-before}
 use Rattle.headline_law.proofs.entries.Admissions.{row_admits}
 use Rattle.headline_law.proofs.entries.Failures.{ended_without_memory}
 
@@ -30,10 +32,6 @@ nothing_within before r within = by within.later within.whole
     by : (later : List Row) → [] ≡ later ++ r ∷ before → ⊥
     by [] whole = absurd cc
     by (y ∷ later) whole = absurd cc
-
--- within more rows
-within_more : (x : Row) (rest before : List Row) (r : Row) → Within rest before r → Within (x ∷ rest) before r
-within_more x rest before r within = record { later = x ∷ within.later; whole = ap (λ rows. x ∷ rows) within.whole }
 
 -- the moment of a row is not above the greatest
 moment-latest : (rows before : List Row) (r : Row) → Within rows before r → r.moment.0 ≤ latest rows
@@ -99,7 +97,7 @@ abbrev Failed : List Row → List Row → Type 0
 Failed rows earlier = has_event (is_failure_of (length earlier)) (events rows) ≡ true
 
 -- of two admissions that close the earlier failed, where the later one is the newest row
-newest_failed : (before earlier : List Row) (r other : Row) (peer : Peer) (mid : ℕ) → Made before r → Within before earlier other → admits peer mid r ≡ true → admits peer mid other ≡ true
+newest_failed : (before earlier : List Row) (r other : Row) (peer : Peer) (mid : ℕ) → RowMade before r → Within before earlier other → admits peer mid r ≡ true → admits peer mid other ≡ true
     → r.moment.0 < other.moment.0 + exchange_lifetime
     → ((between : List Row) (x : Row) → Within before between x → Within between earlier other → admits peer mid x ≡ true → x.moment.0 < other.moment.0 + exchange_lifetime → Failed before earlier)
     → Failed before earlier
@@ -135,15 +133,15 @@ failed_within rows before earlier r within failed = subst (λ all. Failed all ea
     after (x ∷ later) = has_event-more (is_failure_of (length earlier)) x (later ++ r ∷ before) (after later)
 
 -- of two admissions with one peer and Message ID that are less than the lifetime of an exchange apart, the earlier failed before the later one
-journal-failed_before : (rows before earlier : List Row) (r other : Row) (peer : Peer) (mid : ℕ) → IsJournal rows → Within rows before r → Within before earlier other
+rows-failed_before : (rows before earlier : List Row) (r other : Row) (peer : Peer) (mid : ℕ) → AreRows rows → Within rows before r → Within before earlier other
     → admits peer mid r ≡ true → admits peer mid other ≡ true → r.moment.0 < other.moment.0 + exchange_lifetime → Failed before earlier
-journal-failed_before [] before earlier r other peer mid journal within further now then close = absurd (nothing_within before r within)
-journal-failed_before (x ∷ rest) before earlier r other peer mid journal within further now then close =
-    by (within_cases x rest before r within) (newest rest x journal)
-    (λ between y inside deeper also near. failed_within rest between earlier y inside (journal-failed_before rest between earlier y other peer mid (newest rest x journal).journal inside deeper also then near))
-    (λ inside. journal-failed_before rest before earlier r other peer mid (newest rest x journal).journal inside further now then close)
+rows-failed_before [] before earlier r other peer mid all within further now then close = absurd (nothing_within before r within)
+rows-failed_before (x ∷ rest) before earlier r other peer mid all within further now then close =
+    by (within_cases x rest before r within) (newest_made rest x all)
+    (λ between y inside deeper also near. failed_within rest between earlier y inside (rows-failed_before rest between earlier y other peer mid (newest_made rest x all).rows inside deeper also then near))
+    (λ inside. rows-failed_before rest before earlier r other peer mid (newest_made rest x all).rows inside further now then close)
   where
-    by : ((x ≡ r) × (rest ≡ before)) ⊎ Within rest before r → Made rest x
+    by : ((x ≡ r) × (rest ≡ before)) ⊎ Within rest before r → RowMade rest x
         → ((between : List Row) (y : Row) → Within rest between y → Within between earlier other → admits peer mid y ≡ true → y.moment.0 < other.moment.0 + exchange_lifetime → Failed rest earlier)
         → (Within rest before r → Failed before earlier) → Failed before earlier
     by (inl same) it more deeper =
@@ -153,8 +151,8 @@ journal-failed_before (x ∷ rest) before earlier r other peer mid journal withi
     by (inr inside) it more deeper = deeper inside
 
 -- and so it ended in 5.00, which was sent
-pub journal-failed : (rows before earlier : List Row) (r other : Row) (peer : Peer) (mid : ℕ) → IsJournal rows → Within rows before r → Within before earlier other
+pub rows-failed : (rows before earlier : List Row) (r other : Row) (peer : Peer) (mid : ℕ) → AreRows rows → Within rows before r → Within before earlier other
     → admits peer mid r ≡ true → admits peer mid other ≡ true → r.moment.0 < other.moment.0 + exchange_lifetime → EndedWithoutMemory before (length earlier)
-journal-failed rows before earlier r other peer mid journal within further now then close =
-    ended_without_memory before (length earlier) (each_row rows before r journal within).journal
-    (journal-failed_before rows before earlier r other peer mid journal within further now then close)
+rows-failed rows before earlier r other peer mid all within further now then close =
+    ended_without_memory before (length earlier) (each_made rows before r all within).rows
+    (rows-failed_before rows before earlier r other peer mid all within further now then close)

@@ -19,15 +19,15 @@ use Rattle.journal_model.specs.declared.rows.Row.{Row}
 use Rattle.journal_model.specs.Journal.{events}
 use Rattle.journal_model.specs.Effects.{answering}
 use Rattle.journal_model.specs.Commits.{commit_effects}
-use Rattle.journal_model.specs.Rows.{done, effects, row_moment, row}
-use Rattle.journal_model.specs.Machine.{IsJournal}
-use Rattle.journal_model.specs.Headline.{Within, Placed, Commits, code_sent, EndedWithoutMemory}
+use Rattle.journal_model.specs.Rows.{done, effects, row_moment, row, AreRows}
+use Rattle.journal_model.specs.PlacedRows.{Within, Placed, Commits, code_sent}
+use Rattle.journal_model.specs.HoldsEachOnce.{EndedWithoutMemory}
 use Rattle.journal_model.proofs.NoteKinds.{of_lookup, of_write, of_empty, of_tick, of_response, are, none_of}
 use Rattle.journal_model.proofs.StepNotes.{keep_effects-notes, lookup_effects-notes, write_effects-notes, tick_effects-notes}
-use Rattle.headline_law.proofs.notes.StepTable.{StepNoted, effects-StepNoted}
-use Rattle.headline_law.proofs.notes.StepTable as noted
-use Rattle.headline_law.proofs.notes.ChangeNotes.{of_done, commit_effects-done, response_effects-notes}
-use Rattle.headline_law.proofs.entries.JournalLaws.{Made, each_row}
+use Rattle.journal_model.proofs.notes.StepTable.{StepNoted, effects-StepNoted}
+use Rattle.journal_model.proofs.notes.StepTable as noted
+use Rattle.journal_model.proofs.notes.ChangeNotes.{of_done, commit_effects-done, response_effects-notes}
+use Rattle.journal_model.proofs.entries.JournalLaws.{RowMade, each_made}
 
 -- one of the notes says that the write of a place failed
 abbrev fails : ℕ → List Note → Bool
@@ -54,8 +54,8 @@ commit_of_failure kind starved rows moment s place ns it h = by it
 
     by : StepNoted kind starved rows moment s ns → kind ≡ step.Commit place
     by (noted.nothing blank) = no (ap (fails place) blank)
-    by (noted.write m here is) = no (never_of of_write (λ p. refl) place ns (ap (are of_write) is ∙ write_effects-notes (events rows) moment s m))
-    by (noted.lookup m here is) = no (never_of of_lookup (λ p. refl) place ns (ap (are of_lookup) is ∙ lookup_effects-notes rows moment s m))
+    by (noted.write m here read asks is) = no (never_of of_write (λ p. refl) place ns (ap (are of_write) is ∙ write_effects-notes (events rows) moment s m))
+    by (noted.lookup m here read at is) = no (never_of of_lookup (λ p. refl) place ns (ap (are of_lookup) is ∙ lookup_effects-notes rows moment s m))
     by (noted.empty here all) = no (never_of of_empty (λ p. refl) place ns all)
     by (noted.response m here read responds is) = no (never_of of_response (λ p. refl) place ns (ap (are of_response) is ∙ response_effects-notes rows moment s m))
     by (noted.commit m p commits read is) = no (never_of of_done (λ q. refl) place ns (ap (are of_done) is ∙ commit_effects-done rows moment p s m))
@@ -86,7 +86,7 @@ row_failed rows s starved place h =
           ∙ failure_sent starved rows (row_moment rows s) place s (reading s.datagram) (sym (ap (λ k. fails place (effects k starved rows (row_moment rows s) s).notes) is) ∙ h);
     }
 
--- ---- journals
+-- ---- rows of steps
 
 -- what one of the events is, a note of the newest row is, or one of the events before
 newest_or_before : (test : Note → Bool) (place moment word : ℕ) (notes : List Note) (before : List Event) → has_event test (noted place moment word notes before) ≡ true
@@ -120,11 +120,11 @@ row_noting test (r ∷ before) h = by (newest_or_before test (length before) r.m
         let it : Noting test before = more further in
         record { placed = it.placed; within = record { later = r ∷ it.within.later; whole = ap (λ (rows : List Row). r ∷ rows) it.within.whole }; notes = it.notes }
 
--- in each journal
-pub ended_without_memory : (rows : List Row) (place : ℕ) → IsJournal rows → has_event (is_failure_of place) (events rows) ≡ true → EndedWithoutMemory rows place
-ended_without_memory rows place journal h =
+-- so it is among rows of steps
+pub ended_without_memory : (rows : List Row) (place : ℕ) → AreRows rows → has_event (is_failure_of place) (events rows) ≡ true → EndedWithoutMemory rows place
+ended_without_memory rows place all h =
     let it : Noting (is_failure_of place) rows = row_noting (is_failure_of place) rows h in
-    let made : Made it.placed.before it.placed.row = each_row rows it.placed.before it.placed.row journal it.within in
+    let made : RowMade it.placed.before it.placed.row = each_made rows it.placed.before it.placed.row all it.within in
     let failed : FailedRow place it.placed.row =
     subst (λ (r : Row). FailedRow place r) (sym made.is) (row_failed it.placed.before made.step made.starved place (subst (λ (r : Row). fails place r.notes ≡ true) made.is it.notes)) in
     record { before = it.placed.before; row = it.placed.row; within = it.within; commits = failed.commits; failed = it.notes; sent = failed.sent }

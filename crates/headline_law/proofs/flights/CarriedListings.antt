@@ -1,6 +1,6 @@
 -- What a tick sends carries the listing of the row that formed it, and what is in flight after it is known.
-use Rattle.std.proofs.Common.{◌≡◌, ℕ, ◌||◌, ◌&&◌, ◌==◌, Bool, true, false, cond, List, [], ◌∷◌, length, Some, option_map, Ok, refl, sym, ap, ap₂, subst, ◌∙◌}
-use Rattle.std.specs.List.{list_any, AllByRecursion}
+use Rattle.std.proofs.Common.{◌≡◌, ℕ, ◌||◌, ◌&&◌, ◌==◌, Bool, true, false, cond, List, [], ◌∷◌, Some, option_map, Ok, refl, sym, ap, ap₂, subst, ◌∙◌}
+use Rattle.std.specs.List.{list_any}
 use Rattle.std.proofs.lemmas.Bool.{false≢true}
 use Rattle.rd_base.specs.declared.peers.Peer.{Peer}
 use Rattle.message_model.specs.Message.{Message}
@@ -17,15 +17,14 @@ use Rattle.event_model.proofs.ObserverLaws.{observers-apart, Only, apart_only}
 use Rattle.journal_model.specs.declared.steps.StepKind.TheVariants as step
 use Rattle.journal_model.specs.declared.rows.Row.{Row}
 use Rattle.journal_model.specs.Journal.{events, entries}
-use Rattle.journal_model.specs.Ticks.{notices_again}
-use Rattle.journal_model.specs.Headline.{Placed, is_content, is_tagged, answers_lookup, former_noted, former_of_notice, former_at, asked_by_observer, observer_named, asked_at, FormedAs}
-use Rattle.headline_law.proofs.entries.JournalLaws.{entries-IsPrefix-row}
-use Rattle.headline_law.proofs.sends.BodyAnswers.{wanted_by_observer, Bears, bears_carries}
+use Rattle.journal_model.specs.PlacedRows.{Placed}
+use Rattle.journal_model.specs.BodyFormers.{former_noted, former_of_notice, former_at}
+use Rattle.journal_model.specs.AnswersAsFormed.{is_content, is_tagged, answers_lookup, asked_by_observer, observer_named, asked_at, FormedAs}
+use Rattle.journal_model.proofs.entries.JournalLaws.{entries-IsPrefix-row}
+use Rattle.journal_model.proofs.sends.BodyAnswers.{wanted_by_observer, Bears, bears_carries}
 use Rattle.rd_base.proofs.lemmas.Among.{Among, all_among, among_all, find_only}
-use Rattle.headline_law.proofs.notes.LookupNotes.{OfWatched, observers_all}
-use Rattle.headline_law.proofs.flights.NoticesAgain.{events_after_again, again_none}
+use Rattle.journal_model.proofs.flights.NoticesAgain.{events_after_again, stood}
 use Rattle.std.proofs.lemmas.Bool.{or_parts}
-use Rattle.rd_base.proofs.lemmas.Each.{each_failing}
 
 -- whatever listing a datagram of a row is read to have was formed as the headline says
 abbrev pub Carried : Placed → Peer × List ℕ → Type 0
@@ -70,20 +69,6 @@ noted_here peer mid (n ∷ notes) here unused none =
     by (note.Used p key) u a more = absurd (false≢true (sym u))
     by (note.Again p m) u a more = rw a more
     by _ u a more = more
-
--- ---- who stands
-
--- who stands after the first part stood before it
-pub stood : (rows : List Row) (moment word : ℕ) (P : Observer → Type 0) → AllByRecursion P (observers (events rows)) → AllByRecursion P (observers (events_after_again rows moment word))
-stood rows moment word P all = observers_all P (length rows) moment word (notices_again rows moment).notes (events rows) (each_failing is_added (OfWatched P) one (notices_again rows moment).notes (again_none is_added (λ p t. refl) (λ p m. refl) rows moment)) all
-  where
-    is_added : Note → Bool
-    is_added (note.Watched o) = true
-    is_added _ = false
-
-    one : (n : Note) → is_added n ≡ false → OfWatched P n
-    one (note.Watched o) h = absurd (false≢true (sym h))
-    one _ h = tt
 
 -- so an observer that stands stood before
 pub stood_before : (rows : List Row) (moment word : ℕ) (o : Observer) → Among o (observers (events_after_again rows moment word)) → Among o (observers (events rows))

@@ -10,10 +10,10 @@ use Rattle.event_model.specs.Observers.{name_of}
 use Rattle.event_model.specs.Flights.{is_forming_for}
 use Rattle.event_model.proofs.SameLaws.{is_same_request-refl}
 use Rattle.journal_model.specs.declared.rows.Row.{Row}
-use Rattle.headline_law.proofs.observers.ObserverKnowledge.{is_observing}
-use Rattle.headline_law.proofs.observers.AddedObservers.{around}
-use Rattle.headline_law.proofs.observers.ObserversKnow.{ObserverNotes, quiet, adds}
-use Rattle.headline_law.proofs.notes.LookupNotes.{OfWatched}
+use Rattle.journal_model.proofs.observers.ObserverKnowledge.{is_observing}
+use Rattle.journal_model.proofs.observers.AddedObservers.{around}
+use Rattle.journal_model.proofs.observers.ObserversKnow.{ObserverNotes, quiet, adds}
+use Rattle.journal_model.proofs.notes.LookupNotes.{OfWatched}
 use Rattle.journal_model.proofs.FlightKeys.{is_notice}
 use Rattle.std.proofs.lemmas.Bool.{or_right}
 use Rattle.rd_base.proofs.lemmas.Each.{each_append, none_pass, each_failing}

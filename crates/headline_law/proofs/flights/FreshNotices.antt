@@ -19,11 +19,12 @@ use Rattle.event_model.proofs.NotedLaws.{event_at, noted-append}
 use Rattle.journal_model.specs.declared.rows.Row.{Row}
 use Rattle.journal_model.specs.Journal.{events}
 use Rattle.journal_model.specs.Effects.{Effects}
-use Rattle.journal_model.specs.Headline.{is_content, forms_notice}
+use Rattle.journal_model.specs.BodyFormers.{forms_notice}
+use Rattle.journal_model.specs.AnswersAsFormed.{is_content}
 use Rattle.rd_base.proofs.lemmas.Among.{Among}
 use Rattle.journal_model.proofs.FlightKeys.{flight_key, is_landing, key_same_all, key_formed}
-use Rattle.headline_law.proofs.flights.WaitedPeers.{changes_observers, observers_same, Waits, flies_key}
-use Rattle.headline_law.proofs.flights.NoticesAgain.{AgainSent, AgainNoted, events_after_again}
+use Rattle.journal_model.proofs.flights.WaitedPeers.{changes_observers, observers_same, Waits, flies_key}
+use Rattle.journal_model.proofs.flights.NoticesAgain.{AgainSent, AgainNoted, events_after_again}
 use Rattle.headline_law.proofs.flights.TickNotices.{is_notice_to, IsNoticeOf, FlightSoFar, as_before, noticed, FreshSent, TickSoFar}
 use Rattle.std.proofs.lemmas.Bool.{or_left, or_right}
 use Rattle.rd_base.proofs.lemmas.Numbers.{eqb-refl}

@@ -15,10 +15,11 @@ use Rattle.event_model.specs.Flights.{is_forming_for}
 use Rattle.event_model.proofs.NotedLaws.{Found, last_event-here}
 use Rattle.journal_model.specs.declared.rows.Row.{Row}
 use Rattle.journal_model.specs.Journal.{events, entries, row_at}
-use Rattle.journal_model.specs.Headline.{Placed, last_row, forms_notice, former_of_notice}
-use Rattle.headline_law.proofs.sends.BodyAnswers.{wanted_by_observer, IsBodyOf}
+use Rattle.journal_model.specs.PlacedRows.{Placed, last_row}
+use Rattle.journal_model.specs.BodyFormers.{forms_notice, former_of_notice}
+use Rattle.journal_model.proofs.sends.BodyAnswers.{wanted_by_observer, IsBodyOf}
 use Rattle.journal_model.proofs.EventRows.{found_in}
-use Rattle.headline_law.proofs.notes.LookupNotes.{OfWatched, observers_all}
+use Rattle.journal_model.proofs.notes.LookupNotes.{OfWatched, observers_all}
 use Rattle.journal_model.proofs.FlightKeys.{flight_key, key_before_all, is_notice, key_none}
 use Rattle.rd_base.proofs.lemmas.Among.{all_among}
 

@@ -16,20 +16,20 @@ use Rattle.event_model.specs.Flights.{is_forming_for}
 use Rattle.event_model.proofs.NotedLaws.{noted-append}
 use Rattle.journal_model.specs.declared.rows.Row.{Row}
 use Rattle.journal_model.specs.Journal.{events, entries, row_at}
-use Rattle.journal_model.specs.Headline.{last_row, forms_notice}
-use Rattle.headline_law.proofs.sends.BodyAnswers.{wanted_by_observer, IsBodyOf, none_of_any, other_code}
+use Rattle.journal_model.specs.PlacedRows.{last_row}
+use Rattle.journal_model.specs.BodyFormers.{forms_notice}
+use Rattle.journal_model.proofs.sends.BodyAnswers.{wanted_by_observer, IsBodyOf, none_of_any, other_code}
 use Rattle.rd_base.proofs.lemmas.Among.{Among, all_among, among_all}
 use Rattle.journal_model.proofs.FlightKeys.{flight_key, is_landing, key_same_all}
-use Rattle.headline_law.proofs.flights.WaitedPeers.{changes_observers, observers_same}
-use Rattle.headline_law.proofs.flights.NoticesAgain.{events_after_again}
+use Rattle.journal_model.proofs.flights.WaitedPeers.{changes_observers, observers_same}
+use Rattle.journal_model.proofs.flights.NoticesAgain.{events_after_again, stood}
 use Rattle.headline_law.proofs.flights.TickNotices.{is_notice_to, IsNoticeOf, FlightSoFar, as_before, noticed}
 use Rattle.headline_law.proofs.flights.KnownFlights.{NoticeOf, FlightKnown, FlightsKnown, notice_of_row}
-use Rattle.headline_law.proofs.flights.CarriedListings.{stood}
 use Rattle.headline_law.proofs.rows.TickRows.{TickRow, requests_none, as_row}
 use Rattle.std.proofs.lemmas.Bool.{or_left}
 use Rattle.rd_base.proofs.lemmas.Numbers.{eqb-refl}
 use Rattle.rd_base.proofs.lemmas.Each.{each_append, none_pass, each_weaker}
-use Rattle.headline_law.proofs.sends.PlainSteps.{IsPlain}
+use Rattle.journal_model.proofs.sends.PlainSteps.{IsPlain}
 
 -- where no notice goes to a peer, none goes to it with a Message ID
 none_with : (peer : Peer) (mid : ℕ) (notes : List Note) → list_any (is_notice_to peer) notes ≡ false → list_any (forms_notice peer mid) notes ≡ false

@@ -19,15 +19,15 @@ use Rattle.journal_model.specs.Journal.{entries}
 use Rattle.journal_model.specs.Effects.{Effects, mid_of}
 use Rattle.journal_model.specs.Bodies.{is_long}
 use Rattle.journal_model.specs.Ticks.{max_notices, first_block, listing_for, is_unchanged, is_looked_at, events_with, ticking, noticed_unless, noticed_if, notice_next, notices_again, notices}
-use Rattle.headline_law.proofs.notes.LookupNotes.{IsAsking}
-use Rattle.headline_law.proofs.sends.BodyAnswers.{tag-length, notice_bears}
+use Rattle.journal_model.proofs.notes.LookupNotes.{IsAsking}
+use Rattle.journal_model.proofs.sends.BodyAnswers.{tag-length, notice_bears}
 use Rattle.rd_base.proofs.lemmas.Among.{Among, all_among, among_all}
 use Rattle.journal_model.proofs.FlightKeys.{is_landing}
-use Rattle.headline_law.proofs.flights.WaitedPeers.{changes_observers, Waits, waited}
-use Rattle.headline_law.proofs.flights.NoticesAgain.{again_peer, AgainSent, AgainNoted, again_notes, again_sends, again_none, events_after_again, again_key, again_waits}
+use Rattle.journal_model.proofs.flights.WaitedPeers.{changes_observers, Waits, waited}
+use Rattle.journal_model.proofs.flights.NoticesAgain.{again_peer, AgainSent, AgainNoted, again_notes, again_sends, again_none, events_after_again, again_key, again_waits}
 use Rattle.headline_law.proofs.flights.TickNotices.{is_notice_to, as_before, TickSoFar, so_far_quiet, FreshSent}
 use Rattle.message_model.specs.Reading.{reading}
-use Rattle.journal_model.specs.Headline.{is_content}
+use Rattle.journal_model.specs.AnswersAsFormed.{is_content}
 use Rattle.headline_law.proofs.flights.FreshNotices.{NewNotice, so_far_noticed}
 use Rattle.rd_base.proofs.lemmas.Each.{each_weaker}
 

@@ -20,12 +20,13 @@ use Rattle.journal_model.specs.Journal.{events, entries}
 use Rattle.journal_model.specs.Effects.{Effects}
 use Rattle.journal_model.specs.Ticks.{notices}
 use Rattle.journal_model.specs.Ticks.{notices_again}
-use Rattle.journal_model.specs.Headline.{is_content, forms_notice}
-use Rattle.headline_law.proofs.sends.BodyAnswers.{wanted_by_observer, IsBodyOf}
+use Rattle.journal_model.specs.BodyFormers.{forms_notice}
+use Rattle.journal_model.specs.AnswersAsFormed.{is_content}
+use Rattle.journal_model.proofs.sends.BodyAnswers.{wanted_by_observer, IsBodyOf}
 use Rattle.rd_base.proofs.lemmas.Among.{Among}
 use Rattle.journal_model.proofs.FlightKeys.{flight_key, is_landing, key_same_all}
-use Rattle.headline_law.proofs.flights.WaitedPeers.{changes_observers, observers_same, Waits, flies_key}
-use Rattle.headline_law.proofs.flights.NoticesAgain.{AgainSent, AgainNoted, events_after_again}
+use Rattle.journal_model.proofs.flights.WaitedPeers.{changes_observers, observers_same, Waits, flies_key}
+use Rattle.journal_model.proofs.flights.NoticesAgain.{AgainSent, AgainNoted, events_after_again}
 use Rattle.std.proofs.lemmas.Bool.{or_left}
 use Rattle.rd_base.proofs.lemmas.Each.{each_append, each_weaker}
 

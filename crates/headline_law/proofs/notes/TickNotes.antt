@@ -16,8 +16,8 @@ use Rattle.journal_model.specs.Bodies.{is_long}
 use Rattle.journal_model.specs.Ticks.{first_block, listing_for, is_unchanged, is_looked_at, events_with, ticking, noticed_unless, noticed_if, notice_next, notices_again, notices, requests_again, tick_effects}
 use Rattle.journal_model.proofs.NoteKinds.{of_again, of_resent, are}
 use Rattle.journal_model.proofs.StepNotes.{notices_again-notes, requests_again-notes}
-use Rattle.headline_law.proofs.notes.LookupNotes.{IsAsking, NoteAsAsked, NotesAsAsked}
-use Rattle.headline_law.proofs.flights.NoticesAgain.{events_after_again}
+use Rattle.journal_model.proofs.notes.LookupNotes.{IsAsking, NoteAsAsked, NotesAsAsked}
+use Rattle.journal_model.proofs.flights.NoticesAgain.{events_after_again}
 use Rattle.rd_base.proofs.lemmas.Each.{each_append}
 
 -- notes of a kind that keeps nothing and adds nobody

@@ -17,24 +17,25 @@ use Rattle.journal_model.specs.Effects.{Effects}
 use Rattle.journal_model.specs.Ticks.{ticking, notices_again, notices, requests_again, tick_effects}
 use Rattle.journal_model.specs.Rows.{effects, row_moment, row}
 use Rattle.journal_model.specs.Machine.{MayMake, MayBegin, IsJournal, begun, made}
-use Rattle.journal_model.specs.Headline.{former_of_body, FormedAs, is_content, Sent, is_listing, AnswersAsFormed}
+use Rattle.journal_model.specs.BodyFormers.{former_of_body}
+use Rattle.journal_model.specs.AnswersAsFormed.{FormedAs, is_content, Sent, is_listing, AnswersAsFormed}
 use Rattle.journal_model.proofs.NoteKinds.{of_tick, none_of}
 use Rattle.journal_model.proofs.StepNotes.{requests_again-notes, tick_effects-notes}
 use Rattle.journal_model.proofs.EntriesNoted.{entries_in}
-use Rattle.headline_law.proofs.sends.PlainSteps.{ArePlain}
-use Rattle.headline_law.proofs.entries.QuietSteps.{tick_effects-entries_in}
-use Rattle.headline_law.proofs.observers.ObserversKnow.{IsNoTick, step_observer_notes}
-use Rattle.headline_law.proofs.sends.TickSends.{requests_plain}
+use Rattle.journal_model.proofs.sends.PlainSteps.{ArePlain}
+use Rattle.journal_model.proofs.entries.QuietSteps.{tick_effects-entries_in}
+use Rattle.journal_model.proofs.observers.ObserversKnow.{IsNoTick, step_observer_notes}
+use Rattle.journal_model.proofs.sends.TickSends.{requests_plain}
 use Rattle.headline_law.proofs.sends.ValidLaw.{before_all, journal_sends, looks_are_validated}
 use Rattle.headline_law.proofs.rows.Validations.{sent_validates}
 use Rattle.headline_law.proofs.sends.RowSends.{Before}
 use Rattle.journal_model.proofs.EventRows.{AllRows, row_within}
 use Rattle.rd_base.proofs.lemmas.Among.{Among, all_among, all_at_index}
-use Rattle.headline_law.proofs.notes.LookupNotes.{IsAsking, NotesAsAsked, OfWatched, observers_all}
-use Rattle.headline_law.proofs.flights.NoticesAgain.{events_after_again}
+use Rattle.journal_model.proofs.notes.LookupNotes.{IsAsking, NotesAsAsked, OfWatched, observers_all}
+use Rattle.journal_model.proofs.flights.NoticesAgain.{events_after_again, stood}
 use Rattle.headline_law.proofs.flights.TickNotices.{TickSoFar}
 use Rattle.headline_law.proofs.flights.TickFolds.{tick_begins, tick_notifies}
-use Rattle.headline_law.proofs.flights.CarriedListings.{Carried, is_used, stood}
+use Rattle.headline_law.proofs.flights.CarriedListings.{Carried, is_used}
 use Rattle.headline_law.proofs.rows.TickRows.{TickRow, tick_carried}
 use Rattle.headline_law.proofs.flights.TickFlights.{tick_flights}
 use Rattle.headline_law.proofs.notes.TickNotes.{tick_notes_as_asked}
@@ -44,7 +45,7 @@ use Rattle.headline_law.proofs.sends.StepOutcomes.{is_keeping, StepOutcome, plai
 use Rattle.headline_law.proofs.rows.RowCarries.{NoteAsFormed, RowCarries, plain_row, look_row, own_notes_as_formed}
 use Rattle.headline_law.proofs.rows.LookupRows.{lookup_row}
 use Rattle.headline_law.proofs.rows.KeepRows.{keep_row}
-use Rattle.headline_law.proofs.entries.JournalLaws.{entries-none_noted}
+use Rattle.journal_model.proofs.entries.JournalLaws.{entries-none_noted}
 
 -- what is known of a journal: each of its rows, its observers, and the notices in flight
 record CarriesAll (rows : List Row) : Type 0 where

@@ -4,7 +4,8 @@ use Rattle.std.specs.Prelude.{is_none, option_map}
 use Rattle.std.specs.List.{AllByRecursion}
 use Rattle.std.proofs.lemmas.Bool.{and_parts}
 use Rattle.rd_base.specs.declared.peers.Peer.{Peer}
-use Rattle.message_model.specs.Message.{Message}
+use Rattle.message_model.specs.declared.messages.Role.TheVariants as role
+use Rattle.message_model.specs.Message.{Message, role_of}
 use Rattle.message_model.specs.Reading.{reading}
 use Rattle.message_model.specs.RequestKey.{key_in}
 use Rattle.history_model.specs.Listing.{listing, tag}
@@ -25,16 +26,18 @@ use Rattle.journal_model.specs.Sought.{sought_at}
 use Rattle.journal_model.specs.Looks.{names_tag, unless_long, unless_valid, look_for, look, body_held, held_after, keep_effects}
 use Rattle.journal_model.specs.Rows.{effects, row_moment, row}
 use Rattle.journal_model.specs.Machine.{Job, job_of, MayBegin, hears, goes, ticks, is_look_datagram, is_look_reading, IsJournal}
-use Rattle.journal_model.specs.Headline.{Placed, look_of, former_of_body, former_at, asked_at, Carries}
+use Rattle.journal_model.specs.PlacedRows.{Placed}
+use Rattle.journal_model.specs.BodyFormers.{look_of, former_of_body, former_at}
+use Rattle.journal_model.specs.AnswersAsFormed.{asked_at, Carries}
 use Rattle.journal_model.proofs.EntriesNoted.{entries_in}
 use Rattle.journal_model.proofs.StepNotes.{keep_effects-notes}
-use Rattle.headline_law.proofs.notes.SilentSteps.{looked_notes}
-use Rattle.headline_law.proofs.entries.JournalLaws.{Made, each_row, entries-none_noted, entries-IsPrefix-row}
+use Rattle.journal_model.proofs.notes.SilentSteps.{looked_notes}
+use Rattle.journal_model.proofs.entries.JournalLaws.{Made, each_row, entries-none_noted, entries-IsPrefix-row}
 use Rattle.journal_model.proofs.Jobs.{KeepsOf, keeps_of}
 use Rattle.message_model.proofs.ReadingLaws.{header_read}
-use Rattle.headline_law.proofs.sends.BodyAnswers.{wanted_by, asking, Bears, tag-length, same_message, bears_carries}
+use Rattle.journal_model.proofs.sends.BodyAnswers.{wanted_by, asking, Bears, tag-length, same_message, bears_carries}
 use Rattle.headline_law.proofs.sends.LookupSends.{IsAnswerOf, keep_bears}
-use Rattle.headline_law.proofs.notes.LookupNotes.{look_fits, KeptAt}
+use Rattle.journal_model.proofs.notes.LookupNotes.{look_fits, KeptAt}
 use Rattle.headline_law.proofs.sends.ValidLaw.{LooksAt, a_look_reads, looked_a_look}
 use Rattle.headline_law.proofs.flights.CarriedListings.{Carried}
 use Rattle.headline_law.proofs.rows.RowCarries.{NoteAsFormed, RowCarries, asked_in-own}
@@ -93,11 +96,12 @@ unfolding is_look_request
 look_only m h = (and_parts (is_none (refusal_of_request m)) (only_looks m) h).1
 
 -- the look whose job a keep ends
-record KeepOf (rows : List Row) (worker : ℕ) (m : Message) (body current : List ℕ) : Type 0 where
-  look : Placed
-  found : look_of worker rows ≡ Some look
-  is_kept : KeptAt (entries (look.row ∷ look.before)) look.row.moment.0 (key_in m) body current
-  query_is : is_kept.query ≡ query_of m
+pub record KeepOf (rows : List Row) (worker : ℕ) (m : Message) (body current : List ℕ) : Type 0 where
+  pub look : Placed
+  pub found : look_of worker rows ≡ Some look
+  pub is_kept : KeptAt (entries (look.row ∷ look.before)) look.row.moment.0 (key_in m) body current
+  pub query_is : is_kept.query ≡ query_of m
+  pub asks : role_of m.kind m.code ≡ role.Request
 
 -- a row of a look notes nothing, and its datagram is that of a look
 record LookRow (before : List Row) (r : Row) : Type 0 where
@@ -125,7 +129,7 @@ keep_job_of rows s body current (goes holds) kind = holds
 keep_job_of rows s body current (ticks tick) kind = absurd (let h : step.Tick ≡ step.Keep body current = sym tick ∙ kind in cc)
 
 -- so it is of each keep
-keep_of : (rows : List Row) (s : Step) (m : Message) (body current : List ℕ) → IsJournal rows → MayBegin rows s → s.kind ≡ step.Keep body current → reading s.datagram ≡ Ok m → KeepOf rows s.worker m body current
+pub keep_of : (rows : List Row) (s : Step) (m : Message) (body current : List ℕ) → IsJournal rows → MayBegin rows s → s.kind ≡ step.Keep body current → reading s.datagram ≡ Ok m → KeepOf rows s.worker m body current
 keep_of rows s m body current journal may kind read = record {
   look = held.look;
   found = held.found;
@@ -136,6 +140,7 @@ keep_of rows s m body current journal may kind read = record {
     tag_is = parts.1 ∙ ap (λ history. tag history held.look.row.moment.0) (sym same_entries);
   };
   query_is = refl;
+  asks = subst (λ (x : Message). role_of x.kind x.code ≡ role.Request) (same_message looks_at.message m held.look.row.step.datagram looks_at.read_is same_read) looks_at.asks;
 }
   where
     job : Job

@@ -19,18 +19,20 @@ use Rattle.journal_model.specs.declared.rows.Row.{Row}
 use Rattle.journal_model.specs.Journal.{is_heard, events, entries}
 use Rattle.journal_model.specs.Requests.{query_of, is_lookup}
 use Rattle.journal_model.specs.Lookups.{lookup_effects}
-use Rattle.journal_model.specs.Headline.{Placed, former_of_body, former_of_kept, former_noted, Carries}
+use Rattle.journal_model.specs.PlacedRows.{Placed}
+use Rattle.journal_model.specs.BodyFormers.{former_of_body, former_of_kept, former_noted}
+use Rattle.journal_model.specs.AnswersAsFormed.{Carries}
 use Rattle.journal_model.proofs.EntriesNoted.{entries_in}
-use Rattle.headline_law.proofs.entries.QuietSteps.{lookup_effects-entries_in}
+use Rattle.journal_model.proofs.entries.QuietSteps.{lookup_effects-entries_in}
 use Rattle.message_model.proofs.ReadingLaws.{header_read}
-use Rattle.headline_law.proofs.sends.BodyAnswers.{wanted_by, asking, Bears, tag-length, bears_carries}
+use Rattle.journal_model.proofs.sends.BodyAnswers.{wanted_by, asking, Bears, tag-length, bears_carries}
 use Rattle.headline_law.proofs.sends.LookupSends.{IsAnswerOf, AreListings, AreBodiesOf, names_earlier_row, LookupOutcome, now, kept, lookup_outcome}
 use Rattle.journal_model.proofs.EventRows.{AllRows, row_of, row_within, said_by}
-use Rattle.headline_law.proofs.notes.LookupNotes.{asks_once, lookup_fits, KeptAt, NotesAsAsked, lookup_notes_as_asked}
+use Rattle.journal_model.proofs.notes.LookupNotes.{asks_once, lookup_fits, KeptAt, NotesAsAsked, lookup_notes_as_asked}
 use Rattle.headline_law.proofs.flights.CarriedListings.{Carried}
 use Rattle.headline_law.proofs.rows.RowCarries.{KeptAsFormed, NoteAsFormed, RowCarries, heard_former, heard_asked, asked_in-own, lookup_no_discovery, heard_forms_itself, now_carried, own_notes_as_formed}
 use Rattle.rd_base.proofs.lemmas.Among.{all_among}
-use Rattle.headline_law.proofs.entries.JournalLaws.{entries-none_noted, entries-IsPrefix-row}
+use Rattle.journal_model.proofs.entries.JournalLaws.{entries-none_noted, entries-IsPrefix-row}
 use Rattle.rd_base.proofs.lemmas.Each.{each_weaker}
 
 -- ---- kept answers

@@ -20,18 +20,20 @@ use Rattle.journal_model.specs.declared.rows.Row.{Row}
 use Rattle.journal_model.specs.Journal.{is_heard, entries}
 use Rattle.journal_model.specs.Requests.{query_of, is_lookup, is_discovery}
 use Rattle.journal_model.specs.Looks.{look_effects}
-use Rattle.journal_model.specs.Headline.{Placed, former_of_body, former_noted, former_at, asked_in, asked_at, names_lookup, answers_lookup}
+use Rattle.journal_model.specs.PlacedRows.{Placed}
+use Rattle.journal_model.specs.BodyFormers.{former_of_body, former_noted, former_at}
+use Rattle.journal_model.specs.AnswersAsFormed.{asked_in, asked_at, names_lookup, answers_lookup}
 use Rattle.journal_model.proofs.EntriesNoted.{entries_in}
 use Rattle.journal_model.proofs.StepNotes.{look_effects-notes}
 use Rattle.message_model.proofs.ReadingLaws.{header_read}
-use Rattle.headline_law.proofs.sends.BodyAnswers.{wanted_by, asking, Bears, IsUntagged, other_code, bears_carries}
-use Rattle.headline_law.proofs.sends.PlainSteps.{ArePlain, IsPlain}
+use Rattle.journal_model.proofs.sends.BodyAnswers.{wanted_by, asking, Bears, IsUntagged, other_code, bears_carries}
+use Rattle.journal_model.proofs.sends.PlainSteps.{ArePlain, IsPlain}
 use Rattle.headline_law.proofs.sends.LookupSends.{IsAnswerOf, AreListings, look_lists, look_discovers, names_earlier_row}
-use Rattle.headline_law.proofs.notes.LookupNotes.{IsAsking, KeptAt, NoteAsAsked, NotesAsAsked}
+use Rattle.journal_model.proofs.notes.LookupNotes.{IsAsking, KeptAt, NoteAsAsked, NotesAsAsked}
 use Rattle.headline_law.proofs.flights.CarriedListings.{Carried}
 use Rattle.headline_law.proofs.sends.StepOutcomes.{is_keeping}
 use Rattle.std.proofs.lemmas.Bool.{or_parts}
-use Rattle.headline_law.proofs.entries.JournalLaws.{entries-none_noted, entries-IsPrefix-row}
+use Rattle.journal_model.proofs.entries.JournalLaws.{entries-none_noted, entries-IsPrefix-row}
 use Rattle.rd_base.proofs.lemmas.Each.{each_weaker, each_failing}
 
 -- an answer that is kept at a row: the listing of the query of its key, at the row that formed it

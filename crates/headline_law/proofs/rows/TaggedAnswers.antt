@@ -16,9 +16,15 @@ use Rattle.journal_model.specs.declared.steps.StepKind.{StepKind}
 use Rattle.journal_model.specs.declared.steps.StepKind.TheVariants as step
 use Rattle.journal_model.specs.declared.rows.Row.{Row}
 use Rattle.journal_model.specs.Journal.{entries}
+use Rattle.journal_model.specs.Rows.{AreRows}
 use Rattle.journal_model.specs.Machine.{IsJournal}
+use Rattle.journal_model.specs.DeskJournal.{IsDeskJournal}
 use Rattle.journal_model.specs.Requests.{asked_block}
-use Rattle.journal_model.specs.Headline.{Within, Placed, last_row, former_of_body, former_of_kept, former_of_notice, former_noted, former_at, FormedAs, Asked, IsBlockOf, Sent, is_listing, query_of_sent, AreBlocksOfOne, TagsDecideStates}
+use Rattle.journal_model.specs.PlacedRows.{Within, Placed, last_row}
+use Rattle.journal_model.specs.BodyFormers.{former_of_body, former_of_kept, former_of_notice, former_noted, former_at}
+use Rattle.journal_model.specs.AnswersAsFormed.{FormedAs, Asked, IsBlockOf, Sent}
+use Rattle.journal_model.specs.TagsDecideStates.{query_of_sent, AreBlocksOfOne, TagsDecideStates, FormedTagsDecideStates}
+use Rattle.journal_model.proofs.entries.JournalLaws.{journal-AreRows, desk-AreRows}
 use Rattle.headline_law.proofs.entries.TagStates.{tags_tell}
 use Rattle.headline_law.proofs.rows.AnswersAsFormed.{answer_formed}
 
@@ -93,21 +99,15 @@ stands_former step.Tick peer mid here p e = stands_noted peer mid here.row.notes
 
 -- ---- the law
 
--- two answers with equal tags, to equal queries
-answers_share : (rows : List Row) → IsJournal rows → (one other : Sent rows) → is_listing one ≡ true → is_listing other ≡ true → etags_in one.message ≡ etags_in other.message → query_of_sent one ≡ query_of_sent other
-    → AreBlocksOfOne one.message other.message
-answers_share rows journal one other listed also same_tags same_queries = record {
+-- two answers that were formed in rows, with equal tags, to equal queries
+formed_share : (rows : List Row) → AreRows rows → (one other : Sent rows) → FormedAs one.here one.peer one.message → FormedAs other.here other.peer other.message
+    → etags_in one.message ≡ etags_in other.message → query_of_sent one ≡ query_of_sent other → AreBlocksOfOne one.message other.message
+formed_share rows all one other f g same_tags same_queries = record {
   body = listing f.asked.query (entries (f.former.row ∷ f.former.before)) f.former.row.moment.0;
   first = f.carries.block.block;
   second = subst (λ body. IsBlockOf (asked_block other.message) body other.message.payload) (sym same_listings) g.carries.block.block;
 }
   where
-    f : FormedAs one.here one.peer one.message
-    f = answer_formed rows journal one listed
-
-    g : FormedAs other.here other.peer other.message
-    g = answer_formed rows journal other also
-
     here : Stands rows f.former
     here = stands_through rows one.here f.former one.within (stands_former one.here.row.step.kind one.peer one.message.mid one.here f.former f.formed)
 
@@ -127,13 +127,22 @@ answers_share rows journal one other listed also same_tags same_queries = record
     same_listings : listing f.asked.query (entries (f.former.row ∷ f.former.before)) f.former.row.moment.0 ≡ listing g.asked.query (entries (g.former.row ∷ g.former.before)) g.former.row.moment.0
     same_listings =
         listing-live f.asked.query (entries (f.former.row ∷ f.former.before)) (entries (g.former.row ∷ g.former.before)) f.former.row.moment.0 g.former.row.moment.0
-        (tags_tell rows f.former.before g.former.before f.former.row g.former.row journal here there same_tag).1
+        (tags_tell rows f.former.before g.former.before f.former.row g.former.row all here there same_tag).1
         ∙ ap (λ (q : Query). listing q (entries (g.former.row ∷ g.former.before)) g.former.row.moment.0) same_query
 
 -- equally tagged answers come from one state, and carry blocks of one listing
 pub journal-TagsDecideStates : (rows : List Row) → IsJournal rows → TagsDecideStates rows
 journal-TagsDecideStates rows journal = record {
-  histories = λ before other_before r other here there same. (tags_tell rows before other_before r other journal here there same).0;
-  records = λ before other_before r other here there same. (tags_tell rows before other_before r other journal here there same).1;
-  answers = λ one other listed also same_tags same_queries. answers_share rows journal one other listed also same_tags same_queries;
+  histories = λ before other_before r other here there same. (tags_tell rows before other_before r other (journal-AreRows rows journal) here there same).0;
+  records = λ before other_before r other here there same. (tags_tell rows before other_before r other (journal-AreRows rows journal) here there same).1;
+  answers = λ one other listed also same_tags same_queries.
+      formed_share rows (journal-AreRows rows journal) one other (answer_formed rows journal one listed) (answer_formed rows journal other also) same_tags same_queries;
+}
+
+-- of a journal of a desk, so do answers that were formed in rows
+pub desk-FormedTagsDecideStates : (rows : List Row) → IsDeskJournal rows → FormedTagsDecideStates rows
+desk-FormedTagsDecideStates rows journal = record {
+  histories = λ before other_before r other here there same. (tags_tell rows before other_before r other (desk-AreRows rows journal) here there same).0;
+  records = λ before other_before r other here there same. (tags_tell rows before other_before r other (desk-AreRows rows journal) here there same).1;
+  answers = λ one other formed also same_tags same_queries. formed_share rows (desk-AreRows rows journal) one other formed also same_tags same_queries;
 }

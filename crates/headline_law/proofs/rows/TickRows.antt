@@ -17,15 +17,15 @@ use Rattle.journal_model.specs.declared.steps.StepKind.TheVariants as step
 use Rattle.journal_model.specs.declared.rows.Row.{Row}
 use Rattle.journal_model.specs.Journal.{events, entries, row_at}
 use Rattle.journal_model.specs.Effects.{Effects}
-use Rattle.journal_model.specs.Headline.{former_noted}
+use Rattle.journal_model.specs.BodyFormers.{former_noted}
 use Rattle.journal_model.proofs.NoteKinds.{of_resent, are, none_of}
-use Rattle.headline_law.proofs.sends.BodyAnswers.{wanted_by_observer, IsBodyOf, other_code}
-use Rattle.headline_law.proofs.sends.PlainSteps.{IsPlain, ArePlain}
-use Rattle.headline_law.proofs.sends.TickSends.{FoundSent, sent_by-FoundSent, mid_of_confirmable}
+use Rattle.journal_model.proofs.sends.BodyAnswers.{wanted_by_observer, IsBodyOf, other_code}
+use Rattle.journal_model.proofs.sends.PlainSteps.{IsPlain, ArePlain}
+use Rattle.journal_model.proofs.sends.TickSends.{FoundSent, sent_by-FoundSent, mid_of_confirmable}
 use Rattle.rd_base.proofs.lemmas.Among.{all_among}
 use Rattle.journal_model.proofs.FlightKeys.{key_of}
-use Rattle.headline_law.proofs.flights.WaitedPeers.{Waits}
-use Rattle.headline_law.proofs.flights.NoticesAgain.{again_peer, AgainSent, AgainNoted, events_after_again, again_waits}
+use Rattle.journal_model.proofs.flights.WaitedPeers.{Waits}
+use Rattle.journal_model.proofs.flights.NoticesAgain.{again_peer, AgainSent, AgainNoted, events_after_again, again_waits}
 use Rattle.headline_law.proofs.flights.TickNotices.{IsNoticeOf, FreshSent, TickSoFar}
 use Rattle.headline_law.proofs.flights.KnownFlights.{NoticeOf, FlightKnown, FlightsKnown}
 use Rattle.headline_law.proofs.flights.CarriedListings.{Carried, is_used, noted_again, noted_here, stood_before, observer_formed}

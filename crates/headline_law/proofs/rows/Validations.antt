@@ -28,15 +28,15 @@ use Rattle.journal_model.specs.Effects.{answering}
 use Rattle.journal_model.specs.Looks.{names_tag, still_valid, unless_long, unless_valid, look_for, look, look_sent, looked, look_effects}
 use Rattle.journal_model.specs.Rows.{effects, row_moment, row}
 use Rattle.journal_model.specs.Machine.{MayMake, IsJournal}
-use Rattle.journal_model.specs.Headline.{looks_with_tag, asked_at, Sent, Validates}
+use Rattle.journal_model.specs.AnswersAsFormed.{looks_with_tag, asked_at, Sent, Validates}
 use Rattle.journal_model.proofs.EventRows.{row_within}
 use Rattle.rd_base.proofs.lemmas.Among.{all_at_index}
 use Rattle.rd_base.proofs.lemmas.Each.{each_weaker}
-use Rattle.headline_law.proofs.entries.JournalLaws.{Made, each_row}
-use Rattle.headline_law.proofs.sends.BodyAnswers.{wanted_by, asking, code_read, same_message, tag-length}
-use Rattle.headline_law.proofs.sends.PlainSteps.{starved_plain}
-use Rattle.headline_law.proofs.sends.TickSends.{plain_not_valid}
-use Rattle.headline_law.proofs.sends.ValidSends.{NotValid, body_code, looks_either}
+use Rattle.journal_model.proofs.entries.JournalLaws.{Made, each_row}
+use Rattle.journal_model.proofs.sends.BodyAnswers.{wanted_by, asking, code_read, same_message, tag-length}
+use Rattle.journal_model.proofs.sends.PlainSteps.{starved_plain}
+use Rattle.journal_model.proofs.sends.TickSends.{plain_not_valid}
+use Rattle.journal_model.proofs.sends.ValidSends.{NotValid, body_code, looks_either}
 use Rattle.headline_law.proofs.sends.ValidLaw.{RowSends, journal_sends, looked_a_look, LooksAt, a_look_reads}
 use Rattle.headline_law.proofs.rows.RowCarries.{asked_in-own}
 use Rattle.journal_model.specs.Sought.{sought_at}

@@ -27,7 +27,7 @@ use Rattle.message_model.specs.declared.requests.Path.TheVariants as path
 use Rattle.message_model.specs.Request.{path_in}
 use Rattle.journal_model.specs.Looks.{names_tag, unless_long, unless_valid, look_for, look, look_sent, look_effects, keep_effects}
 use Rattle.journal_model.specs.Lookups.{listing_now, block_now, block_of_kept, later_block, removal, without, keeping, observed_if, observed, unobserved, observation_effects, first_block_effects, block_effects, lookup_effects}
-use Rattle.headline_law.proofs.sends.BodyAnswers.{Wanted, wanted_by, request-usable, IsBodyOf, IsUntagged, other_code, none_of_any, tag-length, part_bears, body_bears, body_untagged}
+use Rattle.journal_model.proofs.sends.BodyAnswers.{Wanted, wanted_by, request-usable, IsBodyOf, IsUntagged, other_code, none_of_any, tag-length, part_bears, body_bears, body_untagged}
 use Rattle.journal_model.proofs.StepNotes.{look_effects-notes}
 
 -- a datagram goes to a peer, and each 2.05 has the block of this body that is wanted, under this tag

@@ -23,8 +23,8 @@ use Rattle.journal_model.specs.Requests.{Method, get, post, put, delete, other_m
 use Rattle.journal_model.specs.Commits.{settling, updating, removing, simple_unless, on_location, write_done, commit_effects}
 use Rattle.journal_model.specs.Responses.{fetch_of, strange, acknowledgement, more_follow, block_in, is_elsewhere, ends_fetch, gathering, response_taken, response_to, response_to_request, response_effects}
 use Rattle.journal_model.proofs.NoteKinds.{are}
-use Rattle.headline_law.proofs.notes.ChangeNotes.{change_made-notes, registering-notes}
-use Rattle.headline_law.proofs.sends.PlainSteps.{IsPlainCode, IsPlain, ArePlain, SettlesPlainly, plain_spelled, plain_answering, change_plain, registering_plain, never_settles}
+use Rattle.journal_model.proofs.notes.ChangeNotes.{change_made-notes, registering-notes}
+use Rattle.journal_model.proofs.sends.PlainSteps.{IsPlainCode, IsPlain, ArePlain, SettlesPlainly, plain_spelled, plain_answering, change_plain, registering_plain, never_settles}
 use Rattle.rd_base.proofs.lemmas.Each.{each_append}
 
 -- what is noted beside a change

@@ -36,12 +36,12 @@ use Rattle.journal_model.specs.Rows.{served, request_answered, message_effects, 
 use Rattle.journal_model.specs.Machine.{is_look_message, is_look_reading}
 use Rattle.journal_model.proofs.NoteKinds.{of_lookup, of_write, of_empty, of_tick, of_response, are}
 use Rattle.journal_model.proofs.StepNotes.{look_effects-notes, keep_effects-notes, lookup_effects-notes, write_effects-notes, acknowledged-notes, reset-notes, tick_effects-notes}
-use Rattle.headline_law.proofs.notes.ChangeNotes.{response_effects-notes}
-use Rattle.headline_law.proofs.notes.SilentSteps.{refusal_notes, unread_notes}
-use Rattle.headline_law.proofs.sends.PlainSteps.{IsPlain, ArePlain, SettledPlain, SettlesPlainly, refusal_plain, refused_plain, starved_plain, unread_plain, write_plain, never_settles}
+use Rattle.journal_model.proofs.notes.ChangeNotes.{response_effects-notes}
+use Rattle.journal_model.proofs.notes.SilentSteps.{refusal_notes, unread_notes}
+use Rattle.journal_model.proofs.sends.PlainSteps.{IsPlain, ArePlain, SettledPlain, SettlesPlainly, refusal_plain, refused_plain, starved_plain, unread_plain, write_plain, never_settles}
 use Rattle.headline_law.proofs.sends.PlainCommits.{commit_plain, response_plain}
-use Rattle.headline_law.proofs.sends.ValidSends.{NoneValid, NoConfirmableValid, no_confirmable_valid, look_no_confirmable_valid, keep_not_valid, lookup_not_valid}
-use Rattle.headline_law.proofs.sends.TickSends.{AskedPlain, NoConfirmableValidAt, plain_not_valid, tick_not_valid}
+use Rattle.journal_model.proofs.sends.ValidSends.{NoneValid, NoConfirmableValid, no_confirmable_valid, look_no_confirmable_valid, keep_not_valid, lookup_not_valid}
+use Rattle.journal_model.proofs.sends.TickSends.{AskedPlain, NoConfirmableValidAt, plain_not_valid, tick_not_valid}
 
 -- what holds of the octets that a note settles, and of those that its row sent where it asks for a block
 abbrev pub NoteFact : List (Peer × List ℕ) → Note → Type 0

@@ -31,9 +31,9 @@ use Rattle.journal_model.specs.Responses.{response_effects}
 use Rattle.journal_model.specs.Rows.{served, request_answered, message_effects, heard, done, kept_body}
 use Rattle.journal_model.proofs.NoteKinds.{of_write, of_empty, of_commit, of_response, are, none_of}
 use Rattle.journal_model.proofs.StepNotes.{write_effects-notes, acknowledged-notes, reset-notes}
-use Rattle.headline_law.proofs.notes.ChangeNotes.{commit_effects-notes, response_effects-notes}
-use Rattle.headline_law.proofs.notes.SilentSteps.{refusal_notes, unread_notes}
-use Rattle.headline_law.proofs.sends.PlainSteps.{ArePlain, SettledPlain, refusal_plain, refused_plain, starved_plain, unread_plain, write_plain}
+use Rattle.journal_model.proofs.notes.ChangeNotes.{commit_effects-notes, response_effects-notes}
+use Rattle.journal_model.proofs.notes.SilentSteps.{refusal_notes, unread_notes}
+use Rattle.journal_model.proofs.sends.PlainSteps.{ArePlain, SettledPlain, refusal_plain, refused_plain, starved_plain, unread_plain, write_plain}
 use Rattle.headline_law.proofs.sends.PlainCommits.{commit_plain, response_plain}
 
 -- the note keeps an answer, or adds an observer

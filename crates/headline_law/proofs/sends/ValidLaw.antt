@@ -25,13 +25,14 @@ use Rattle.journal_model.specs.Requests.{is_look_request}
 use Rattle.journal_model.specs.Looks.{looked}
 use Rattle.journal_model.specs.Rows.{effects, row_moment, row}
 use Rattle.journal_model.specs.Machine.{is_look_message, is_look_reading, is_look_datagram, MayMake, IsJournal, begun, made}
-use Rattle.journal_model.specs.Headline.{Within, code_sent, looks_with_tag}
-use Rattle.headline_law.proofs.entries.JournalLaws.{Made, each_row}
+use Rattle.journal_model.specs.PlacedRows.{Within, code_sent}
+use Rattle.journal_model.specs.AnswersAsFormed.{looks_with_tag}
+use Rattle.journal_model.proofs.entries.JournalLaws.{Made, each_row}
 use Rattle.journal_model.proofs.Jobs.{heard_as_hearing, heard_no_look, heard_a_look}
-use Rattle.headline_law.proofs.sends.PlainSteps.{IsPlain, ArePlain, SettledPlain}
-use Rattle.headline_law.proofs.sends.ValidSends.{NoneValid, NoConfirmableValid, look_valid}
+use Rattle.journal_model.proofs.sends.PlainSteps.{IsPlain, ArePlain, SettledPlain}
+use Rattle.journal_model.proofs.sends.ValidSends.{NoneValid, NoConfirmableValid, look_valid}
 use Rattle.journal_model.proofs.EventRows.{AllRows, RowOf, row_of, row_within, said_by}
-use Rattle.headline_law.proofs.sends.TickSends.{AskedPlain}
+use Rattle.journal_model.proofs.sends.TickSends.{AskedPlain}
 use Rattle.headline_law.proofs.sends.RowSends.{NoteFact, Before, StepSends, effects_send}
 use Rattle.rd_base.proofs.lemmas.Among.{all_among}
 
@@ -108,19 +109,20 @@ pub record LooksAt (read : Result Message Unread) : Type 0 where
   pub message : Message
   pub read_is : read ≡ Ok message
   pub looks : is_look_request message ≡ true
+  pub asks : role_of message.kind message.code ≡ role.Request
 
 -- there is one where the datagram is that of a look
 pub a_look_reads : (read : Result Message Unread) → is_look_reading read ≡ true → LooksAt read
 a_look_reads (Err fault) h = absurd (false≢true h)
-a_look_reads (Ok m) h = by (role_of m.kind m.code) h
+a_look_reads (Ok m) h = by (role_of m.kind m.code) refl h
   where
-    by : (r : Role) → is_look_message r m ≡ true → LooksAt (Ok m)
-    by role.Request e = record { message = m; read_is = refl; looks = e }
-    by role.Ping e = absurd (false≢true e)
-    by role.Acknowledgement e = absurd (false≢true e)
-    by role.Reset e = absurd (false≢true e)
-    by role.Response e = absurd (false≢true e)
-    by role.Ignored e = absurd (false≢true e)
+    by : (r : Role) → role_of m.kind m.code ≡ r → is_look_message r m ≡ true → LooksAt (Ok m)
+    by role.Request is e = record { message = m; read_is = refl; looks = e; asks = is }
+    by role.Ping is e = absurd (false≢true e)
+    by role.Acknowledgement is e = absurd (false≢true e)
+    by role.Reset is e = absurd (false≢true e)
+    by role.Response is e = absurd (false≢true e)
+    by role.Ignored is e = absurd (false≢true e)
 
 -- what a look sends first is 2.03 exactly where it names the tag
 look_is_valid : (rows : List Row) (moment : ℕ) (s : Step) → is_look_reading (reading s.datagram) ≡ true

@@ -1,5 +1,5 @@
 -- What tables show after traces, each part at the edge of its age.
-use Rattle.std.proofs.Common.{◌≡◌, ℕ, Bool, true, false, List, [], ◌∷◌, ◌++◌, length, map, codes, Option, Some, None, option_map, refl}
+use Rattle.std.proofs.Common.{◌≡◌, ℕ, Bool, true, false, List, [], ◌∷◌, ◌++◌, length, map, codes, Option, Some, option_map, refl}
 use Rattle.event_model.specs.Repeats.{exchanges_at}
 use Rattle.event_model.specs.Uploads.{uploads_at}
 use Rattle.event_model.specs.KeptAnswers.{kept_answers_at}

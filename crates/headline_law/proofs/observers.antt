@@ -1,4 +1,0 @@
-pub mod ObserverKnowledge
-pub mod AddedObservers
-pub mod TickKnowledge
-pub mod ObserversKnow

@@ -1,0 +1,5 @@
+pub mod TouchedExchanges
+pub mod AdmissionsInOrder
+pub mod OpenAdmissions
+pub mod CommitsOnce
+pub mod MachineJournals

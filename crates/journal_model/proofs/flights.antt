@@ -1,0 +1,2 @@
+pub mod WaitedPeers
+pub mod NoticesAgain

@@ -1,0 +1,4 @@
+pub mod SilentSteps
+pub mod ChangeNotes
+pub mod StepTable
+pub mod LookupNotes

@@ -1,0 +1,4 @@
+pub mod BodyAnswers
+pub mod ValidSends
+pub mod PlainSteps
+pub mod TickSends

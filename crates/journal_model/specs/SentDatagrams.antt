@@ -1,0 +1,110 @@
+-- The fifth sentence of the headline, of every datagram that a row sends: it can be read and fits a link; an answer has the peer and the token of its request,
+-- and a notice those of its observer; and a body that is noted as formed is sent.
+use Rattle.std.specs.Prelude.{◌≡◌, ◌⊎◌, ℕ, ◌≤◌, Bool, true, false, List, length, Option, Some, Ok}
+use Rattle.std.specs.List.{IsAmong}
+use Rattle.rd_base.specs.declared.peers.Peer.{Peer}
+use Rattle.message_model.specs.declared.messages.Role.{Role}
+use Rattle.message_model.specs.declared.messages.Role.TheVariants as role
+use Rattle.message_model.specs.Message.{Message, role_of}
+use Rattle.message_model.specs.Reading.{reading}
+use Rattle.event_model.specs.declared.notes.Note.TheVariants as note
+use Rattle.event_model.specs.declared.notes.Observer.{Observer}
+use Rattle.journal_model.specs.declared.steps.Step.{Step}
+use Rattle.journal_model.specs.declared.steps.StepKind.{StepKind}
+use Rattle.journal_model.specs.declared.steps.StepKind.TheVariants as step
+use Rattle.journal_model.specs.declared.rows.Row.{Row}
+use Rattle.journal_model.specs.MessageSizes.{longest_datagram}
+use Rattle.journal_model.specs.Requests.{asked_block, number_of}
+use Rattle.journal_model.specs.PlacedRows.{Within, Placed, admits}
+use Rattle.journal_model.specs.AnswersAsFormed.{observer_named, is_content, IsBlockOf, Sent}
+
+-- a datagram that a row of a journal sends
+pub record Datagram (rows : List Row) : Type 0 where
+  pub here : Placed
+  pub within : Within rows here.before here.row
+  pub peer : Peer
+  pub octets : List ℕ
+  pub among : IsAmong here.row.sent (peer, octets)
+
+-- octets that can be read as a message, and fit a datagram
+pub record IsFitting (octets : List ℕ) : Type 0 where
+  pub message : Message
+  pub read : reading octets ≡ Ok message
+  pub short : length octets ≤ longest_datagram
+
+-- what a message is for is to respond
+abbrev pub is_response_role : Role → Bool
+is_response_role role.Ping = false
+is_response_role role.Acknowledgement = false
+is_response_role role.Reset = false
+is_response_role role.Request = false
+is_response_role role.Response = true
+is_response_role role.Ignored = false
+
+-- the message is a response
+abbrev pub is_response : Message → Bool
+is_response m = is_response_role (role_of m.kind m.code)
+
+-- the datagram of a step is a request, and a response has its token
+pub record AnswersRequest (s : Step) (m : Message) : Type 0 where
+  pub request : Message
+  pub read : reading s.datagram ≡ Ok request
+  pub asks : role_of request.kind request.code ≡ role.Request
+  pub token : m.token ≡ request.token
+
+-- the datagram of a step is a request that comes again: an earlier row admitted one of the same peer with the same Message ID. A response has the token of that one
+pub record AnswersRepeat (before : List Row) (s : Step) (m : Message) : Type 0 where
+  pub again : Message
+  pub read : reading s.datagram ≡ Ok again
+  pub asks : role_of again.kind again.code ≡ role.Request
+  pub first : Placed
+  pub within : Within before first.before first.row
+  pub request : Message
+  pub first_read : reading first.row.step.datagram ≡ Ok request
+  pub peer : first.row.step.peer ≡ s.peer
+  pub mid : request.mid ≡ again.mid
+  pub admitted : admits first.row.step.peer request.mid first.row ≡ true
+  pub token : m.token ≡ request.token
+
+-- a response goes to the peer of the step, and has the token of its request, or of the write that it repeats
+pub record IsAnswer (here : Placed) (peer : Peer) (m : Message) : Type 0 where
+  pub to : peer ≡ here.row.step.peer
+  pub answers : AnswersRequest here.row.step m ⊎ AnswersRepeat here.before here.row.step m
+
+-- a response is a 2.05 to an observer that stands, and has its peer and its token
+pub record IsNotice (here : Placed) (peer : Peer) (m : Message) : Type 0 where
+  pub content : is_content m ≡ true
+  pub observer : Observer
+  pub named : observer_named (peer, m.token) here.before ≡ Some observer
+
+-- in a tick each response is a notice, and in any other row an answer
+abbrev pub IsAddressed : StepKind → Placed → Peer → Message → Type 0
+IsAddressed step.Admit here peer m = IsAnswer here peer m
+IsAddressed step.Look here peer m = IsAnswer here peer m
+IsAddressed (step.Commit place) here peer m = IsAnswer here peer m
+IsAddressed (step.Keep body tag) here peer m = IsAnswer here peer m
+IsAddressed step.Tick here peer m = IsNotice here peer m
+
+-- the message is a 2.05 that carries the first block of a body: the one that its own Block2 names, and the whole body where it has none
+pub record CarriesFirst (m : Message) (body : List ℕ) : Type 0 where
+  pub content : is_content m ≡ true
+  pub number : number_of (asked_block m) ≡ 0
+  pub block : IsBlockOf (asked_block m) body m.payload
+
+-- a row sends a peer a message with a token that carries the first block of a body
+pub record SendsFirst (r : Row) (peer : Peer) (token body : List ℕ) : Type 0 where
+  pub octets : List ℕ
+  pub among : IsAmong r.sent (peer, octets)
+  pub message : Message
+  pub read : reading octets ≡ Ok message
+  pub token_is : message.token ≡ token
+  pub carries : CarriesFirst message body
+
+-- Each datagram that a row sends can be read, and has at most 1,280 octets; each response in it has the peer and the token of its request,
+-- or, in a tick, is a 2.05 with those of an observer; and a row that notes that it formed a body for an observer sends that peer a message
+-- with that token that carries the first block of that body.
+pub record SendsToWhoAsked (rows : List Row) : Type 0 where
+  pub fitting : (datagram : Datagram rows) → IsFitting datagram.octets
+  pub addressed : (sent : Sent rows) → is_response sent.message ≡ true → IsAddressed sent.here.row.step.kind sent.here sent.peer sent.message
+  pub formed : (before : List Row) (r : Row) (peer : Peer) (token body : List ℕ) (mid : Option ℕ) → Within rows before r
+      → IsAmong r.notes (note.Formed peer token body mid) → SendsFirst r peer token body
