@@ -1,11 +1,10 @@
 -- A write that is handed to a table of exchanges: a repeat, one that finds the table full, and one that is admitted.
-use Rattle.std.proofs.Common.{◌≡◌, ◌≢◌, ℕ, ◌≤◌, ◌<◌, List, ◌∷◌, length, Some, None, refl, ap, ◌∙◌, arith}
+use Rattle.std.proofs.Common.{◌≡◌, ℕ, ◌≤◌, ◌<◌, ◌∷◌, length, Some, None, refl, arith}
 use Rattle.rd_base.specs.declared.peers.Peer.{Peer}
-use Rattle.event_model.specs.Events.{Event}
 use Rattle.exchange_core.specs.declared.writes.Keyed.{Keyed}
 use Rattle.exchange_core.specs.declared.writes.Keyed.TheVariants as keyed
 use Rattle.exchange_core.specs.Table.{Table, admitted_now, young, InOrder, repeat_among}
-use Rattle.exchange_core.specs.ExchangeEvents.{ExchangesStandFor, IsKeyedAt}
+use Rattle.exchange_core.specs.ExchangeEvents.{IsKeyedAt}
 use Rattle.exchange_core.proofs.TableLaws.{ExchangesStandFor-aged, ExchangesStandFor-admitted, repeat_answers, full_answers, fresh_answers, repeat-not_fresh}
 
 -- it repeats one of the exchanges
