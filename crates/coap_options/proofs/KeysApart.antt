@@ -53,9 +53,9 @@ spelled m meaning means =
     ap (λ (p : Path). key_of meaning.view.code p (queries_in (message_in meaning.view))) means.path
     ∙ ap (λ (w : Message). key_of w.code (path_in m) (queries_in w)) means.view
 
--- so a key that is spelled tells the method, the path and the query options
-pub key_tells : (meaning : Meaning) {E : Type 0} (result : Result (List ℕ) E) → IfOk result (λ key. key ≡ key_of meaning.view.code meaning.path (queries_in (message_in meaning.view)))
+-- so a key that is spelled says what the method, the path and the query options are
+pub key_says : (meaning : Meaning) {E : Type 0} (result : Result (List ℕ) E) → IfOk result (λ key. key ≡ key_of meaning.view.code meaning.path (queries_in (message_in meaning.view)))
     → (m other : Message) → IsMeaning m meaning
     → IfOk result (λ key. key ≡ key_in other → (m.code ≡ other.code) × (path_in m ≡ path_in other) × (queries_in m ≡ queries_in other))
-key_tells meaning (Ok key) e m other means = λ same. keys_apart m other (sym (spelled m meaning means) ∙ sym e ∙ same)
-key_tells meaning (Err starved) e m other means = tt
+key_says meaning (Ok key) e m other means = λ same. keys_apart m other (sym (spelled m meaning means) ∙ sym e ∙ same)
+key_says meaning (Err starved) e m other means = tt

@@ -19,7 +19,7 @@ use Rattle.history_model.proofs.ChangedLines.{same_from_test, test_from_same, ti
 
 -- ---- tests
 
--- the comparison of numbered lines tells whether they are equal
+-- the comparison of numbered lines is true exactly where they are equal
 pub are_same_lines-Decides : (xs ys : List (ℕ × List ℕ)) → Decides (are_same_lines xs ys) (xs ≡ ys)
 are_same_lines-Decides [] [] = (λ e. refl, λ e. refl)
 are_same_lines-Decides [] (y ∷ ys) = (λ e. absurd (false≢true e), λ e. absurd cc)

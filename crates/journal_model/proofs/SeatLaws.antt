@@ -47,7 +47,7 @@ Agree-same history other (inr begins) e = same_front history history other (IsFr
 
 -- ---- the moment of a look
 
--- it is not below that of the front's last entry, so the tag tells the front
+-- it is not below that of the front's last entry, so the tag says how long the front is
 pub look_moment-front : (seat : Seat) (s : Step) (front : List Entry) → last_moment front ≤ look_moment seat s front
 look_moment-front seat s front = omega arith
 

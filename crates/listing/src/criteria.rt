@@ -6,7 +6,7 @@ ghost use Rattle.std.specs.Option.{option_copied};
 ghost use Rattle.record_model.specs.Discovery as discovery_model;
 ghost use Rattle.record_model.specs.ListingLines as listing_model;
 ghost use Rattle.listing.specs.ListedLinks.{listed_of};
-ghost use Rattle.listing.specs.JudgedEndpoints.{AreTold, AreToldOf};
+ghost use Rattle.listing.specs.JudgedEndpoints.{AreJudged, AreJudgedOf};
 
 use crate::locations::{ROOM, write_location};
 use crate::patterns::{matches_named, matches_value};
@@ -112,12 +112,12 @@ pub fn endpoint_matches(criterion: &Criterion, record_of: &Record) -> bool
 
 /// Whether each criterion matches the link by itself or its endpoint by itself, where the first answers tell of the
 /// endpoint.
-fn link_listed_by(criteria: &[Criterion], told: &[bool], record_of: &Record, item: &Item) -> bool
-    requires { AreTold record_of.now told.now criteria.now }
+fn link_listed_by(criteria: &[Criterion], judged: &[bool], record_of: &Record, item: &Item) -> bool
+    requires { AreJudged record_of.now judged.now criteria.now }
     ensures { result ≡ list_all (λ criterion. model.link_matches criterion item.now || model.endpoint_matches criterion record_of.now) criteria.now }
 {
     let mut rest = criteria;
-    let mut left = told;
+    let mut left = judged;
     'criteria: while let Some((criterion, more)) = rest.split_first() {
         let by_endpoint = match left.split_first() {
             Some((answer, further)) => {
@@ -137,13 +137,13 @@ fn link_listed_by(criteria: &[Criterion], told: &[bool], record_of: &Record, ite
 }
 
 /// Writes for each criterion whether it matches the endpoint by itself, as far as there is room.
-fn judge_into(criteria: &[Criterion], record_of: &Record, told: &mut [bool])
-    ensures { AreTold record_of.now told.new criteria.now }
+fn judge_into(criteria: &[Criterion], record_of: &Record, judged: &mut [bool])
+    ensures { AreJudged record_of.now judged.new criteria.now }
 {
     let Some((criterion, more)) = criteria.split_first() else {
         return;
     };
-    let Some((answer, left)) = told.split_first_mut() else {
+    let Some((answer, left)) = judged.split_first_mut() else {
         return;
     };
     *answer = endpoint_matches(criterion, record_of);
@@ -155,13 +155,13 @@ pub const JUDGED: usize = 64;
 
 /// Which of the first criteria match the endpoint by itself, where there is one.
 pub(crate) fn judge(query: &Query, owner: Option<&Record>) -> [bool; JUDGED]
-    ensures { AreToldOf (option_copied owner.entry) result query.now.criteria }
+    ensures { AreJudgedOf (option_copied owner.entry) result query.now.criteria }
 {
-    let mut told = [false; JUDGED];
+    let mut judged = [false; JUDGED];
     if let Some(record_of) = owner {
-        judge_into(query.criteria.as_slice(), record_of, &mut told);
+        judge_into(query.criteria.as_slice(), record_of, &mut judged);
     }
-    told
+    judged
 }
 
 /// Whether each criterion matches the link by itself or its endpoint by itself.
@@ -186,15 +186,15 @@ fn own_link_listed(query: &Query, item: &Item) -> bool
         .all(|criterion| link_matches(criterion, item))
 }
 
-/// Whether the query lists a link of this registration, of whose endpoint `told` tells, or of the directory itself, which
+/// Whether the query lists a link of this registration, whose endpoint was judged as `judged` says, or of the directory itself, which
 /// has no endpoint.
 #[tactic(auto, unfolding(record_model::specs::ListingLines::link_listed))]
-pub(crate) fn is_listed(query: &Query, owner: Option<&Record>, told: &[bool], item: &Item) -> bool
-    requires { AreToldOf (option_copied owner) told.now query.now.criteria }
+pub(crate) fn is_listed(query: &Query, owner: Option<&Record>, judged: &[bool], item: &Item) -> bool
+    requires { AreJudgedOf (option_copied owner) judged.now query.now.criteria }
     ensures { result ≡ listed_of query.now (option_copied owner.entry) item.now }
 {
     match owner {
-        Some(record_of) => link_listed_by(query.criteria.as_slice(), told, record_of, item),
+        Some(record_of) => link_listed_by(query.criteria.as_slice(), judged, record_of, item),
         None => own_link_listed(query, item),
     }
 }

@@ -28,11 +28,11 @@ pub fn append_links(
     let before = into.len();
     let mut to_skip = skip;
     let mut to_write = most;
-    let told = judge(query, owner);
+    let judged = judge(query, owner);
     let mut rest = items;
     'items: while let Some((item, more)) = rest.split_first() {
         rest = more;
-        if !is_listed(query, owner, &told, item) {
+        if !is_listed(query, owner, &judged, item) {
             continue;
         }
         if to_skip > 0 {

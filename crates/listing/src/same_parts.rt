@@ -4,7 +4,7 @@ ghost use Rattle.std.specs.Option.{option_copied};
 ghost use Rattle.record_model.specs.ListingLines as listing_model;
 ghost use Rattle.record_model.specs.Matching as model;
 ghost use Rattle.record_model.specs.ListingLines.{part_or_none, same_lines};
-ghost use Rattle.listing.specs.JudgedEndpoints.{AreTold};
+ghost use Rattle.listing.specs.JudgedEndpoints.{AreJudged};
 ghost use Rattle.listing.specs.Views.{FirstListed, left};
 ghost use Rattle.listing.specs.ListedLinks.{listed_endpoint, listed_lines};
 
@@ -90,15 +90,15 @@ fn same_endpoint(old: &Record, new: &Record) -> bool
 fn first_listed<'a>(
     query: &Query,
     record_of: &Record,
-    told: &[bool],
+    judged: &[bool],
     items: &'a [Item],
 ) -> Option<(&'a Item, &'a [Item])>
-    requires { AreTold record_of.now told.now query.now.criteria }
+    requires { AreJudged record_of.now judged.now query.now.criteria }
     ensures { FirstListed query.now record_of.now items.now result }
 {
     let mut rest = items;
     'items: while let Some((item, more)) = rest.split_first() {
-        if is_listed(query, Some(record_of), told, item) {
+        if is_listed(query, Some(record_of), judged, item) {
             return Some((item, more));
         }
         rest = more;
@@ -110,13 +110,13 @@ fn first_listed<'a>(
 fn same_links(query: &Query, old: &Record, new: &Record) -> bool
     ensures { result ≡ same_lines (listed_lines query.now (Some old.now) old.now.items) (listed_lines query.now (Some new.now) new.now.items) }
 {
-    let old_told = judge(query, Some(old));
-    let new_told = judge(query, Some(new));
+    let old_judged = judge(query, Some(old));
+    let new_judged = judge(query, Some(new));
     let mut old_rest = old.items.as_slice();
     let mut new_rest = new.items.as_slice();
     'items: loop {
-        let old_first = first_listed(query, old, &old_told, old_rest);
-        let new_first = first_listed(query, new, &new_told, new_rest);
+        let old_first = first_listed(query, old, &old_judged, old_rest);
+        let new_first = first_listed(query, new, &new_judged, new_rest);
         match old_first {
             None => return new_first.is_none(),
             Some((old_item, old_more)) => match new_first {
@@ -165,8 +165,8 @@ fn gives_none(query: &Query, record_of: &Record) -> bool
 {
     match query.kind {
         Kind::Resource => {
-            let told = judge(query, Some(record_of));
-            first_listed(query, record_of, &told, record_of.items.as_slice()).is_none()
+            let judged = judge(query, Some(record_of));
+            first_listed(query, record_of, &judged, record_of.items.as_slice()).is_none()
         }
         Kind::Endpoint => !endpoint_listed(query, record_of),
         Kind::Discovery => true,

@@ -39,10 +39,10 @@ some_pieces : (e : Bool) (c b : ℕ) (bs line rest : List ℕ) → (e ≡ (b == 
 some_pieces true c b bs line rest is same more h =
     let l : [] ≡ line = ap front_of h in let r : bs ≡ rest = ap back_of h in
     record { no_separator = ap (cut c) (sym l); whole = ap (λ (x : ℕ). x ∷ bs) (same refl) ∙ ap (λ (x : List ℕ). c ∷ x) r ∙ ap (λ (x : List ℕ). x ++ c ∷ rest) l }
-some_pieces false c b bs line rest is same more h = behind (cut c bs) refl h where
-  behind : (o : Option (List ℕ × List ℕ)) → cut c bs ≡ o → option_map (onto_first b) o ≡ Some (line, rest) → Pieces c (b ∷ bs) line rest
-  behind None e h = cc
-  behind (Some p) e h =
+some_pieces false c b bs line rest is same more h = after_cut (cut c bs) refl h where
+  after_cut : (o : Option (List ℕ × List ℕ)) → cut c bs ≡ o → option_map (onto_first b) o ≡ Some (line, rest) → Pieces c (b ∷ bs) line rest
+  after_cut None e h = cc
+  after_cut (Some p) e h =
       let m = more p.0 p.1 e in
       let l : b ∷ p.0 ≡ line = ap front_of h in
       let r : p.1 ≡ rest = ap back_of h in

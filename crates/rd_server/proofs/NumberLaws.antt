@@ -8,7 +8,7 @@ use Rattle.rd_base.specs.declared.moments.Moment.{Moment}
 use Rattle.rd_server.specs.declared.desk.Desk.{Desk}
 use Rattle.rd_server.specs.declared.desk.Job.{Job}
 use Rattle.rd_server.specs.Forms.{location}
-use Rattle.rd_server.specs.Journal.{Row, Entry, given, drawn, held, number_by, number_in}
+use Rattle.rd_server.specs.Journal.{Row, Entry, registered_as, last_number, held, number_by, number_in}
 use Rattle.rd_server.specs.declared.registry.Registry.{Registry}
 use Rattle.rd_server.specs.Desks.{DeskKeeps, KeepsNumbers, GivesNumber, Went}
 
@@ -21,26 +21,26 @@ below_by name (Some entry) earlier most n h e = below_if (bytes_eq entry.name na
   below_if true m earlier most n h e = let same : m ≡ n = cc in omega arith
   below_if false m earlier most n h e = let k = h n e in omega arith
 
-pub given_below : (name : List ℕ) (rows : List Row) (n : ℕ) → given name rows ≡ Some n → n ≤ drawn rows
-given_below name [] n e = cc
-given_below name (row ∷ rows) n e = below_by name row.entry (given name rows) (drawn rows) n (given_below name rows) e
+pub registered_below : (name : List ℕ) (rows : List Row) (n : ℕ) → registered_as name rows ≡ Some n → n ≤ last_number rows
+registered_below name [] n e = cc
+registered_below name (row ∷ rows) n e = below_by name row.entry (registered_as name rows) (last_number rows) n (registered_below name rows) e
 
 -- a name that has a number has it still
-pub given_again : (name q : List ℕ) (rows : List Row) (n : ℕ) → given name rows ≡ Some n → given q rows ≡ (if bytes_eq name q then Some n else given q rows)
-given_again name q rows n e = again (bytes_eq name q) (λ h. (bytes_eq-Decides name q).0 h) where
-  again : (b : Bool) → (b ≡ true → name ≡ q) → given q rows ≡ (if b then Some n else given q rows)
-  again true h = ap (λ l. given l rows) (sym (h refl)) ∙ e
+pub registered_again : (name q : List ℕ) (rows : List Row) (n : ℕ) → registered_as name rows ≡ Some n → registered_as q rows ≡ (if bytes_eq name q then Some n else registered_as q rows)
+registered_again name q rows n e = again (bytes_eq name q) (λ h. (bytes_eq-Decides name q).0 h) where
+  again : (b : Bool) → (b ≡ true → name ≡ q) → registered_as q rows ≡ (if b then Some n else registered_as q rows)
+  again true h = ap (λ l. registered_as l rows) (sym (h refl)) ∙ e
   again false h = refl
 
 -- a name that has a number gets it again
 pub gives_again : (rows : List Row) (name : List ℕ) (number : ℕ) (registry : Registry) → KeepsNumbers rows registry → get bytes_eq registry.numbers name ≡ Some number
     → GivesNumber rows name number registry
 gives_again rows name number registry keeps found =
-    let e : given name rows ≡ Some number = sym (keeps.numbers name) ∙ found in
+    let e : registered_as name rows ≡ Some number = sym (keeps.numbers name) ∙ found in
     record {
-      number_is = sym (ap (λ (o : Option ℕ). unwrap_or o (drawn rows + 1)) e);
-      numbers = λ other. keeps.numbers other ∙ given_again name other rows number e;
-      drawn_is = let k = given_below name rows number e in let d = keeps.drawn_so_far in omega arith;
+      number_is = sym (ap (λ (o : Option ℕ). unwrap_or o (last_number rows + 1)) e);
+      numbers = λ other. keeps.numbers other ∙ registered_again name other rows number e;
+      last_is = let k = registered_below name rows number e in let d = keeps.last_so_far in omega arith;
     }
 
 -- after the end of a job the desk stands for one row more
@@ -51,8 +51,8 @@ went rows worker moment old new job number answer st isjob gives counted free an
     let here : Went rows worker moment (Some job) new (Some (job.peer, answer)) = (
       record {
         registered = record {
-          numbers = λ q. gives.numbers q ∙ ap (λ n. if bytes_eq job.name q then Some n else given q rows) gives.number_is;
-          drawn_so_far = gives.drawn_is ∙ ap (λ n. max n (drawn rows)) gives.number_is;
+          numbers = λ q. gives.numbers q ∙ ap (λ n. if bytes_eq job.name q then Some n else registered_as q rows) gives.number_is;
+          last_so_far = gives.last_is ∙ ap (λ n. max n (last_number rows)) gives.number_is;
         };
         entries_so_far = let e = st.entries_so_far in omega arith;
         job_held = free;

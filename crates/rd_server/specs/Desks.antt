@@ -7,18 +7,18 @@ use Rattle.rd_base.specs.declared.peers.Peer.{Peer}
 use Rattle.rd_server.specs.declared.desk.Desk.{Desk}
 use Rattle.rd_server.specs.declared.desk.Job.{Job}
 use Rattle.rd_server.specs.declared.registry.Registry.{Registry}
-use Rattle.rd_server.specs.Journal.{Row, given, drawn, entries, held, go_row, number_for}
+use Rattle.rd_server.specs.Journal.{Row, registered_as, last_number, entries, held, go_row, number_for}
 
--- a registry keeps the numbers of names, and how many were drawn
+-- a registry keeps the numbers of names, and the last of them
 pub record KeepsNumbers (rows : List Row) (registry : Registry) : Type 0 where
-  pub numbers : (name : List ℕ) → get bytes_eq registry.numbers name ≡ given name rows
-  pub drawn_so_far : registry.drawn ≡ drawn rows
+  pub numbers : (name : List ℕ) → get bytes_eq registry.numbers name ≡ registered_as name rows
+  pub last_so_far : registry.last_number ≡ last_number rows
 
 -- a name has a number, which is the one that it gets after the rows, and the other names have theirs
 pub record GivesNumber (rows : List Row) (name : List ℕ) (number : ℕ) (registry : Registry) : Type 0 where
   pub number_is : number ≡ number_for name rows
-  pub numbers : (other : List ℕ) → get bytes_eq registry.numbers other ≡ (if bytes_eq name other then Some number else given other rows)
-  pub drawn_is : registry.drawn ≡ max number (drawn rows)
+  pub numbers : (other : List ℕ) → get bytes_eq registry.numbers other ≡ (if bytes_eq name other then Some number else registered_as other rows)
+  pub last_is : registry.last_number ≡ max number (last_number rows)
 
 -- a desk keeps the numbers of names, how many entries there are, and the job that is held
 pub record DeskKeeps (rows : List Row) (desk : Desk) : Type 0 where

@@ -16,5 +16,5 @@ cut separator [] = None
 cut separator (b ∷ bs) = if b == separator then Some ([], bs) else option_map (onto_first b) (cut separator bs)
 
 -- what stands after a prefix
-abbrev pub behind : List ℕ → List ℕ → Option (List ℕ)
-behind prefix text = if bytes_eq (take (length prefix) text) prefix then Some (drop (length prefix) text) else None
+abbrev pub after_prefix : List ℕ → List ℕ → Option (List ℕ)
+after_prefix prefix text = if bytes_eq (take (length prefix) text) prefix then Some (drop (length prefix) text) else None

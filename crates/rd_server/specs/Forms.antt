@@ -2,7 +2,7 @@
 -- A scaffold: it goes when the desk serves every request.
 use Rattle.std.specs.Prelude.{ℕ, ◌+◌, ◌-◌, ◌==◌, ◌&&◌, ◌||◌, Bool, false, not, nat_lt, nat_le, List, [], ◌∷◌, ◌++◌, length, take, drop, codes, decimal, Option, Some, None, if◌then◌else◌}
 use Rattle.std.specs.List.{list_all}
-use Rattle.rd_server.specs.Fields.{◌>>=◌, cut, behind}
+use Rattle.rd_server.specs.Fields.{◌>>=◌, cut, after_prefix}
 
 -- a confirmable request: its code, Message ID and token, and what follows
 pub record Asking : Type 0 where
@@ -46,7 +46,7 @@ is_path (Some text) = list_all is_segment (parts_of 47 text)
 
 -- whether a text is a plain target: one or more of a slash and a segment
 abbrev pub is_target : List ℕ → Bool
-is_target text = is_path (behind (codes "/") text)
+is_target text = is_path (after_prefix (codes "/") text)
 
 abbrev pub is_bracketed : Option (List ℕ × List ℕ) → Bool
 is_bracketed None = false
@@ -58,7 +58,7 @@ is_opened (Some text) = is_bracketed (cut 62 text)
 
 -- whether a text is a plain link: a plain target in angle brackets (RFC 6690 section 2), without parameters
 abbrev pub is_link : List ℕ → Bool
-is_link text = is_opened (behind (codes "<") text)
+is_link text = is_opened (after_prefix (codes "<") text)
 
 -- whether a text is plain links with single commas between them
 unfoldable pub is_plain_document : List ℕ → Bool
@@ -88,10 +88,10 @@ rd_path_and_format = 0xb2 ∷ 0x72 ∷ 0x64 ∷ 0x11 ∷ 0x28 ∷ []
 -- Its name and its document.
 unfoldable pub first_form_of : List ℕ → Option (List ℕ × List ℕ)
 first_form_of text = do
-  options ← behind rd_path_and_format text
+  options ← after_prefix rd_path_and_format text
   query ← query_of options
-  name ← behind (codes "ep=") query.0
-  document ← behind (0xff ∷ []) query.1
+  name ← after_prefix (codes "ep=") query.0
+  document ← after_prefix (0xff ∷ []) query.1
   if is_name name then (if is_plain_document document then Some (name, document) else None) else None
 
 -- the code POST

@@ -71,19 +71,19 @@ number_by name None earlier = earlier
 number_by name (Some entry) earlier = if bytes_eq entry.name name then Some entry.number else earlier
 
 -- the number in the last entry of a name, if it has one
-abbrev pub given : List ℕ → List Row → Option ℕ
-given name [] = None
-given name (row ∷ rows) = number_by name row.entry (given name rows)
+abbrev pub registered_as : List ℕ → List Row → Option ℕ
+registered_as name [] = None
+registered_as name (row ∷ rows) = number_by name row.entry (registered_as name rows)
 
 -- the number of an entry
 abbrev pub number_in : Option Entry → ℕ
 number_in None = 0
 number_in (Some entry) = entry.number
 
--- the greatest number that was given so far: as many names are registered
-abbrev pub drawn : List Row → ℕ
-drawn [] = 0
-drawn (row ∷ rows) = max (number_in row.entry) (drawn rows)
+-- the greatest number of a registration so far: as many names are registered
+abbrev pub last_number : List Row → ℕ
+last_number [] = 0
+last_number (row ∷ rows) = max (number_in row.entry) (last_number rows)
 
 -- how many entries there are
 abbrev pub entries : List Row → ℕ
@@ -92,7 +92,7 @@ entries (row ∷ rows) = (if is_some row.entry then 1 else 0) + entries rows
 
 -- A name that is registered keeps its number, and a new one gets the next (RFC 9176 section 5).
 abbrev pub number_for : List ℕ → List Row → ℕ
-number_for name rows = unwrap_or (given name rows) (drawn rows + 1)
+number_for name rows = unwrap_or (registered_as name rows) (last_number rows + 1)
 
 -- the row of a datagram that comes
 abbrev pub come_row : ℕ → Moment → Peer → List ℕ → Row
@@ -170,7 +170,7 @@ text (row ∷ rows) = text rows ++ flat_map out_line row.sent
 
 -- the last line: how many entries and registrations there are, and no observers
 unfoldable pub end_line : List Row → List ℕ
-end_line rows = codes "end " ++ (decimal (entries rows) ++ (codes " " ++ (decimal (drawn rows) ++ codes " 0\n")))
+end_line rows = codes "end " ++ (decimal (entries rows) ++ (codes " " ++ (decimal (last_number rows) ++ codes " 0\n")))
 
 -- whether a step ends a job
 abbrev pub is_go : Line → Bool

@@ -140,8 +140,8 @@ impl Desk {
         ensures { IfOk result (λ text. (rows : List Row) → DeskKeeps rows self.now → text ≡ journal.end_line rows) }
     {
         let entries = self.entries;
-        let drawn = self.registry.drawn();
-        let text = format!(in alloc; "end {entries} {drawn} 0\n")?;
+        let last_number = self.registry.last_number();
+        let text = format!(in alloc; "end {entries} {last_number} 0\n")?;
         Ok(Bytes::of(text.into_bytes()))
     }
 }

@@ -22,8 +22,8 @@ fn place_of(separator: u8, text: &[u8]) -> Option<usize>
 }
 
 /// What stands after a prefix.
-pub fn behind<'a>(prefix: &[u8], text: &'a [u8]) -> Option<&'a [u8]>
-    ensures { option_map (λ rest. rest.now) result ≡ fields.behind prefix.now text.now }
+pub fn after_prefix<'a>(prefix: &[u8], text: &'a [u8]) -> Option<&'a [u8]>
+    ensures { option_map (λ rest. rest.now) result ≡ fields.after_prefix prefix.now text.now }
 {
     text.strip_prefix(prefix)
 }

@@ -5,7 +5,7 @@ ghost use Rattle.std.specs.List.{list_all};
 ghost use Rattle.rd_server.specs.Forms as forms;
 ghost use Rattle.rd_server.specs.Views.{asking_seen};
 
-use crate::fields::{behind, cut};
+use crate::fields::{after_prefix, cut};
 use rd_base::{Bytes, Starved};
 use std::alloc::Global;
 
@@ -86,7 +86,7 @@ fn are_segments(text: &[u8]) -> bool
 fn is_target(text: &[u8]) -> bool
     ensures { result ≡ forms.is_target text.now }
 {
-    match behind(b"/", text) {
+    match after_prefix(b"/", text) {
         None => false,
         Some(segments) => are_segments(segments),
     }
@@ -96,7 +96,7 @@ fn is_target(text: &[u8]) -> bool
 fn is_link(text: &[u8]) -> bool
     ensures { result ≡ forms.is_link text.now }
 {
-    let Some(opened) = behind(b"<", text) else {
+    let Some(opened) = after_prefix(b"<", text) else {
         return false;
     };
     let Some((target, after)) = cut(b'>', opened) else {
@@ -162,10 +162,10 @@ fn query_of(text: &[u8]) -> Option<(&[u8], &[u8])>
 fn first_form_of(text: &[u8]) -> Option<(&[u8], &[u8])>
     ensures { option_map (λ p. (p.0.now, p.1.now)) result ≡ forms.first_form_of text.now }
 {
-    let options = behind(&[0xb2, b'r', b'd', 0x11, 0x28], text)?;
+    let options = after_prefix(&[0xb2, b'r', b'd', 0x11, 0x28], text)?;
     let (query, payload) = query_of(options)?;
-    let name = behind(b"ep=", query)?;
-    let document = behind(&[0xff], payload)?;
+    let name = after_prefix(b"ep=", query)?;
+    let document = after_prefix(&[0xff], payload)?;
     if !is_name(name) {
         return None;
     }

@@ -17,7 +17,7 @@ pub struct Registry {
     /// The number of each name.
     numbers: HashMap<Bytes, u64>,
     /// The greatest of them.
-    drawn: u64,
+    last_number: u64,
 }
 
 impl Registry {
@@ -27,7 +27,7 @@ impl Registry {
     {
         Registry {
             numbers: HashMap::new(alloc),
-            drawn: 0,
+            last_number: 0,
         }
     }
 
@@ -43,19 +43,19 @@ impl Registry {
             }
             return Ok(number);
         }
-        let number = self.drawn.checked_add(1).ok_or(Starved)?;
+        let number = self.last_number.checked_add(1).ok_or(Starved)?;
         if number >= NUMBERS {
             return Err(Starved);
         }
         self.numbers.insert(name, number)?;
-        self.drawn = number;
+        self.last_number = number;
         Ok(number)
     }
 
     /// How many names have a number.
-    pub fn drawn(&self) -> u64
-        ensures { result ≡ self.now.drawn }
+    pub fn last_number(&self) -> u64
+        ensures { result ≡ self.now.last_number }
     {
-        self.drawn
+        self.last_number
     }
 }

@@ -4,7 +4,7 @@ use Rattle.std.proofs.lemmas.Bool.{and_parts}
 use Rattle.std.proofs.lemmas.Slice.Eq.{bytes_eq-Decides}
 use Rattle.record_model.specs.ListingLines.{same_lines}
 
--- the comparison of lines tells whether they are equal
+-- the comparison of lines is true exactly where they are equal
 pub same_lines-Decides : (old new : List (List ℕ)) → (same_lines old new ≡ true) ↔ (old ≡ new)
 same_lines-Decides [] [] = (λ e. refl, λ e. refl)
 same_lines-Decides [] (y ∷ ys) = (λ e. cc, λ e. cc)

@@ -31,7 +31,7 @@ pub struct Unmade<T> {
 pub enum Ended<T> {
     /// The turn was free: the value.
     Free(T),
-    /// A pass held the turn, and has the value. What lay in the slot, which no contract tells.
+    /// A pass held the turn, and has the value. What lay in the slot, of which no contract speaks.
     Held(Option<T>),
 }
 

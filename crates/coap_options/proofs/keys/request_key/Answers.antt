@@ -1,6 +1,6 @@
--- The key tells the parts of its request.
-use Rattle.coap_options.proofs.KeysApart.{key_tells}
+-- The key says what the parts of its request are.
+use Rattle.coap_options.proofs.KeysApart.{key_says}
 use Rattle.coap_options.proofs.keys.request_key.Goals as goal
 
 pub returns-clause-once : goal.returns-clause-once
-returns-clause-once c = λ m other means. key_tells c.args.meaning.now c.spelled_key.result c.spelled_key.ensures m other means
+returns-clause-once c = λ m other means. key_says c.args.meaning.now c.spelled_key.result c.spelled_key.ensures m other means
