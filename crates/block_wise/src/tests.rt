@@ -8,6 +8,29 @@ fn block(num: u32, more: bool, szx: u8) -> Block {
 }
 
 #[test]
+fn numbers_are_written_in_the_fewest_octets(rt: HostRuntime) {
+    // the most significant octet of the number, the two others, and what is written
+    let cases: [(u8, u16, &[u8]); 9] = [
+        (0, 0, b""),
+        (0, 1, b"\x01"),
+        (0, 40, b"\x28"),
+        (0, 255, b"\xff"),
+        (0, 256, b"\x01\x00"),
+        (0, 65_535, b"\xff\xff"),
+        (1, 0, b"\x01\x00\x00"),
+        (1, 2, b"\x01\x00\x02"),
+        (255, 65_535, b"\xff\xff\xff"),
+    ];
+    for (high, low, want) in cases {
+        let number = u32::from(high) * 65_536 + u32::from(low);
+        let mut into = [0x55; 3];
+        let size = uint_write(number, &mut into);
+        assert_eq!(rt; &into[..size], want, "at {number}");
+        assert_eq!(rt; uint_of(&into[..size]), number);
+    }
+}
+
+#[test]
 fn values_are_read(rt: HostRuntime) {
     let cases: [(&[u8], Result<Block, Szx7>); 9] = [
         (b"", Ok(block(0, false, 0))),

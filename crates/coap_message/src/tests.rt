@@ -68,6 +68,35 @@ fn datagrams_are_read(rt: HostRuntime) -> Result<(), Fail> {
 }
 
 #[test]
+fn messages_are_for_something(rt: HostRuntime) {
+    let cases: [(u8, u8, Role); 13] = [
+        // empty messages: confirmable, not confirmable, an acknowledgement, a Reset
+        (0x40, 0x00, Role::Ping),
+        (0x50, 0x00, Role::Ignored),
+        (0x60, 0x00, Role::Acknowledgement),
+        (0x70, 0x00, Role::Reset),
+        // codes of requests, of which the last is 0.31
+        (0x40, 0x01, Role::Request),
+        (0x50, 0x1f, Role::Request),
+        (0x60, 0x02, Role::Ignored),
+        (0x70, 0x04, Role::Ignored),
+        // codes of responses, from 2.00 to 5.31
+        (0x40, 0x40, Role::Response),
+        (0x50, 0x45, Role::Response),
+        (0x60, 0x84, Role::Response),
+        (0x60, 0xbf, Role::Response),
+        (0x70, 0x45, Role::Ignored),
+    ];
+    for (first, code, want) in cases {
+        let datagram = [first, code, 0x00, 0x01];
+        let Ok(read) = view(&datagram) else {
+            panic!(rt; "it is read");
+        };
+        assert_eq!(rt; role_of(&read), want, "at {first} {code}");
+    }
+}
+
+#[test]
 fn messages_are_written(rt: HostRuntime) -> Result<(), Fail> {
     let mut registration = Writer::start(Kind4::Con, 2, 1, b"\xa1");
     registration.option(11, b"rd")?;

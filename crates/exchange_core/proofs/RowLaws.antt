@@ -31,11 +31,10 @@ without_at test (x ∷ xs) (suc i) d inside it others =
     let no : test x ≡ false = others zero (omega arith) in
     rw no (ap (λ rest. x ∷ rest) (without_at test xs i d (omega (arith, inside)) it (λ k below. others (suc k) (omega (arith, below)))))
 
-pub answered_first-at : (test : Exchange → Bool) (reply : List ℕ) (xs : List Exchange) (i : ℕ) (x : Exchange) → position test xs ≡ Some i → x ≡ get_or xs i x
-    → set xs i (answered reply x) ≡ answered_first test reply xs
-answered_first-at test reply xs i x there is =
-    let found = position-Some test xs i x there in
-    ap (λ y. set xs i (answered reply y)) is ∙ answered_at test reply xs i x found.0 found.1 found.2
+pub answered_first-at : (test : Exchange → Bool) (reply : List ℕ) (xs : List Exchange) (i : ℕ) (d : Exchange) → position test xs ≡ Some i → set xs i (answered reply (get_or xs i d)) ≡ answered_first test reply xs
+answered_first-at test reply xs i d there =
+    let found = position-Some test xs i d there in
+    answered_at test reply xs i d found.0 found.1 found.2
 
 pub without_first-at : (test : Exchange → Bool) (xs : List Exchange) (i : ℕ) → position test xs ≡ Some i → remove xs i ≡ without_first test xs
 without_first-at test [] i there = absurd cc
@@ -81,6 +80,41 @@ answered_first-nowhere test reply xs none = answered_past test reply xs (nowhere
 
 pub without_first-nowhere : (test : Exchange → Bool) (xs : List Exchange) → position test xs ≡ None → xs ≡ without_first test xs
 without_first-nowhere test xs none = without_past test xs (nowhere test xs none)
+
+-- it is found
+found_at : (test : Exchange → Bool) (xs : List Exchange) (i : ℕ) (d : Exchange) → i < length xs → test (get_or xs i d) ≡ true → ((k : ℕ) → k < i → test (get_or xs k d) ≡ false) → find test xs ≡ Some (get_or xs i d)
+found_at test [] i d inside it others = absurd (omega (arith, inside))
+found_at test (x ∷ xs) zero d inside it others = rw it refl
+found_at test (x ∷ xs) (suc i) d inside it others =
+    let no : test x ≡ false = others zero (omega arith) in
+    rw no (found_at test xs i d (omega (arith, inside)) it (λ k below. others (suc k) (omega (arith, below))))
+
+nothing_past : (test : Exchange → Bool) (xs : List Exchange) → length xs ≤ position_or_len test xs → find test xs ≡ None
+nothing_past test [] h = refl
+nothing_past test (x ∷ xs) h = by (test x) refl h (nothing_past test xs)
+  where
+    by : (b : Bool) → test x ≡ b → length (x ∷ xs) ≤ cond (not b) (1 + position_or_len test xs) 0 → (length xs ≤ position_or_len test xs → find test xs ≡ None) → cond b (Some x) (find test xs) ≡ None
+    by true e g more = absurd (omega (arith, g))
+    by false e g more = more (omega (arith, g))
+
+-- how a write is answered that repeats the exchange at an index, which is young or old, or none
+repeat_among-at : (now : ℕ) (peer : Peer) (mid : ℕ) (xs : List Exchange) (i : ℕ) (x : Exchange) → Some i ≡ position (is_with peer mid) xs → x ≡ get_or xs i x → repeat_among now peer mid xs ≡ repeating_young now x
+unfolding repeat_among
+repeat_among-at now peer mid xs i x there is =
+    let found = position-Some (is_with peer mid) xs i x (sym there) in
+    ap (option_and_then (repeating_young now)) (found_at (is_with peer mid) xs i x found.0 found.1 found.2) ∙ ap (repeating_young now) (sym is)
+
+pub repeat_among-young_at : (now : ℕ) (peer : Peer) (mid : ℕ) (xs : List Exchange) (i : ℕ) (x : Exchange) → Some i ≡ position (is_with peer mid) xs → x ≡ get_or xs i x → is_young now x.moment ≡ true
+    → Some (repeating x.reply) ≡ repeat_among now peer mid xs
+repeat_among-young_at now peer mid xs i x there is young = sym (repeat_among-at now peer mid xs i x there is ∙ rw young refl)
+
+pub repeat_among-old_at : (now : ℕ) (peer : Peer) (mid : ℕ) (xs : List Exchange) (i : ℕ) (x : Exchange) → Some i ≡ position (is_with peer mid) xs → x ≡ get_or xs i x → is_young now x.moment ≡ false
+    → None ≡ repeat_among now peer mid xs
+repeat_among-old_at now peer mid xs i x there is old = sym (repeat_among-at now peer mid xs i x there is ∙ rw old refl)
+
+pub repeat_among-nowhere : (now : ℕ) (peer : Peer) (mid : ℕ) (xs : List Exchange) → None ≡ position (is_with peer mid) xs → None ≡ repeat_among now peer mid xs
+unfolding repeat_among
+repeat_among-nowhere now peer mid xs none = sym (ap (option_and_then (repeating_young now)) (nothing_past (is_with peer mid) xs (nowhere (is_with peer mid) xs (sym none))))
 
 -- ---- their order
 

@@ -1,3 +1,4 @@
+pub mod Buckets
 pub mod Table
 pub mod ExchangeEvents
 pub mod Retransmissions

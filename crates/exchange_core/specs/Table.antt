@@ -1,5 +1,6 @@
 -- The exchanges of the table, the latest first: which is found, and what changes.
 use Rattle.std.specs.Prelude.{ℕ, ◌≤◌, Bool, ◌&&◌, ◌==◌, List, [], ◌∷◌, find, filter, Option, Some, None, option_and_then, if◌then◌else◌}
+use Rattle.rd_base.specs.declared.moments.Moment.{Moment}
 use Rattle.rd_base.specs.declared.peers.Peer.{Peer}
 use Rattle.event_model.specs.Same.{is_same_peer}
 use Rattle.event_model.specs.Events.{is_young}
@@ -23,6 +24,11 @@ is_with peer mid x = is_same_peer x.peer peer && x.mid == mid
 -- that write, admitted at a moment
 abbrev pub is_admitted_at : Peer → ℕ → ℕ → Exchange → Bool
 is_admitted_at peer mid moment x = is_with peer mid x && x.moment == moment
+
+-- that write, admitted at a moment where one is given
+abbrev pub is_sought : Peer → ℕ → Option Moment → Exchange → Bool
+is_sought peer mid None x = is_with peer mid x
+is_sought peer mid (Some moment) x = is_admitted_at peer mid moment.0 x
 
 -- the exchanges that are young at a moment
 abbrev pub young : ℕ → List Exchange → List Exchange

@@ -1,6 +1,9 @@
 //! Exchanges: how a write that comes again is recognized and gets the same octets as its answer (RFC 7252 section 4.5), and when a message is sent again (section 4.2).
 #![tactic(auto)]
 
+mod buckets;
+mod chains;
+mod exchange_queue;
 mod octets;
 mod resends;
 mod table;

@@ -1,9 +1,11 @@
 //! A write that was admitted, and how one that repeats it is answered.
-ghost use Rattle.std.specs.Prelude.{◌≡◌, Option};
+ghost use Rattle.std.specs.Prelude.{◌≡◌, ◌<◌, Option};
 ghost use Rattle.event_model.specs.Events.{is_young};
-ghost use Rattle.exchange_core.specs.Table.{admitted_now, is_with, is_admitted_at, repeating, answered};
+ghost use Rattle.exchange_core.specs.Table.{admitted_now, is_with, is_admitted_at, is_sought, repeating, answered};
+ghost use Rattle.exchange_core.specs.Buckets.{bucket};
 
 use crate::Reply;
+use crate::buckets::bucket_of;
 use rd_base::{Moment, Peer};
 use std::marker::Model;
 
@@ -69,6 +71,24 @@ impl Exchange {
         ensures { result ≡ is_admitted_at peer mid admitted.0 self.now }
     {
         self.is_with(peer, mid) && self.admitted == admitted
+    }
+
+    /// Whether it is the latest that is sought: of this peer under this Message ID, and admitted at this moment where one is given.
+    pub(crate) fn is_sought(&self, peer: Peer, mid: u16, admitted: Option<Moment>) -> bool
+        ensures { result ≡ is_sought peer mid admitted self.now }
+    {
+        match admitted {
+            None => self.is_with(peer, mid),
+            Some(moment) => self.is_admitted_at(peer, mid, moment),
+        }
+    }
+
+    /// Its bucket.
+    pub(crate) fn bucket(&self) -> usize
+        ensures bucket { result ≡ bucket self.now }
+        ensures within { result < 8_192 }
+    {
+        bucket_of(self.peer, self.mid)
     }
 
     /// Whether it is not older than an exchange lives.

@@ -40,7 +40,7 @@ fn unquoted(alloc: Global, value: &str) -> Result<Text, Starved>
 fn content(alloc: Global, inner: &str) -> Result<Text, Starved>
     ensures { IfOk result (λ text. text ≡ quoting.content_up_to_quote false inner.now) }
 {
-    let mut text = String::new(alloc);
+    let mut text = String::with_capacity(alloc, inner.len())?;
     let mut escaped = false;
     let mut characters = inner.chars();
     'characters: while let Some(character) = characters.next() {

@@ -10,3 +10,4 @@ pub mod StepLaws
 pub mod OwnLaws
 pub mod SamePartLaws
 pub mod PartCuts
+pub mod AlikeLaws

@@ -5,3 +5,4 @@ pub mod OwnLinks
 pub mod ValueParts
 pub mod JudgedEndpoints
 pub mod Views
+pub mod AlikeLinks

@@ -4,6 +4,8 @@ ghost use Rattle.std.specs.Option.{option_copied};
 ghost use Rattle.record_model.specs.ListingLines as listing_model;
 ghost use Rattle.record_model.specs.Matching as model;
 ghost use Rattle.record_model.specs.ListingLines.{part_or_none, same_lines};
+ghost use Rattle.rd_base.specs.declared.records.Record.{Record};
+ghost use Rattle.listing.specs.AlikeLinks.{AreAlike, AreJudgedAlike, AreLeftAlike};
 ghost use Rattle.listing.specs.JudgedEndpoints.{AreJudged};
 ghost use Rattle.listing.specs.Views.{FirstListed, left};
 ghost use Rattle.listing.specs.ListedLinks.{listed_endpoint, listed_lines};
@@ -12,7 +14,7 @@ use crate::criteria::{endpoint_listed, is_listed, judge};
 use crate::locations::{ROOM, write_location};
 use crate::octets::{Octets, octets_of, same_octets};
 use crate::pieces::{endpoint_pieces, link_pieces};
-use rd_base::{Item, Kind, Query, Record, Text};
+use rd_base::{Criterion, Item, Kind, Query, Record, Text};
 
 /// Whether both have the same anchor, or none.
 fn same_anchor(old: &Option<Text>, new: &Option<Text>) -> bool
@@ -59,6 +61,52 @@ fn same_link(old: &Item, new: &Item) -> bool
         &mut octets_of(link_pieces(old), &[]),
         &mut octets_of(link_pieces(new), &[]),
     )
+}
+
+/// Whether both links are alike.
+fn are_alike(old: &Item, new: &Item) -> bool
+    ensures { IsTrue result → AreAlike old.now new.now }
+{
+    if !same_text(&old.target, &new.target) {
+        return false;
+    }
+    if !same_text(&old.raw, &new.raw) {
+        return false;
+    }
+    if !same_anchor(&old.anchor, &new.anchor) {
+        return false;
+    }
+    old.pairs == new.pairs
+}
+
+/// What is left of the links of two registrations after those at the beginning that are alike, where their endpoints are judged alike; else
+/// all.
+fn after_alike<'a>(together: bool, old: &'a [Item], new: &'a [Item]) -> (&'a [Item], &'a [Item])
+    ensures { AreLeftAlike together old.now new.now result.0.now result.1.now }
+{
+    if !together {
+        return (old, new);
+    }
+    let mut left = old;
+    let mut other = new;
+    'items: while let Some((item, more)) = left.split_first() {
+        let Some((next, further)) = other.split_first() else {
+            return (left, other);
+        };
+        if !are_alike(item, next) {
+            return (left, other);
+        }
+        left = more;
+        other = further;
+    }
+    (left, other)
+}
+
+/// Whether the answers tell that each criterion matches both endpoints by themselves, or neither.
+fn tell_alike(criteria: &[Criterion], old_judged: &[bool], new_judged: &[bool]) -> bool
+    ensures { IsTrue result → (r s : Record) → AreJudged r old_judged.now criteria.now → AreJudged s new_judged.now criteria.now → AreJudgedAlike criteria.now r s }
+{
+    criteria.len() <= old_judged.len() && old_judged == new_judged
 }
 
 /// The line of an endpoint, octet by octet.
@@ -112,11 +160,13 @@ fn same_links(query: &Query, old: &Record, new: &Record) -> bool
 {
     let old_judged = judge(query, Some(old));
     let new_judged = judge(query, Some(new));
+    let together = tell_alike(query.criteria.as_slice(), &old_judged, &new_judged);
     let mut old_rest = old.items.as_slice();
     let mut new_rest = new.items.as_slice();
     'items: loop {
-        let old_first = first_listed(query, old, &old_judged, old_rest);
-        let new_first = first_listed(query, new, &new_judged, new_rest);
+        let (old_left, new_left) = after_alike(together, old_rest, new_rest);
+        let old_first = first_listed(query, old, &old_judged, old_left);
+        let new_first = first_listed(query, new, &new_judged, new_left);
         match old_first {
             None => return new_first.is_none(),
             Some((old_item, old_more)) => match new_first {

@@ -12,6 +12,10 @@ use crate::dot_segments::append_without_dots;
 use rd_base::{Starved, Text};
 use std::alloc::Global;
 
+/// How many octets stand between the components of a reference at most: a colon, two slashes, a slash of the path, a question mark and a
+/// number sign.
+const DELIMITERS: usize = 6;
+
 /// The scheme of the reference, or else that of the base.
 #[tactic(auto, unfolding(reference_model::specs::Resolution::resolution))]
 fn target_scheme<'a>(base: &Parts<'a>, reference: &Parts<'a>) -> Option<&'a str>
@@ -159,6 +163,24 @@ fn append_fragment(text: &mut String, fragment: Option<&str>) -> Result<(), Star
     Ok(())
 }
 
+/// How many octets some text has, where there is one.
+fn octets_of(part: Option<&str>) -> usize {
+    part.map_or(0, |text| text.len())
+}
+
+/// How much room a resolved reference takes at most, with its delimiters. It is asked for at once, and changes no text.
+fn room_for(base: &Parts<'_>, reference: &Parts<'_>) -> usize {
+    let mut room = octets_of(target_scheme(base, reference));
+    room = usize::saturating_add(room, octets_of(target_authority(base, reference)));
+    room = usize::saturating_add(room, octets_of(target_query(base, reference)));
+    room = usize::saturating_add(room, octets_of(reference.fragment));
+    room = usize::saturating_add(room, reference.path.len());
+    if !reference.path.as_bytes().starts_with(b"/") {
+        room = usize::saturating_add(room, base.path.len());
+    }
+    usize::saturating_add(room, DELIMITERS)
+}
+
 /// The text of a reference, resolved against a base (RFC 3986 sections 5.2.2 and 5.3, strict). Dot segments are removed of
 /// a reference with a scheme too. A base has a scheme and an authority; where it has none, the answer has none from it.
 ///
@@ -169,7 +191,7 @@ pub fn resolve(alloc: Global, base: &Parts<'_>, reference: &Parts<'_>) -> Result
     ensures value { IfOk result (λ text. text ≡ references.recomposed (resolution.resolution (components_of base.now) (components_of reference.now))) }
     ensures texts { IfOk result (λ text. (b r : List ℕ) → references.IsReference b (components_of base.now) → references.IsReference r (components_of reference.now) → text ≡ resolution.resolved b r) }
 {
-    let mut text = String::new(alloc);
+    let mut text = String::with_capacity(alloc, room_for(base, reference))?;
     append_scheme(&mut text, target_scheme(base, reference))?;
     append_authority(&mut text, target_authority(base, reference))?;
     append_path(alloc, &mut text, base, reference)?;

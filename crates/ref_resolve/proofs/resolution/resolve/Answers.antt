@@ -11,12 +11,12 @@ pub returns-clause-value : goal.returns-clause-value
 returns-clause-value c =
     let base = components_of c.args.base.now in
     let reference = components_of c.args.reference.now in
-    let t0 = string_bytes c.new-text.result in
+    let t0 = string_bytes c.in_ok-text.text in
     let t1 = string_bytes c.append_scheme.new.text in
     let t2 = string_bytes c.append_authority.new.text in
     let t3 = string_bytes c.append_path.new.text in
     let t4 = string_bytes c.append_query.new.text in
-    c.of.ensures ∙ appended (resolution base reference) reference.fragment t0 t1 t2 t3 t4 (string_bytes c.append_fragment.new.text) c.new-text.ensures.bytes
+    c.of.ensures ∙ appended (resolution base reference) reference.fragment t0 t1 t2 t3 t4 (string_bytes c.append_fragment.new.text) c.in_ok-text.ensures.bytes
     (c.in_ok-append_scheme.ensures ∙ ap (λ (s : Option (List ℕ)). t0 ++ scheme_text s) c.target_scheme.ensures)
     (c.in_ok-append_authority.ensures ∙ ap (λ (a : Option (List ℕ)). t1 ++ authority_text a) c.target_authority.ensures)
     c.in_ok-append_path.ensures

@@ -5,25 +5,17 @@ use Rattle.exchange_core.proofs.TableLaws.{ExchangesStandFor-aged}
 use Rattle.exchange_core.proofs.table.Exchanges.age.Goals as goal
 
 pub drop_old-requires : goal.drop_old-requires
-drop_old-requires c = InOrder-later c.self.inside.moment.0 c.args.now.0 c.self.inside.rows.items (subst (λ (t : Table). t.moment ≤ c.args.now.0) (sym c.self.view_is) c.requires) c.self.invariant.2
+drop_old-requires c = InOrder-later c.self.inside.moment.0 c.args.now.0 c.self.inside.queue (subst (λ (t : Table). t.moment ≤ c.args.now.0) (sym c.self.view_is) c.requires) c.self.invariant
 
 pub invariant_of-self : goal.invariant_of-self
 invariant_of-self c =
-    let same = c.drop_old.ensures.capacity in
-    let left = ap length c.drop_old.ensures.items in
-    let fewer = length-young c.args.now.0 c.self.inside.rows.items in
-    let ok = c.self.inside.rows.ok.0 in
-    let ok_now = c.drop_old.new.rows.ok.0 in
-    let before = c.self.invariant in (
-      omega (arith, same, before),
-      omega (arith, before, left, fewer, ok, ok_now),
-      subst (InOrder c.args.now.0) (sym c.drop_old.ensures.items) (InOrder-young c.args.now.0 c.args.now.0 c.self.inside.rows.items (InOrder-later c.self.inside.moment.0 c.args.now.0 c.self.inside.rows.items (subst (λ (t : Table). t.moment ≤ c.args.now.0) (sym c.self.view_is) c.requires) c.self.invariant.2)),
-    )
+    subst (InOrder c.args.now.0) (sym c.drop_old.ensures)
+    (InOrder-young c.args.now.0 c.args.now.0 c.self.inside.queue (InOrder-later c.self.inside.moment.0 c.args.now.0 c.self.inside.queue (subst (λ (t : Table). t.moment ≤ c.args.now.0) (sym c.self.view_is) c.requires) c.self.invariant))
 
 pub returns-clause-left : goal.returns-clause-left
-returns-clause-left c = c.drop_old.ensures.items ∙ ap (λ (t : Table). young c.args.now.0 t.exchanges) c.self.view_is
+returns-clause-left c = c.drop_old.ensures ∙ ap (λ (t : Table). young c.args.now.0 t.exchanges) c.self.view_is
 
 pub returns-clause-stands : goal.returns-clause-stands
 returns-clause-stands c at events h stands =
-    ExchangesStandFor-aged at c.args.now.0 events c.args.self.now (record { moment = c.args.now.0; exchanges = c.drop_old.new.rows.items }) h
-    (c.drop_old.ensures.items ∙ ap (λ (t : Table). young c.args.now.0 t.exchanges) c.self.view_is) stands
+    ExchangesStandFor-aged at c.args.now.0 events c.args.self.now (record { moment = c.args.now.0; exchanges = c.drop_old.new.queue }) h
+    (c.drop_old.ensures ∙ ap (λ (t : Table). young c.args.now.0 t.exchanges) c.self.view_is) stands

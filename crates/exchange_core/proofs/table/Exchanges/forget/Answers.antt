@@ -7,24 +7,12 @@ use Rattle.exchange_core.proofs.table.Exchanges.forget.Goals as goal
 
 pub invariant_of-self : goal.invariant_of-self
 invariant_of-self c =
-    let test = is_admitted_at c.args.peer c.args.mid c.args.admitted.0 in
-    let xs = c.self.inside.rows.items in
-    let items : c.drop_first.new.rows.items ≡ without_first test xs = c.drop_first.ensures.items in
-    let room = c.drop_first.ensures.capacity in
-    let many = length-without test xs in
-    let as_many = ap length items in
-    let ok = c.self.inside.rows.ok.0 in
-    let ok_now = c.drop_first.new.rows.ok.0 in
-    let before = c.self.invariant in (
-      omega (arith, room, before),
-      omega (arith, before, many, as_many, ok, ok_now),
-      subst (InOrder c.self.inside.moment.0) (sym items) (InOrder-without test c.self.inside.moment.0 xs before.2),
-    )
+    subst (InOrder c.self.inside.moment.0) (sym c.drop_first.ensures) (InOrder-without (is_admitted_at c.args.peer c.args.mid c.args.admitted.0) c.self.inside.moment.0 c.self.inside.queue c.self.invariant)
 
 pub returns-clause-stands : goal.returns-clause-stands
-returns-clause-stands c at events e place orderly there is stands =
-    ExchangesStandFor-failed at place c.args.peer c.args.mid c.args.admitted.0 e events (record { moment = c.self.inside.moment.0; exchanges = c.self.inside.rows.items })
-    (record { moment = c.self.inside.moment.0; exchanges = c.drop_first.new.rows.items }) is orderly there c.drop_first.ensures.items (subst (ExchangesStandFor at events) (sym c.self.view_is) stands)
+returns-clause-stands c at events e place it is stands =
+    ExchangesStandFor-failed at place c.args.peer c.args.mid c.args.admitted.0 e events (record { moment = c.self.inside.moment.0; exchanges = c.self.inside.queue })
+    (record { moment = c.self.inside.moment.0; exchanges = c.drop_first.new.queue }) is it.orderly it.admission c.drop_first.ensures (subst (ExchangesStandFor at events) (sym c.self.view_is) stands)
 
 pub returns-clause-forgotten : goal.returns-clause-forgotten
-returns-clause-forgotten c = c.drop_first.ensures.items ∙ ap (λ (t : Table). without_first (is_admitted_at c.args.peer c.args.mid c.args.admitted.0) t.exchanges) c.self.view_is
+returns-clause-forgotten c = c.drop_first.ensures ∙ ap (λ (t : Table). without_first (is_admitted_at c.args.peer c.args.mid c.args.admitted.0) t.exchanges) c.self.view_is

@@ -1,0 +1,48 @@
+//! The buckets that exchanges are found by.
+ghost use Rattle.std.specs.Prelude.{◌≡◌, ◌<◌, fold};
+ghost use Rattle.exchange_core.specs.Buckets.{mixed, host_hash, bucket_of};
+
+use rd_base::{Host, Peer};
+
+/// How many buckets there are: twice as many as exchanges are kept at most, so that few share one.
+pub(crate) const BUCKETS: usize = 8_192;
+
+/// What each word is multiplied by, an odd number whose bits are spread.
+const MULTIPLIER: u64 = 0x9e37_79b9_7f4a_7c15;
+
+/// A hash with one word more.
+#[tactic(auto, unfolding(crate::specs::Buckets::mixed))]
+fn with_word(hash: u64, word: u64) -> u64
+    ensures { result ≡ mixed hash word }
+{
+    let product = (hash ^ word).wrapping_mul(MULTIPLIER);
+    product ^ (product >> 32)
+}
+
+/// The hash of an address. Its seed is fixed, so whoever picks addresses can make them collide.
+#[tactic(auto, unfolding(crate::specs::Buckets::host_hash))]
+fn hash_of(host: Host) -> u64
+    ensures { result ≡ host_hash host }
+{
+    match host {
+        Host::V4(octets) => octets
+            .iter()
+            .fold(4, |hash, octet| with_word(hash, u64::from(*octet))),
+        Host::V6(groups) => groups
+            .iter()
+            .fold(6, |hash, group| with_word(hash, u64::from(*group))),
+    }
+}
+
+/// The bucket of a peer and a Message ID.
+#[tactic(auto, unfolding(crate::specs::Buckets::bucket_of))]
+pub(crate) fn bucket_of(peer: Peer, mid: u16) -> usize
+    ensures bucket { result ≡ bucket_of peer mid }
+    ensures within { result < 8_192 }
+{
+    let hash = with_word(
+        with_word(hash_of(peer.host), u64::from(peer.port)),
+        u64::from(mid),
+    );
+    (hash % BUCKETS as u64) as usize
+}

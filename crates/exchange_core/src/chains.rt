@@ -1,0 +1,96 @@
+//! By which exchanges are found: of each bucket its exchanges, from the latest on.
+ghost use Rattle.std.specs.Prelude.{◌≡◌, ◌+◌, ◌-◌, ◌<◌, ◌≤◌, ◌^◌, ◌∷◌, [], ℕ, length, take, slice_index, slice_set, IfOk, EachIndex};
+ghost use Rattle.std.specs.VecDeque.{deque_len, deque_capacity};
+
+use crate::buckets::BUCKETS;
+use rd_base::Starved;
+use std::alloc::Global;
+use std::collections::VecDeque;
+
+/// Numbers of exchanges, which are numbered in the order of their admission.
+#[derive(Drop)]
+pub(crate) struct Chains {
+    /// The number of the oldest exchange.
+    pub(crate) first: u64,
+    /// Of each bucket the number of its latest exchange; one below the first where it has none.
+    pub(crate) latest: Vec<u64>,
+    /// Of each exchange, the latest first, the number of the next older one in its bucket; one below the first where there is none.
+    pub(crate) older: VecDeque<u64>,
+}
+
+impl Chains {
+    /// No exchanges, with room for so many.
+    pub(crate) fn make(alloc: Global, room: usize) -> Result<Chains, Starved>
+        ensures first { IfOk result (λ c. c.first ≡ 1) }
+        ensures buckets { IfOk result (λ c. length c.latest.items ≡ 8_192) }
+        ensures none { IfOk result (λ c. EachIndex c.latest.items (λ b. slice_index c.latest.items b ≡ 0)) }
+        ensures empty { IfOk result (λ c. c.older.items ≡ []) }
+        ensures room { IfOk result (λ c. room ≤ deque_capacity c.older) }
+    {
+        let older = VecDeque::with_capacity(alloc, room)?;
+        let latest = vec![in alloc; 0; BUCKETS]?;
+        Ok(Chains {
+            first: 1,
+            latest,
+            older,
+        })
+    }
+
+    /// The number of the next exchange.
+    pub(crate) fn next(&self) -> u64
+        requires { self.now.first + length self.now.older.items < 2 ^ 64 }
+        ensures { result ≡ self.now.first + length self.now.older.items }
+    {
+        self.first + self.older.len() as u64
+    }
+
+    /// One more exchange, in this bucket.
+    pub(crate) fn push(&mut self, bucket: usize)
+        requires within { bucket < length self.old.latest.items }
+        requires counted { self.old.first + length self.old.older.items < 2 ^ 64 }
+        requires room { length self.old.older.items < deque_capacity self.old.older }
+        ensures first { self.new.first ≡ self.old.first }
+        ensures older { self.new.older.items ≡ slice_index self.old.latest.items bucket ∷ self.old.older.items }
+        ensures latest { self.new.latest.items ≡ slice_set self.old.latest.items bucket (self.old.first + length self.old.older.items) }
+        ensures room { deque_capacity self.new.older ≡ deque_capacity self.old.older }
+    {
+        let number = self.next();
+        let before = self.latest[bucket];
+        self.latest[bucket] = number;
+        self.older.push_front_reserved(before);
+    }
+
+    /// The oldest exchange is gone.
+    pub(crate) fn pop(&mut self)
+        requires { self.old.first + 1 < 2 ^ 64 }
+        ensures first { self.new.first ≡ self.old.first + 1 }
+        ensures older { self.new.older.items ≡ take (length self.old.older.items - 1) self.old.older.items }
+        ensures latest { self.new.latest.items ≡ self.old.latest.items }
+        ensures room { deque_capacity self.new.older ≡ deque_capacity self.old.older }
+    {
+        let _ = self.older.pop_back();
+        self.first += 1;
+    }
+
+    /// All exchanges are gone.
+    pub(crate) fn clear(&mut self)
+        ensures first { self.new.first ≡ 1 }
+        ensures buckets { length self.new.latest.items ≡ length self.old.latest.items }
+        ensures none { EachIndex self.new.latest.items (λ b. slice_index self.new.latest.items b ≡ 0) }
+        ensures empty { self.new.older.items ≡ [] }
+        ensures room { deque_capacity self.new.older ≡ deque_capacity self.old.older }
+    {
+        self.first = 1;
+        self.older.clear();
+        none_in(&mut self.latest);
+    }
+}
+
+/// No bucket has an exchange.
+fn none_in(latest: &mut [u64])
+    ensures { EachIndex latest.new (λ b. slice_index latest.new b ≡ 0) }
+{
+    'buckets: for number in latest.iter_mut() {
+        *number = 0;
+    }
+}
