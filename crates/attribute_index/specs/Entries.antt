@@ -36,6 +36,10 @@ is_same x y = bytes_eq x.name y.name && (bytes_eq x.value y.value && (x.number =
 abbrev pub has_entry : List Entry → Entry → Bool
 has_entry index e = list_any (is_same e) index
 
+-- the number is among these
+abbrev pub has_number : List ℕ → ℕ → Bool
+has_number numbers n = list_any (λ m. n == m) numbers
+
 -- entries are ordered by their names, those of one name by their values, and those of one value by their numbers
 abbrev pub entry_cmp : Entry → Entry → Ordering
 entry_cmp x y = ordering_then (slice_cmp nat_cmp x.name y.name) (ordering_then (slice_cmp nat_cmp x.value y.value) (nat_cmp x.number y.number))
