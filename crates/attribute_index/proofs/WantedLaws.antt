@@ -114,13 +114,13 @@ wanted_between name pattern value other h less matches =
     let below = less_le (value_cmp value other) less in
     let up : is_le (slice_cmp nat_cmp name value.0) ≡ true = by_name (slice_cmp nat_cmp name value.0) (slice_cmp nat_cmp front value.1) h in
     let down : is_le (slice_cmp nat_cmp value.0 name) ≡ true =
-        subst (λ (zs : List ℕ). is_le (slice_cmp nat_cmp value.0 zs) ≡ true) other_name (by_name (slice_cmp nat_cmp value.0 other.0) (slice_cmp nat_cmp value.1 other.1) below) in
+    subst (λ (zs : List ℕ). is_le (slice_cmp nat_cmp value.0 zs) ≡ true) other_name (by_name (slice_cmp nat_cmp value.0 other.0) (slice_cmp nat_cmp value.1 other.1) below) in
     let names : name ≡ value.0 = equal_between name value.0 up down in
     and_from (bytes_eq value.0 name) (matches_value pattern value.1) ((bytes_eq-Decides value.0 name).1 (sym names))
     (matched_between (before_wildcard pattern) pattern value.1 other.1
-      (by_value (slice_cmp nat_cmp name value.0) (slice_cmp nat_cmp front value.1) (same_names name value.0 names) h)
-      (by_value (slice_cmp nat_cmp value.0 other.0) (slice_cmp nat_cmp value.1 other.1) (same_names value.0 other.0 (sym names ∙ sym other_name)) below)
-      parts.1)
+    (by_value (slice_cmp nat_cmp name value.0) (slice_cmp nat_cmp front value.1) (same_names name value.0 names) h)
+    (by_value (slice_cmp nat_cmp value.0 other.0) (slice_cmp nat_cmp value.1 other.1) (same_names value.0 other.0 (sym names ∙ sym other_name)) below)
+    parts.1)
 
 -- ---- rows
 
