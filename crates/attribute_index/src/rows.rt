@@ -46,12 +46,7 @@ fn values_of(alloc: Global, name: &[u8], value: &[u8]) -> Result<Vec<Value>, Sta
 }
 
 /// The numbers of a value once this one is there. `Starved`: out of memory.
-fn numbers_with(
-    alloc: Global,
-    rows: &Rows,
-    value: &Value,
-    number: u64,
-) -> Result<Numbers, Starved>
+fn numbers_with(alloc: Global, rows: &Rows, value: &Value, number: u64) -> Result<Numbers, Starved>
     ensures numbers { IfOk result (λ numbers. (n : ℕ) → has_number numbers n ≡ (number_in (lookup (is_at (value_cmp value.now)) rows.now) n || (n == number))) }
     ensures whole { IfOk result (λ numbers. IsRow numbers) }
 {
@@ -62,12 +57,7 @@ fn numbers_with(
 }
 
 /// Rows in which the record with this number carries this value too. `Starved`: out of memory.
-fn with_value(
-    alloc: Global,
-    rows: &Rows,
-    value: &Value,
-    number: u64,
-) -> Result<Rows, Starved>
+fn with_value(alloc: Global, rows: &Rows, value: &Value, number: u64) -> Result<Rows, Starved>
     requires ascends { IsAscending value_cmp rows.now }
     requires whole { AreRows rows.now }
     ensures entries { IfOk result (λ more. (e : Entry) → has_entry (entries_of_rows more) e ≡ (has_entry (entries_of_rows rows.now) e || is_same e (record { name = value.now.0; value = value.now.1; number = number }))) }
@@ -79,12 +69,7 @@ fn with_value(
 }
 
 /// Rows in which the record with this number does not carry this value. `Starved`: out of memory.
-fn without_value(
-    alloc: Global,
-    rows: &Rows,
-    value: &Value,
-    number: u64,
-) -> Result<Rows, Starved>
+fn without_value(alloc: Global, rows: &Rows, value: &Value, number: u64) -> Result<Rows, Starved>
     requires ascends { IsAscending value_cmp rows.now }
     requires whole { AreRows rows.now }
     ensures entries { IfOk result (λ fewer. (e : Entry) → has_entry (entries_of_rows fewer) e ≡ (has_entry (entries_of_rows rows.now) e && not (is_same e (record { name = value.now.0; value = value.now.1; number = number })))) }
@@ -101,12 +86,7 @@ fn without_value(
 }
 
 /// Rows in which the record with this number carries these values too. `Starved`: out of memory.
-fn with_values(
-    alloc: Global,
-    rows: &Rows,
-    values: &[Value],
-    number: u64,
-) -> Result<Rows, Starved>
+fn with_values(alloc: Global, rows: &Rows, values: &[Value], number: u64) -> Result<Rows, Starved>
     requires ascends { IsAscending value_cmp rows.now }
     requires whole { AreRows rows.now }
     ensures entries { IfOk result (λ more. (e : Entry) → has_entry (entries_of_rows more) e ≡ (has_entry (entries_of_rows rows.now) e || has_entry (entries_under values.now number) e)) }

@@ -9,7 +9,7 @@ values-preserved c =
     let values = c.args.values.now in
     let number = c.args.number in
     let i = c.values.value-index in
-    let value = c.value-item.result.now in
+    let value = c.value-item.result in
     record {
       entries =
           λ e. c.in_ok-fewer-2.ensures.entries e ∙ take_next (has_entry (entries_of_rows c.args.rows.now) e) (has_entry (entries_under (take i values) number) e) (has_entry (entries_of_rows c.values.fewer) e)
