@@ -101,6 +101,23 @@ fn told<L: Ledger>(
     Ok(numbers)
 }
 
+/// All numbers that the carriers of a name and a pattern have.
+fn found(
+    alloc: Global,
+    index: &AttributeIndex,
+    name: &str,
+    pattern: &str,
+) -> Result<Vec<u64>, Starved> {
+    let carriers = index.carriers(alloc, name, pattern)?;
+    told::<Brand>(Blank::new(1), alloc, carriers)
+}
+
+/// The numbers of the carriers of a name and a pattern, which `=` parts.
+fn asked(alloc: Global, index: &AttributeIndex, query: &str) -> Result<Vec<u64>, Fail> {
+    let (name, pattern) = query.split_once('=').ok_or("no pattern")?;
+    Ok(found(alloc, index, name, pattern)?)
+}
+
 /// Attributes are found by patterns.
 #[test]
 fn attributes_are_found(rt: HostRuntime) -> Result<(), Fail> {
@@ -109,11 +126,9 @@ fn attributes_are_found(rt: HostRuntime) -> Result<(), Fail> {
     for case in CASES.lines() {
         let (change, rest) = case.split_once('|').ok_or("no change")?;
         let (query, numbers) = rest.split_once('|').ok_or("no query")?;
-        let (name, pattern) = query.split_once('=').ok_or("no pattern")?;
         index = changed(rt.alloc(), &index, change)?;
         let want = numbers_of(rt.alloc(), numbers)?;
-        let carriers = index.carriers(rt.alloc(), name, pattern)?;
-        let numbers = told::<Brand>(Blank::new(1), rt.alloc(), carriers)?;
+        let numbers = asked(rt.alloc(), &index, query)?;
         assert_eq!(rt; numbers.as_slice(), want.as_slice(), "{case}");
         count = u32::saturating_add(count, 1);
     }
@@ -121,42 +136,87 @@ fn attributes_are_found(rt: HostRuntime) -> Result<(), Fail> {
     Ok(())
 }
 
-/// How many numbers a cursor over all values of `ct` tells.
+/// How many numbers the carriers of all values of `ct` have.
 fn count_of(alloc: Global, index: &AttributeIndex) -> Result<usize, Starved> {
-    let carriers = index.carriers(alloc, "ct", "*")?;
-    let numbers = told::<Brand>(Blank::new(1), alloc, carriers)?;
+    let numbers = found(alloc, index, "ct", "*")?;
     Ok(numbers.len())
 }
 
 /// An index stays as it is when another one is made of it.
 #[test]
 fn versions_stay(rt: HostRuntime) -> Result<(), Fail> {
-    let alloc = rt.alloc();
-    let pair = pair_of(alloc, "ct", "40")?;
-    let none = AttributeIndex::empty(alloc)?;
-    let two = none.put(alloc, &pair, 1)?.put(alloc, &pair, 2)?;
-    let one = two.take(alloc, &pair, 1)?;
-    let shared = one.share(alloc)?;
-    let empty = shared.take(alloc, &pair, 2)?;
-    assert_eq!(rt; count_of(alloc, &none)?, 0);
-    assert_eq!(rt; count_of(alloc, &two)?, 2);
-    assert_eq!(rt; count_of(alloc, &one)?, 1);
-    assert_eq!(rt; count_of(alloc, &shared)?, 1);
-    assert_eq!(rt; count_of(alloc, &empty)?, 0);
+    let pair = pair_of(rt.alloc(), "ct", "40")?;
+    let none = AttributeIndex::empty(rt.alloc())?;
+    let one = none.put(rt.alloc(), &pair, 1)?;
+    let two = one.put(rt.alloc(), &pair, 2)?;
+    let left = two.take(rt.alloc(), &pair, 1)?;
+    let shared = left.share(rt.alloc())?;
+    let empty = shared.take(rt.alloc(), &pair, 2)?;
+    assert_eq!(rt; count_of(rt.alloc(), &none)?, 0);
+    assert_eq!(rt; count_of(rt.alloc(), &one)?, 1);
+    assert_eq!(rt; count_of(rt.alloc(), &two)?, 2);
+    assert_eq!(rt; count_of(rt.alloc(), &left)?, 1);
+    assert_eq!(rt; count_of(rt.alloc(), &shared)?, 1);
+    assert_eq!(rt; count_of(rt.alloc(), &empty)?, 0);
     Ok(())
 }
 
 /// How many attributes are put and taken.
 const CHANGES: u64 = 2000;
 
-/// The attribute `ct` with a value of two digits.
-fn drawn_pair(alloc: Global, value: u64) -> Result<Pair, Fail> {
-    let text = format!(in alloc; "{value}")?;
-    Ok(pair_of(alloc, "ct", text.as_str())?)
+/// An attribute that is put or taken: `ct` with a value of two digits.
+#[derive(Clone, Copy)]
+struct Drawn {
+    /// The value.
+    value: u64,
+    /// The number of the record, below a thousand.
+    number: u64,
+    /// Whether it is taken.
+    is_taken: bool,
 }
 
-/// The numbers of a plain map's keys, of which each is a value times a thousand with a number, for the values from one on
-/// and before another.
+/// The attribute that a pseudo-random number draws.
+fn drawn_of(number: u64) -> Drawn {
+    Drawn {
+        value: u64::wrapping_add(10, (number >> 40) % 20),
+        number: (number >> 50) % 70,
+        is_taken: (number >> 60) % 3 == 0,
+    }
+}
+
+/// The next pseudo-random number.
+fn next_drawn(number: u64) -> u64 {
+    let product = u64::wrapping_mul(number, 6_364_136_223_846_793_005);
+    u64::wrapping_add(product, 1_442_695_040_888_963_407)
+}
+
+/// The index after a change.
+fn changed_index(
+    alloc: Global,
+    index: &AttributeIndex,
+    drawn: Drawn,
+) -> Result<AttributeIndex, Starved> {
+    let value = drawn.value;
+    let text = format!(in alloc; "{value}")?;
+    let pair = pair_of(alloc, "ct", text.as_str())?;
+    if drawn.is_taken {
+        return index.take(alloc, &pair, drawn.number);
+    }
+    index.put(alloc, &pair, drawn.number)
+}
+
+/// A plain map after a change: its keys are a value times a thousand with a number.
+fn change_plain(plain: &mut BTreeMap<u64, ()>, drawn: Drawn) -> Result<(), Starved> {
+    let key = u64::wrapping_add(u64::wrapping_mul(drawn.value, 1000), drawn.number);
+    if drawn.is_taken {
+        plain.remove(&key);
+    } else {
+        plain.insert(key, ())?;
+    }
+    Ok(())
+}
+
+/// The numbers of the keys of a plain map, for the values from one on and before another.
 fn plain_numbers(
     alloc: Global,
     plain: &BTreeMap<u64, ()>,
@@ -173,38 +233,37 @@ fn plain_numbers(
     Ok(numbers)
 }
 
+/// Whether the carriers of a value have the numbers of a plain map.
+fn is_alike(
+    alloc: Global,
+    index: &AttributeIndex,
+    plain: &BTreeMap<u64, ()>,
+    value: u64,
+) -> Result<bool, Starved> {
+    let text = format!(in alloc; "{value}")?;
+    let numbers = found(alloc, index, "ct", text.as_str())?;
+    let want = plain_numbers(alloc, plain, value, u64::wrapping_add(value, 1))?;
+    Ok(numbers.as_slice() == want.as_slice())
+}
+
 /// Pseudo-random attributes, put and taken beside std's map.
 #[test]
 fn as_a_plain_map(rt: HostRuntime) -> Result<(), Fail> {
-    let alloc = rt.alloc();
-    let mut index = AttributeIndex::empty(alloc)?;
-    let mut plain: BTreeMap<u64, ()> = BTreeMap::new(alloc);
-    let mut drawn: u64 = 7;
+    let mut index = AttributeIndex::empty(rt.alloc())?;
+    let mut plain: BTreeMap<u64, ()> = BTreeMap::new(rt.alloc());
+    let mut number: u64 = 7;
     for change in 0..CHANGES {
-        drawn = u64::wrapping_mul(drawn, 6_364_136_223_846_793_005);
-        drawn = u64::wrapping_add(drawn, 1_442_695_040_888_963_407);
-        let value = u64::wrapping_add(10, (drawn >> 40) % 20);
-        let number = (drawn >> 50) % 70;
-        let key = u64::wrapping_add(u64::wrapping_mul(value, 1000), number);
-        let pair = drawn_pair(alloc, value)?;
-        if (drawn >> 60) % 3 == 0 {
-            index = index.take(alloc, &pair, number)?;
-            plain.remove(&key);
-        } else {
-            index = index.put(alloc, &pair, number)?;
-            plain.insert(key, ())?;
-        }
+        number = next_drawn(number);
+        let drawn = drawn_of(number);
+        index = changed_index(rt.alloc(), &index, drawn)?;
+        change_plain(&mut plain, drawn)?;
         if change % 100 == 0 {
-            let want = plain_numbers(alloc, &plain, value, u64::wrapping_add(value, 1))?;
-            let carriers = index.carriers(alloc, "ct", pair.value.as_str())?;
-            let numbers = told::<Brand>(Blank::new(1), alloc, carriers)?;
-            assert_eq!(rt; numbers.as_slice(), want.as_slice());
+            assert!(rt; is_alike(rt.alloc(), &index, &plain, drawn.value)?);
         }
     }
-    let want = plain_numbers(alloc, &plain, 10, 20)?;
-    let carriers = index.carriers(alloc, "ct", "1*")?;
-    let numbers = told::<Brand>(Blank::new(1), alloc, carriers)?;
+    let want = plain_numbers(rt.alloc(), &plain, 10, 20)?;
+    let numbers = found(rt.alloc(), &index, "ct", "1*")?;
     assert_eq!(rt; numbers.as_slice(), want.as_slice());
-    assert_eq!(rt; count_of(alloc, &index)?, plain.len());
+    assert_eq!(rt; count_of(rt.alloc(), &index)?, plain.len());
     Ok(())
 }
