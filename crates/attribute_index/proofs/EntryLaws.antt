@@ -1,5 +1,5 @@
 -- What an index has: its entries are told by a test, and two sorted indexes that have the same entries are equal.
-use Rattle.std.proofs.Common.{◌≡◌, ℕ, Bool, true, false, cond, ◌&&◌, ◌||◌, List, [], ◌∷◌, ◌++◌, nat_eq, bytes_eq, refl, sym, ap, ◌∙◌, subst}
+use Rattle.std.proofs.Common.{◌≡◌, ℕ, Bool, true, false, cond, ◌&&◌, ◌||◌, List, [], ◌∷◌, ◌++◌, map, nat_eq, bytes_eq, refl, sym, ap, ◌∙◌, subst}
 use Rattle.std.specs.declared.cmp.Ordering.{Ordering}
 use Rattle.std.specs.declared.cmp.Ordering.TheVariants.{Less, Equal, Greater}
 use Rattle.std.specs.Ordering.{is_eq, is_lt, ordering_then, ordering_reverse, nat_cmp}
@@ -9,10 +9,10 @@ use Rattle.std.specs.List.{list_any, flat_map, AllByRecursion}
 use Rattle.std.proofs.lemmas.Cmp.{nat_list_cmp_total, then_total, on_total}
 use Rattle.std.proofs.lemmas.List.Folds.{list_any-append}
 use Rattle.std.proofs.lemmas.Map.Text.{is_eq-slice_cmp}
-use Rattle.std.proofs.lemmas.Bool.{false≢true, and_parts, and_from, eqb-true, eq-eqb}
+use Rattle.std.proofs.lemmas.Bool.{false≢true, and_parts, and_from, and_right, eqb-true, eq-eqb, ne_eqb}
 use Rattle.std.proofs.lemmas.Slice.Eq.{bytes_eq-Decides}
 use Rattle.rd_base.specs.declared.attributes.Pair.{Pair}
-use Rattle.attribute_index.specs.Entries.{Entry, IsAscending, entry_cmp, has_entry, is_same, entries_of, entries_of_all}
+use Rattle.attribute_index.specs.Entries.{Entry, IsAscending, entry_cmp, has_entry, is_same, entries_of, entries_of_all, values_of}
 
 -- ---- one entry
 
@@ -56,6 +56,25 @@ has_entry-all_append (pair ∷ pairs) more number e =
     or_same : (a b c : Bool) → (a || (b || c)) ≡ ((a || b) || c)
     or_same true b c = refl
     or_same false b c = refl
+
+-- an attribute has entries under its record's number alone
+pub has_entry-other : (pair : Pair) (number : ℕ) (e : Entry) → (e.number ≡ number → ⊥) → has_entry (entries_of pair number) e ≡ false
+unfolding entries_of
+has_entry-other pair number e other = over (values_of pair.name pair.value)
+  where
+    over : (values : List (List ℕ)) → has_entry (map (λ value. record { name = pair.name; value = value; number = number }) values) e ≡ false
+    over [] = refl
+    over (value ∷ values) =
+        ap (λ t. t || has_entry (map (λ value. record { name = pair.name; value = value; number = number }) values) e)
+        (and_right (bytes_eq e.name pair.name) (bytes_eq e.value value && nat_eq e.number number) (and_right (bytes_eq e.value value) (nat_eq e.number number) (ne_eqb e.number number other)))
+        ∙ over values
+
+-- and so has a record
+pub has_entry-all_other : (pairs : List Pair) (number : ℕ) (e : Entry) → (e.number ≡ number → ⊥) → has_entry (entries_of_all pairs number) e ≡ false
+unfolding entries_of_all
+has_entry-all_other [] number e other = refl
+has_entry-all_other (pair ∷ pairs) number e other =
+    has_entry-all pair pairs number e ∙ ap (λ t. t || has_entry (entries_of_all pairs number) e) (has_entry-other pair number e other) ∙ has_entry-all_other pairs number e other
 
 -- where one entry passes a test, one that the index has does
 pub any_entry : (test : Entry → Bool) (xs : List Entry) → list_any test xs ≡ true → (e : Entry) × ((has_entry xs e ≡ true) × (test e ≡ true))
