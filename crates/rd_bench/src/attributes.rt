@@ -67,11 +67,7 @@ fn changed(
 }
 
 /// The first steps of a cursor over all carriers; how many numbers they tell.
-fn step_all<L: Ledger>(
-    blank: Blank,
-    alloc: Global,
-    index: &AttributeIndex,
-) -> Result<u64, Starved>
+fn step_all<L: Ledger>(blank: Blank, alloc: Global, index: &AttributeIndex) -> Result<u64, Starved>
     requires name { blank.name ≡ L.name }
     requires parts { blank.parts ≡ L.parts }
     requires some { 0 < L.parts }

@@ -5,6 +5,7 @@
 //! is the same in each run.
 #![tactic(auto)]
 
+mod attributes;
 mod exchanges;
 mod leases;
 mod listings;
@@ -19,6 +20,7 @@ fn measured(rt: &HostRuntime) -> Result<(), Trouble> {
     exchanges::measured(rt)?;
     maps::measured(rt)?;
     leases::measured(rt)?;
+    attributes::measured(rt)?;
     registrations::measured(rt)?;
     listings::measured(rt)
 }
