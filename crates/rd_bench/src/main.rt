@@ -5,9 +5,11 @@
 //! is the same in each run.
 #![tactic(auto)]
 
+mod attributes;
 mod exchanges;
 mod leases;
 mod listings;
+mod maps;
 mod registrations;
 mod tables;
 
@@ -16,7 +18,9 @@ use tables::Trouble;
 /// Measures all calls, one after another.
 fn measured(rt: &HostRuntime) -> Result<(), Trouble> {
     exchanges::measured(rt)?;
+    maps::measured(rt)?;
     leases::measured(rt)?;
+    attributes::measured(rt)?;
     registrations::measured(rt)?;
     listings::measured(rt)
 }
