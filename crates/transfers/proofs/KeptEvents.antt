@@ -218,7 +218,7 @@ fewer f named name keep tests (suc n) (m ∷ ns) (x ∷ xs) pairs are =
         let whole : take (suc n) xs ≡ xs = take_whole (suc n) xs (let le = length-take_le (suc n) ns in let e = length-some f xs (take (suc n) ns) rest in omega (arith, le, e)) in
         let here : name ≡ m = same_names name m (tests m ∙ ap not k) in
         let all : filter keep ns ≡ ns = filter_all keep ns (each_weaker (Differ m) (λ y. keep y ≡ true)
-            (λ y d. not_true (keep y) (sym (tests y) ∙ subst (λ z. is_same_request z y ≡ false) (sym here) d)) ns pairs.0) in
+        (λ y d. not_true (keep y) (sym (tests y) ∙ subst (λ z. is_same_request z y ≡ false) (sym here) d)) ns pairs.0) in
         rw (same, all, whole) rest
       where
         not_true : (b : Bool) → not b ≡ false → b ≡ true
@@ -232,12 +232,12 @@ unfolding used
 used_stands name x e events xs called names here others stands = record {
   kept =
       ap₂ (λ y ys. y ∷ ys) (sym here)
-          (ap (λ (n : RequestName). map (λ y. Some y) (take 63 (without_first (is_kept_as n) xs))) called
-          ∙ (fewer (answer_of events) (λ m y h. (answer_of-shows events m y h).0) name keep tests 63 (names_used events) xs (names-differ events) stands.kept
-          ∙ map_same (answer_of events) (answer_of (e ∷ events)) (take 63 (filter keep (names_used events)))
-              (each_take (λ n. answer_of events n ≡ answer_of (e ∷ events) n) 63 (filter keep (names_used events))
-              (each_weaker (λ n. keep n ≡ true) (λ n. answer_of events n ≡ answer_of (e ∷ events) n)
-                  (λ n k. sym (others n (or_parts (is_same_request n name) false (not_false (is_same_request n name || false) k)).0)) (filter keep (names_used events)) (each_passes keep (names_used events))))))
+      (ap (λ (n : RequestName). map (λ y. Some y) (take 63 (without_first (is_kept_as n) xs))) called
+      ∙ (fewer (answer_of events) (λ m y h. (answer_of-shows events m y h).0) name keep tests 63 (names_used events) xs (names-differ events) stands.kept
+      ∙ map_same (answer_of events) (answer_of (e ∷ events)) (take 63 (filter keep (names_used events)))
+      (each_take (λ n. answer_of events n ≡ answer_of (e ∷ events) n) 63 (filter keep (names_used events))
+      (each_weaker (λ n. keep n ≡ true) (λ n. answer_of events n ≡ answer_of (e ∷ events) n)
+      (λ n k. sym (others n (or_parts (is_same_request n name) false (not_false (is_same_request n name || false) k)).0)) (filter keep (names_used events)) (each_passes keep (names_used events))))))
       ∙ ap (λ ns. map (answer_of (e ∷ events)) (take 64 ns)) (sym names);
 }
   where

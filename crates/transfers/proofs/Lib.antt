@@ -5,3 +5,6 @@ pub mod UploadLists
 pub mod UploadEvents
 pub mod KeptLists
 pub mod KeptEvents
+pub mod NumberLaws
+pub mod BlockLaws
+pub mod TransferLaws

@@ -114,7 +114,7 @@ none_collected name (e ∷ before) none =
         → collected_after name e.note (upload name before) ≡ None
     by true h more =
         collected_anew name e.note h (or_parts (list_any (is_same_request name) (filter keep (uploads before))) (list_any (is_same_request name) (begun_by e.note))
-            (sym (list_any-append (is_same_request name) (filter keep (uploads before)) (begun_by e.note)) ∙ none)).1 (upload name before)
+        (sym (list_any-append (is_same_request name) (filter keep (uploads before)) (begun_by e.note)) ∙ none)).1 (upload name before)
     by false h more =
         let kept_too : (n : RequestName) → is_same_request name n ≡ true → keep n ≡ true = λ n s. ap not (subst (λ m. starts_or_ends_upload e.note m ≡ false) (same_names name n s) h) in
         let was = more (passes_on (is_same_request name) keep kept_too (uploads before) (begun_by e.note) none).0 in
@@ -165,8 +165,8 @@ pub live_body-is : (now : ℕ) (name : RequestName) (events : List Event) (us : 
 unfolding live_body
 live_body-is now name events us stands =
     ap (option_map (λ (u : Upload). u.body))
-        (sym (find-filter (is_live_as now name) (λ (u : Upload). is_young now u.moment) (λ u h. (and_parts (is_of name u) (is_young now u.moment) h).1) us)
-        ∙ (ap (find (is_live_as now name)) stands.live ∙ found-upload now name events))
+    (sym (find-filter (is_live_as now name) (λ (u : Upload). is_young now u.moment) (λ u h. (and_parts (is_of name u) (is_young now u.moment) h).1) us)
+    ∙ (ap (find (is_live_as now name)) stands.live ∙ found-upload now name events))
     ∙ again (live_upload now name events)
   where
     again : (o : Option (List ℕ)) → option_map (λ (u : Upload). u.body) (option_map (λ octets. record { name = name; body = octets; moment = event_moment (last_event (is_piece_of name) events) }) o) ≡ o
@@ -216,7 +216,7 @@ upload_of-is : (now : ℕ) (events : List Event) (name : RequestName) → upload
 unfolding live_upload
 upload_of-is now events name =
     ap (λ live. option_map (λ octets. record { name = name; body = octets; moment = event_moment (last_event (is_piece_of name) events) })
-        (option_and_then (λ (octets : List ℕ). cond live (Some octets) None) (upload name events)))
+    (option_and_then (λ (octets : List ℕ). cond live (Some octets) None) (upload name events)))
     (live_is now name events (last_event (is_piece_of name) events) refl)
 
 abbrev if_young : ℕ → Upload → Option Upload
@@ -258,8 +258,8 @@ UploadsStandFor-later at now events us h stands = record {
       sym (young-later at now us h)
       ∙ (ap (young_uploads now) stands.live
       ∙ filter_found (λ (u : Upload). is_young now u.moment) (upload_of at events) (upload_of now events)
-          (λ name. ap (option_and_then (if_young now)) (upload_of-is at events name)
-              ∙ (later_one at now name (last_event (is_piece_of name) events) (upload name events) h ∙ sym (upload_of-is now events name))) (uploads events));
+      (λ name. ap (option_and_then (if_young now)) (upload_of-is at events name)
+      ∙ (later_one at now name (last_event (is_piece_of name) events) (upload name events) h ∙ sym (upload_of-is now events name))) (uploads events));
 }
 
 pub UploadsStandFor-aside : (at : ℕ) (e : Event) (events : List Event) (us : List Upload) → about_uploads e.note ≡ false → UploadsStandFor at events us → UploadsStandFor at (e ∷ events) us
@@ -381,7 +381,7 @@ uploads-differ (e ∷ before) = by e.note (uploads-differ before)
     pushed name ns h =
         pairs_push Differ (filter (λ m. not (is_same_request name m)) ns) name (pairs_filter Differ (λ m. not (is_same_request name m)) ns h)
         (each_weaker (λ m. not (is_same_request name m) ≡ true) (λ m. Differ m name) (λ m k. other_way name m (not_false (is_same_request name m) k)) (filter (λ m. not (is_same_request name m)) ns)
-            (each_passes (λ m. not (is_same_request name m)) ns))
+        (each_passes (λ m. not (is_same_request name m)) ns))
 
     kept : (keep : RequestName → Bool) (ns : List RequestName) → PairsByRecursion Differ ns → PairsByRecursion Differ (filter keep ns ++ [])
     kept keep ns h = subst (PairsByRecursion Differ) (sym (append-nil (filter keep ns))) (pairs_filter Differ keep ns h)
@@ -471,7 +471,7 @@ goes_on now place word peer key number octets events us body z there stands =
     ∙ (young-grown now name octets us
     ∙ (ap (grown_first (is_of name) octets now) stands.live
     ∙ (grown_shown name octets now (upload_of now events) f (λ n u h. (upload_of-shows now events n u h).0)
-        (λ n s. other_upload now e events n (piece_of_other peer key number octets n s) s) was shows.1 grown (uploads events) (uploads-differ events)
+    (λ n s. other_upload now e events n (piece_of_other peer key number octets n s) s) was shows.1 grown (uploads events) (uploads-differ events)
     ∙ rw z (ap (filter_map f) (sym (append-nil (filter (λ n. true) (uploads events)) ∙ filter_all (λ n. true) (uploads events) (each_one (λ n. true ≡ true) (λ n. refl) (uploads events))))))))
   where
     name : RequestName
@@ -507,7 +507,7 @@ ends at place moment word peer key events us stands =
     filter_swapped (λ (u : Upload). is_young at u.moment) (λ (u : Upload). not (is_of name u)) us
     ∙ (ap (without_upload name) stands.live
     ∙ (others_shown (λ u. not (is_of name u)) (λ n. not (is_same_request name n)) (upload_of at events) f (other_tests at events name)
-        (λ n k. let s = not_false (is_same_request name n) k in other_upload at e events n (end_of_other peer key n s) refl) (uploads events)
+    (λ n k. let s = not_false (is_same_request name n) k in other_upload at e events n (end_of_other peer key n s) refl) (uploads events)
     ∙ ap (filter_map f) (sym (append-nil (filter (λ n. not (is_same_request name n)) (uploads events))))))
   where
     name : RequestName

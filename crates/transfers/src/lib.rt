@@ -14,3 +14,6 @@ pub use kept::Kept;
 pub use named::{Answer, Answers};
 pub use readiness::Ready;
 pub use table::Transfers;
+
+#[cfg(test)]
+mod tests;
