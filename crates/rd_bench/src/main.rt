@@ -5,6 +5,7 @@
 //! is the same in each run.
 #![tactic(auto)]
 
+mod blocks;
 mod exchanges;
 mod leases;
 mod listings;
@@ -16,6 +17,7 @@ use tables::Trouble;
 /// Measures all calls, one after another.
 fn measured(rt: &HostRuntime) -> Result<(), Trouble> {
     exchanges::measured(rt)?;
+    blocks::measured(rt)?;
     leases::measured(rt)?;
     registrations::measured(rt)?;
     listings::measured(rt)

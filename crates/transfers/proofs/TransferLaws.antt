@@ -1,5 +1,5 @@
 -- What a table of transfers stands for, for who keeps it beside a journal: no event, later moments, and notes that are aside.
-use Rattle.std.proofs.Common.{◌≡◌, ℕ, ◌≤◌, ◌==◌, Bool, true, false, ◌||◌, cond, List, [], ◌∷◌, length, filter, Option, Some, None, option_map, refl, sym, ap, subst, ◌∙◌}
+use Rattle.std.proofs.Common.{◌≡◌, ◌≢◌, ℕ, ◌≤◌, ◌==◌, Bool, true, false, ◌||◌, cond, List, [], ◌∷◌, length, filter, Option, Some, None, option_map, refl, sym, ap, subst, ◌∙◌}
 use Rattle.std.specs.List.{list_any}
 use Rattle.rd_base.specs.declared.peers.Peer.{Peer}
 use Rattle.message_model.specs.declared.blocks.Block.{Block}
@@ -10,6 +10,7 @@ use Rattle.event_model.specs.Uploads.{Upload}
 use Rattle.event_model.specs.KeptAnswers.{KeptAnswer}
 use Rattle.event_model.proofs.AsideLaws.{notes_aside}
 use Rattle.event_model.proofs.AsideTables.{about_uploads, about_answers}
+use Rattle.transfers.specs.declared.collecting.Upload.{Upload as BlockAnswer}
 use Rattle.transfers.specs.declared.collecting.Upload.TheVariants as answer
 use Rattle.transfers.specs.Uploading.{live_body, young_uploads, taken}
 use Rattle.transfers.specs.BlockAnswers.{answer_to}
@@ -71,3 +72,7 @@ UploadsStandFor-taken at now peer key b piece e events us h more is moment stand
     by false z =
         let lives = more_lives b piece (live_body now (peer, key) us) (length (young_uploads now us)) z more in
         rw z (UploadsStandFor-gone_on now peer key b.num piece e events us lives.0 is moment z (sym (live_body-is now (peer, key) events us later) ∙ lives.1) later)
+
+-- a block that is collected is not answered by want of memory
+pub more-not_starved : (a : BlockAnswer) → a ≡ answer.More → a ≢ answer.Starved
+more-not_starved a more starved = absurd (let same : answer.More ≡ answer.Starved = sym more ∙ starved in cc)
