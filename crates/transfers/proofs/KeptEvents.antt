@@ -23,7 +23,7 @@ use Rattle.transfers.proofs.KeptLists.{take_whole, length-take_le, length-withou
 same_names : (name other : RequestName) → is_same_request name other ≡ true → name ≡ other
 same_names name other e = (is_same_request-Decides name other).0 e
 
-other_way : (name other : RequestName) → is_same_request name other ≡ false → is_same_request other name ≡ false
+pub other_way : (name other : RequestName) → is_same_request name other ≡ false → is_same_request other name ≡ false
 other_way name other e = by (is_same_request other name) refl
   where
     by : (b : Bool) → is_same_request other name ≡ b → is_same_request other name ≡ false
@@ -42,7 +42,7 @@ AnswersStandFor-none = record { kept = refl }
 
 -- ---- the names that were used
 
-abbrev Differ : RequestName → RequestName → Type 0
+abbrev pub Differ : RequestName → RequestName → Type 0
 Differ name other = is_same_request name other ≡ false
 
 -- no two of them are the same
@@ -100,17 +100,17 @@ found_among name events (n ∷ ns) (x ∷ xs) are =
         rw other more
 
 -- the last use of a name, whether it is young
-abbrev young_event : ℕ → Option Event → Bool
+abbrev pub young_event : ℕ → Option Event → Bool
 young_event now None = false
 young_event now (Some e) = is_young now e.moment
 
-live_is : (now : ℕ) (name : RequestName) (events : List Event) (o : Option Event) → last_event (is_use_of name) events ≡ o
+pub live_is : (now : ℕ) (name : RequestName) (events : List Event) (o : Option Event) → last_event (is_use_of name) events ≡ o
     → is_live_answer now name events ≡ (is_named_among (take max_answers (names_used events)) name && young_event now o)
 live_is now name events None e = rw e refl
 live_is now name events (Some x) e = rw e refl
 
 -- a name under which an answer was kept was used
-kept_used : (name : RequestName) (events : List Event) (a : Answer) → last_said (answer_kept name) events ≡ Some a → last_event (is_use_of name) events ≡ None → ⊥
+pub kept_used : (name : RequestName) (events : List Event) (a : Answer) → last_said (answer_kept name) events ≡ Some a → last_event (is_use_of name) events ≡ None → ⊥
 unfolding last_said
 kept_used name [] a said none = none_some said
 kept_used name (e ∷ before) a said none = by e.note refl said none (kept_used name before a)

@@ -1,5 +1,5 @@
 -- Laws of the kept answers of a table.
-use Rattle.std.proofs.Common.{◌≡◌, ℕ, ◌+◌, ◌<◌, ◌≤◌, zero, suc, Bool, true, false, cond, List, [], ◌∷◌, ◌++◌, length, map, take, find, Option, Some, None, option_map, option_and_then, refl, sym, ap, ◌∙◌, arith}
+use Rattle.std.proofs.Common.{◌≡◌, ℕ, ◌+◌, ◌<◌, ◌≤◌, zero, suc, Bool, true, false, cond, List, [], ◌∷◌, ◌++◌, length, map, take, find, Option, Some, None, option_map, option_and_then, is_some, refl, sym, ap, ◌∙◌, arith}
 use Rattle.std.specs.List.{AllByRecursion}
 use Rattle.std.proofs.lemmas.Bool.{false≢true}
 use Rattle.rd_base.proofs.lemmas.Options.{none_some, some_same}
@@ -39,3 +39,12 @@ without-none test (y ∷ ys) none = by (test y) none (without-none test ys)
     by : (b : Bool) → cond b (Some y) (find test ys) ≡ None → (find test ys ≡ None → without_first test ys ≡ ys) → cond b ys (y ∷ without_first test ys) ≡ y ∷ ys
     by true h more = absurd (none_some (sym h))
     by false h more = ap (λ zs. y ∷ zs) (more h)
+
+-- whether there is one
+pub is_none : {A : Type 0} (o : Option A) → false ≡ is_some o → o ≡ None
+is_none None h = refl
+is_none (Some x) h = absurd (false≢true h)
+
+pub is_present : {A : Type 0} (o : Option A) → true ≡ is_some o → (x : A) × (o ≡ Some x)
+is_present None h = absurd (false≢true (sym h))
+is_present (Some x) h = (x, refl)

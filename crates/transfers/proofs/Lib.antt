@@ -7,4 +7,5 @@ pub mod KeptLists
 pub mod KeptEvents
 pub mod NumberLaws
 pub mod BlockLaws
+pub mod KeptShown
 pub mod TransferLaws

@@ -1,5 +1,5 @@
 -- The kept answers of a cache by their numbers: the number that is found under a name, and what is put under one.
-use Rattle.std.proofs.Common.{◌≡◌, ℕ, ◌+◌, ◌-◌, ◌<◌, ◌≤◌, zero, suc, nat_eq, Bool, true, false, cond, List, [], ◌∷◌, ◌++◌, length, map, take, find, Option, Some, None, option_map, unwrap_or, refl, sym, ap, subst, ◌∙◌, arith}
+use Rattle.std.proofs.Common.{◌≡◌, ℕ, ◌+◌, ◌-◌, ◌<◌, ◌≤◌, zero, suc, nat_eq, Bool, true, false, cond, List, [], ◌∷◌, ◌++◌, length, map, take, find, Option, Some, None, option_map, option_and_then, is_some, unwrap_or, not, refl, sym, ap, subst, ◌∙◌, arith}
 use Rattle.std.specs.List.{AllByRecursion, IsDistinct}
 use Rattle.std.specs.Option.{option_map_or}
 use Rattle.std.specs.Map.{keys_of, lookup, lookup_entry, remove_entry}
@@ -7,11 +7,13 @@ use Rattle.std.proofs.lemmas.Bool.{false≢true}
 use Rattle.rd_base.proofs.lemmas.Options.{none_some, some_same}
 use Rattle.rd_base.proofs.lemmas.Numbers.{eqb-refl}
 use Rattle.rd_base.proofs.lemmas.Each.{each_weaker}
-use Rattle.lru.specs.LruCache.{LruCache, IsValid, put_entries}
+use Rattle.std.specs.Map.{set_value}
+use Rattle.lru.specs.LruCache.{LruCache, promoted, put_entries}
+use Rattle.event_model.specs.Events.{is_young}
 use Rattle.event_model.specs.Same.{RequestName, is_same_request}
 use Rattle.event_model.specs.KeptAnswers.{max_answers, KeptAnswer}
 use Rattle.event_model.proofs.SameLaws.{is_same_request-Decides}
-use Rattle.transfers.specs.Keeping.{is_kept_as, without_first, used, used_at, values, AreBelow}
+use Rattle.transfers.specs.Keeping.{is_kept_as, without_first, used, used_at, values, AreBelow, live_kept, after_reading, number_for}
 use Rattle.transfers.proofs.KeptLists.{take_whole, length-without, without-none}
 
 -- pairs of numbers and answers
@@ -108,10 +110,6 @@ values-used now name pairs p distinct few there = put_first name pairs p (used_a
 
 -- ---- an answer that is put
 
--- the number that a name finds, and else a new one
-abbrev pub number_for : RequestName → ℕ → Pairs → ℕ
-number_for name number pairs = unwrap_or (option_map (λ (p : ℕ × KeptAnswer). p.0) (find (λ p. is_kept_as name p.1) pairs)) number
-
 below_more : (number : ℕ) (pairs : Pairs) → AreBelow number pairs → AreBelow (number + 1) pairs
 below_more number pairs below = each_weaker (λ (p : ℕ × KeptAnswer). p.0 < number) (λ (p : ℕ × KeptAnswer). p.0 < number + 1) (λ p lt. omega (arith, lt)) pairs below
 
@@ -145,9 +143,9 @@ new_first : (kept : KeptAnswer) (pairs : Pairs) → find (is_kept_as kept.name) 
 unfolding used
 new_first kept pairs none = ap (λ xs. kept ∷ xs) (values-take 63 pairs ∙ ap (take 63) (sym (without-none (is_kept_as kept.name) (values pairs) none)))
 
-pub keep-values : (c : LruCache ℕ KeptAnswer) (number : ℕ) (kept : KeptAnswer) → IsValid nat_eq c → c.cap ≡ 64 → AreBelow number c.entries
+pub keep-values : (c : LruCache ℕ KeptAnswer) (number : ℕ) (kept : KeptAnswer) → IsDistinct nat_eq (keys_of c.entries) → length c.entries ≤ c.cap → c.cap ≡ 64 → AreBelow number c.entries
     → values (put_entries nat_eq c (number_for kept.name number c.entries) kept) ≡ used kept (values c.entries)
-keep-values c number kept valid room below = by (find (λ p. is_kept_as kept.name p.1) c.entries) refl
+keep-values c number kept distinct few room below = by (find (λ p. is_kept_as kept.name p.1) c.entries) refl
   where
     by : (o : Option (ℕ × KeptAnswer)) → find (λ p. is_kept_as kept.name p.1) c.entries ≡ o → values (put_entries nat_eq c (number_for kept.name number c.entries) kept) ≡ used kept (values c.entries)
     by None none =
@@ -155,13 +153,12 @@ keep-values c number kept valid room below = by (find (λ p. is_kept_as kept.nam
         rw none (ap values (after c number kept None (absent number c.entries below))
         ∙ (ap (λ n. kept ∷ values (take (n - 1) c.entries)) room ∙ new_first kept c.entries none_too))
     by (Some p) there =
-        let few = valid.1 in
         let at_most : length c.entries ≤ 64 = omega (arith, few, room) in
-        rw there (ap values (after c p.0 kept (Some p) (found_entry (is_kept_as kept.name) c.entries p valid.0 there).0) ∙ put_first kept.name c.entries p kept valid.0 at_most there refl)
+        rw there (ap values (after c p.0 kept (Some p) (found_entry (is_kept_as kept.name) c.entries p distinct there).0) ∙ put_first kept.name c.entries p kept distinct at_most there refl)
 
-pub keep-numbers : (c : LruCache ℕ KeptAnswer) (number : ℕ) (kept : KeptAnswer) → IsValid nat_eq c → AreBelow number c.entries
+pub keep-numbers : (c : LruCache ℕ KeptAnswer) (number : ℕ) (kept : KeptAnswer) → IsDistinct nat_eq (keys_of c.entries) → AreBelow number c.entries
     → AreBelow (number + 1) (put_entries nat_eq c (number_for kept.name number c.entries) kept)
-keep-numbers c number kept valid below = by (find (λ p. is_kept_as kept.name p.1) c.entries) refl
+keep-numbers c number kept distinct below = by (find (λ p. is_kept_as kept.name p.1) c.entries) refl
   where
     by : (o : Option (ℕ × KeptAnswer)) → find (λ p. is_kept_as kept.name p.1) c.entries ≡ o → AreBelow (number + 1) (put_entries nat_eq c (number_for kept.name number c.entries) kept)
     by None none =
@@ -169,5 +166,47 @@ keep-numbers c number kept valid below = by (find (λ p. is_kept_as kept.name p.
         (omega arith, below_more number (take (c.cap - 1) c.entries) (below_take number (c.cap - 1) c.entries below)))
     by (Some p) there =
         let lt = below_found number (is_kept_as kept.name) c.entries p below there in
-        rw there (subst (AreBelow (number + 1)) (sym (after c p.0 kept (Some p) (found_entry (is_kept_as kept.name) c.entries p valid.0 there).0))
+        rw there (subst (AreBelow (number + 1)) (sym (after c p.0 kept (Some p) (found_entry (is_kept_as kept.name) c.entries p distinct there).0))
         (omega (arith, lt), below_more number (remove_entry (nat_eq p.0) c.entries) (below_removed number (nat_eq p.0) c.entries below)))
+
+-- ---- a read
+
+live-found : (now : ℕ) (name : RequestName) (pairs : Pairs) (o : Option (ℕ × KeptAnswer)) → find (λ p. is_kept_as name p.1) pairs ≡ o
+    → live_kept now name (values pairs) ≡ option_and_then (λ (x : KeptAnswer). cond (is_young now x.moment) (Some x) None) (option_map (λ (p : ℕ × KeptAnswer). p.1) o)
+unfolding live_kept
+live-found now name pairs o is =
+    ap (option_and_then (λ (x : KeptAnswer). cond (is_young now x.moment) (Some x) None)) (find-values (is_kept_as name) pairs ∙ ap (option_map (λ (p : ℕ × KeptAnswer). p.1)) is)
+
+pub live-none : (now : ℕ) (name : RequestName) (pairs : Pairs) → find (λ p. is_kept_as name p.1) pairs ≡ None → live_kept now name (values pairs) ≡ None
+live-none now name pairs none = live-found now name pairs None none
+
+pub live-old : (now : ℕ) (name : RequestName) (pairs : Pairs) (p : ℕ × KeptAnswer) → find (λ q. is_kept_as name q.1) pairs ≡ Some p → is_young now p.1.moment ≡ false → live_kept now name (values pairs) ≡ None
+live-old now name pairs p there old = live-found now name pairs (Some p) there ∙ rw old refl
+
+pub live-young : (now : ℕ) (name : RequestName) (pairs : Pairs) (p : ℕ × KeptAnswer) → find (λ q. is_kept_as name q.1) pairs ≡ Some p → is_young now p.1.moment ≡ true → live_kept now name (values pairs) ≡ Some p.1
+live-young now name pairs p there young = live-found now name pairs (Some p) there ∙ rw young refl
+
+-- the entry of a number
+pub lookup-found : (test : ℕ → Bool) (pairs : Pairs) (p : ℕ × KeptAnswer) → lookup_entry test pairs ≡ Some p → lookup test pairs ≡ Some p.1
+lookup-found test [] p there = absurd (none_some there)
+lookup-found test (q ∷ qs) p there = by (test q.0) there (lookup-found test qs p)
+  where
+    by : (b : Bool) → cond b (Some q) (lookup_entry test qs) ≡ Some p → (lookup_entry test qs ≡ Some p → lookup test qs ≡ Some p.1) → cond b (Some q.1) (lookup test qs) ≡ Some p.1
+    by true h more = ap (λ (r : ℕ × KeptAnswer). Some r.1) (some_same h)
+    by false h more = more h
+
+passes : (test : ℕ → Bool) (pairs : Pairs) (p : ℕ × KeptAnswer) → lookup_entry test pairs ≡ Some p → test p.0 ≡ true
+passes test [] p there = absurd (none_some there)
+passes test (q ∷ qs) p there = by (test q.0) refl there (passes test qs p)
+  where
+    by : (b : Bool) → test q.0 ≡ b → cond b (Some q) (lookup_entry test qs) ≡ Some p → (lookup_entry test qs ≡ Some p → test p.0 ≡ true) → test p.0 ≡ true
+    by true t h more = subst (λ (r : ℕ × KeptAnswer). test r.0 ≡ true) (some_same h) t
+    by false t h more = more h
+
+-- once it was put first it is changed there
+pub set-promoted : (test : ℕ → Bool) (pairs : Pairs) (p : ℕ × KeptAnswer) (x : KeptAnswer) → lookup_entry test pairs ≡ Some p → set_value test (promoted test pairs) x ≡ (p.0, x) ∷ remove_entry test pairs
+set-promoted test pairs p x there = rw (there, passes test pairs p there) refl
+
+-- what stands first under a number is found under it
+pub lookup-first : (number : ℕ) (x : KeptAnswer) (pairs : Pairs) → lookup (nat_eq number) ((number, x) ∷ pairs) ≡ Some x
+lookup-first number x pairs = rw (eqb-refl number) refl

@@ -6,7 +6,7 @@ use Rattle.message_model.specs.declared.blocks.Block.{Block}
 use Rattle.event_model.specs.declared.notes.Note.{Note}
 use Rattle.event_model.specs.declared.notes.Note.TheVariants as note
 use Rattle.event_model.specs.Events.{Event, noted}
-use Rattle.event_model.specs.Uploads.{Upload}
+use Rattle.event_model.specs.Uploads.{Upload, live_upload}
 use Rattle.event_model.specs.KeptAnswers.{KeptAnswer}
 use Rattle.event_model.proofs.AsideLaws.{notes_aside}
 use Rattle.event_model.proofs.AsideTables.{about_uploads, about_answers}
@@ -56,7 +56,7 @@ unfolding block_answer
 answer-is at now peer key b piece events us h stands =
     let later = UploadsStandFor-later at now events us h stands in
     ap (λ body. answer_to b piece body (length (young_uploads now us))) (live_body-is now (peer, key) events us later)
-    ∙ ap (λ count. answer_to b piece _ count) (count-is now events us later)
+    ∙ ap (λ count. answer_to b piece (live_upload now (peer, key) events) count) (count-is now events us later)
 
 -- where it is collected, the uploads stand for its note too
 pub UploadsStandFor-taken : (at now : ℕ) (peer : Peer) (key : List ℕ) (b : Block) (piece : List ℕ) (e : Event) (events : List Event) (us : List Upload) → at ≤ now

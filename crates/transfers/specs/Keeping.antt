@@ -1,5 +1,5 @@
 -- The kept answers of a table, that of the latest use first: which is found, and what keeping and reading change (RFC 7959 section 2.4).
-use Rattle.std.specs.Prelude.{ℕ, ◌<◌, Bool, List, [], ◌∷◌, take, find, map, Option, Some, None, option_and_then, if◌then◌else◌}
+use Rattle.std.specs.Prelude.{ℕ, ◌<◌, Bool, List, [], ◌∷◌, take, find, map, Option, Some, None, option_map, option_and_then, unwrap_or, if◌then◌else◌}
 use Rattle.std.specs.List.{AllByRecursion}
 use Rattle.event_model.specs.Same.{RequestName, is_same_request}
 use Rattle.event_model.specs.Events.{is_young}
@@ -52,3 +52,7 @@ values pairs = map (λ p. p.1) pairs
 -- the keys of the pairs of a cache are below a number
 abbrev pub AreBelow : {V : Type 0} → ℕ → List (ℕ × V) → Type 0
 AreBelow number pairs = AllByRecursion (λ p. p.0 < number) pairs
+
+-- the number of the answer that is kept under a name, and else another
+abbrev pub number_for : RequestName → ℕ → List (ℕ × KeptAnswer) → ℕ
+number_for name number pairs = unwrap_or (option_map (λ p. p.0) (find (λ p. is_kept_as name p.1) pairs)) number

@@ -1,10 +1,10 @@
 //! The cache of kept answers, that of the latest use first. Its keys are numbers, so that an answer is found by its name without memory.
 ghost use Rattle.std.specs.Prelude.{◌≡◌, ℕ, ◌+◌, ◌<◌, ◌≤◌, [], ◌∷◌, List, find, length, option_map, option_and_then, is_some, nat_eq, Some, None, IfOk, OnOk, OnErr};
-ghost use Rattle.std.specs.List.{AllByRecursion};
-ghost use Rattle.std.specs.Map.{lookup, lookup_entry, remove_entry};
+ghost use Rattle.std.specs.List.{IsDistinct};
+ghost use Rattle.std.specs.Map.{keys_of, lookup, lookup_entry, remove_entry};
 ghost use Rattle.lru.specs.LruCache.{lru_cache};
 ghost use Rattle.event_model.specs.KeptAnswers.{max_answers, KeptAnswer};
-ghost use Rattle.transfers.specs.Keeping.{is_kept_as, live_kept, used, used_at, kept_each, values, after_reading, AreBelow};
+ghost use Rattle.transfers.specs.Keeping.{is_kept_as, live_kept, used, used_at, kept_each, values, after_reading, AreBelow, number_for};
 
 use crate::{Answers, Kept};
 use lru::LruCache;
@@ -43,6 +43,24 @@ fn entry_of<'a>(cache: &'a Cache, peer: Peer, key: &Key) -> Option<(u64, &'a Kep
     None
 }
 
+/// No number stands twice, and no more answers are kept than have room: this is known of each cache.
+fn known(cache: &Cache)
+    ensures distinct { IsDistinct nat_eq (keys_of cache.now.entries) }
+    ensures few { length cache.now.entries ≤ cache.now.cap }
+{
+    let _ = cache.len();
+}
+
+/// The number under which an answer is put: that of the answer that is kept under its name, and else a new one.
+fn number_for(cache: &Cache, kept: &Kept, number: u64) -> u64
+    ensures { result ≡ number_for kept.now.name number cache.now.entries }
+{
+    match entry_of(cache, kept.peer(), kept.key()) {
+        Some((found, _)) => found,
+        None => number,
+    }
+}
+
 /// Puts the answer with a number first, as used now.
 fn use_again(cache: &mut Cache, number: u64, now: Moment)
     ensures used { (p : ℕ × KeptAnswer) → lookup_entry (nat_eq number) cache.old.entries ≡ Some p → cache.new ≡ lru_cache ((p.0, used_at now.0 p.1) ∷ remove_entry (nat_eq number) cache.old.entries) cache.old.cap }
@@ -55,11 +73,13 @@ fn use_again(cache: &mut Cache, number: u64, now: Moment)
 
 /// The number of the answer of this peer and request key, where it is kept and lives. It is used then; where there is none all is as before.
 pub(crate) fn read(cache: &mut Cache, now: Moment, peer: Peer, key: &Key) -> Option<u64>
+    requires { cache.old.cap ≡ max_answers }
     ensures found { is_some result ≡ is_some (live_kept now.0 (peer, key.now) (values cache.old.entries)) }
     ensures value { option_and_then (λ n. lookup (nat_eq n) cache.new.entries) result ≡ option_map (used_at now.0) (live_kept now.0 (peer, key.now) (values cache.old.entries)) }
     ensures answers { values cache.new.entries ≡ after_reading now.0 (live_kept now.0 (peer, key.now) (values cache.old.entries)) (values cache.old.entries) }
     ensures room { cache.new.cap ≡ cache.old.cap }
 {
+    known(cache);
     let Some((number, kept)) = entry_of(cache, peer, key) else {
         return None;
     };
@@ -78,8 +98,9 @@ fn keep(cache: &mut Cache, number: u64, kept: Kept) -> Result<(), Starved>
     ensures numbers { OnOk result (AreBelow (number + 1) cache.new.entries) }
     ensures room { cache.new.cap ≡ cache.old.cap }
 {
-    let found = entry_of(cache, kept.peer(), kept.key()).map(|(number, _)| number);
-    cache.put(found.unwrap_or(number), kept)?;
+    known(cache);
+    let found = number_for(cache, &kept, number);
+    cache.put(found, kept)?;
     Ok(())
 }
 
@@ -108,7 +129,7 @@ fn copied(alloc: Global, cache: &Cache) -> Result<Cache, Starved>
 {
     let mut copy = empty(alloc)?;
     let mut number = 0;
-    let _ = cache.len();
+    known(cache);
     let mut left = cache.iter();
     'last: while let Some((_, kept)) = left.next_back() {
         copy.put(number, kept.share()?)?;
