@@ -48,3 +48,13 @@ is_none (Some x) h = absurd (false≢true h)
 pub is_present : {A : Type 0} (o : Option A) → true ≡ is_some o → (x : A) × (o ≡ Some x)
 is_present None h = absurd (false≢true (sym h))
 is_present (Some x) h = (x, refl)
+
+-- answers that are kept one after the other
+pub kept_each-next : (now : ℕ) (a : NamedAnswer) (more : List NamedAnswer) (xs : List KeptAnswer) → kept_each now (a ∷ more) xs ≡ kept_each now more (used (kept_at now a) xs)
+unfolding kept_each
+kept_each-next now a more xs = refl
+
+pub none_left : (now : ℕ) (more : List NamedAnswer) (xs : List KeptAnswer) → length more ≡ 0 → xs ≡ kept_each now more xs
+unfolding kept_each
+none_left now [] xs none = refl
+none_left now (a ∷ more) xs none = absurd (omega (arith, none))

@@ -210,3 +210,30 @@ set-promoted test pairs p x there = rw (there, passes test pairs p there) refl
 -- what stands first under a number is found under it
 pub lookup-first : (number : ℕ) (x : KeptAnswer) (pairs : Pairs) → lookup (nat_eq number) ((number, x) ∷ pairs) ≡ Some x
 lookup-first number x pairs = rw (eqb-refl number) refl
+
+-- ---- a copy
+
+pub below-later : (m n : ℕ) (pairs : Pairs) → m ≤ n → AreBelow m pairs → AreBelow n pairs
+below-later m n pairs h below = each_weaker (λ (p : ℕ × KeptAnswer). p.0 < m) (λ (p : ℕ × KeptAnswer). p.0 < n) (λ p lt. omega (arith, lt, h)) pairs below
+
+-- what is put under a new number stands before the others, where there is room
+pub put-new : (c : LruCache ℕ KeptAnswer) (number : ℕ) (x : KeptAnswer) → AreBelow number c.entries → c.cap ≡ 64 → length c.entries < 64 → put_entries nat_eq c number x ≡ (number, x) ∷ c.entries
+put-new c number x below room few =
+    after c number x None (absent number c.entries below)
+    ∙ (ap (λ n. (number, x) ∷ take (n - 1) c.entries) room
+    ∙ ap (λ ps. (number, x) ∷ ps) (take_whole 63 c.entries (omega (arith, few))))
+
+-- the last of what is left goes before what was copied
+pub moved-last : (left rest copy : Pairs) (p : ℕ × KeptAnswer) → left ≡ rest ++ p ∷ [] → values left ++ values copy ≡ values rest ++ (p.1 ∷ values copy)
+moved-last left rest copy p is = ap (λ ps. values ps ++ values copy) is ∙ by rest
+  where
+    by : (ps : Pairs) → values (ps ++ p ∷ []) ++ values copy ≡ values ps ++ (p.1 ∷ values copy)
+    by [] = refl
+    by (q ∷ qs) = ap (λ xs. q.1 ∷ xs) (by qs)
+
+pub length-last : (left rest : Pairs) (p : ℕ × KeptAnswer) → left ≡ rest ++ p ∷ [] → length left ≡ length rest + 1
+length-last left rest p is = ap length is ∙ by rest
+  where
+    by : (ps : Pairs) → length (ps ++ p ∷ []) ≡ length ps + 1
+    by [] = refl
+    by (q ∷ qs) = let more = by qs in omega (arith, more)
