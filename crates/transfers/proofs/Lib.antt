@@ -9,3 +9,4 @@ pub mod NumberLaws
 pub mod BlockLaws
 pub mod KeptShown
 pub mod TransferLaws
+mod examples
