@@ -11,7 +11,7 @@ use transfers::{Answer, Answers, Transfers, Upload};
 const BLOCKS: [(u8, u64, u32); 2] = [(6, 1_024, 7), (0, 16, 511)];
 
 /// How many octets a kept body has.
-const BODIES: [u64; 2] = [1_025, 1_048_576];
+const BODIES: [u64; 2] = [1_025, 1_048_575];
 
 /// How many uploads a round makes.
 const UPLOADS: u64 = 100;
@@ -51,9 +51,14 @@ fn uploaded(
     'blocks: for num in 0..=last {
         let more = num < last;
         let block = Block { num, more, szx };
-        if let Upload::Whole(body) =
-            table.upload(alloc, Moment(1_000), peer_at(1), key, &block, piece)
-        {
+        if let Upload::Whole(body) = table.upload(
+            alloc,
+            Moment(1_000),
+            peer_at(1),
+            key,
+            &block,
+            piece,
+        ) {
             whole = body.len() as u64;
         }
     }

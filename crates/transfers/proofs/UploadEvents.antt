@@ -467,12 +467,11 @@ goes_on : (now place word : ℕ) (peer : Peer) (key : List ℕ) (number : ℕ) (
     → young_uploads now (gone_on now (peer, key) octets us) ≡ uploads_at now (event_at place now word (note.Piece peer key number octets) ∷ events)
 unfolding gone_on uploads_at uploads
 goes_on now place word peer key number octets events us body z there stands =
-    filter_stronger (λ (u : Upload). is_young now u.moment) (λ (u : Upload). is_young now u.moment) (λ u y. y) (grown_first (is_live_as now name) octets now us)
-    ∙ (young-grown now name octets us
+    young-grown now name octets us
     ∙ (ap (grown_first (is_of name) octets now) stands.live
     ∙ (grown_shown name octets now (upload_of now events) f (λ n u h. (upload_of-shows now events n u h).0)
     (λ n s. other_upload now e events n (piece_of_other peer key number octets n s) s) was shows.1 grown (uploads events) (uploads-differ events)
-    ∙ rw z (ap (filter_map f) (sym (append-nil (filter (λ n. true) (uploads events)) ∙ filter_all (λ n. true) (uploads events) (each_one (λ n. true ≡ true) (λ n. refl) (uploads events))))))))
+    ∙ rw z (ap (filter_map f) (sym (append-nil (filter (λ n. true) (uploads events)) ∙ filter_all (λ n. true) (uploads events) (each_one (λ n. true ≡ true) (λ n. refl) (uploads events)))))))
   where
     name : RequestName
     name = (peer, key)

@@ -117,15 +117,9 @@ pub length-taken : (b : Block) (now : ℕ) (name : RequestName) (octets : List �
 unfolding begun gone_on
 length-taken b now name octets us few room = by (b.num == 0)
   where
-    grown : List Upload
-    grown = grown_first (is_live_as now name) octets now us
-
-    by : (first : Bool) → length (cond first (other_uploads now name us ++ first_block name octets now ∷ []) (young_uploads now grown)) ≤ 64
+    by : (first : Bool) → length (cond first (other_uploads now name us ++ first_block name octets now ∷ []) (grown_first (is_live_as now name) octets now us)) ≤ 64
     by true = let sum = length-append (other_uploads now name us) (first_block name octets now ∷ []) in omega (arith, sum, room)
-    by false =
-        let le = length-filter-le (λ (u : Upload). is_young now u.moment) grown in
-        let same = length-grown (is_live_as now name) octets now us in
-        omega (arith, le, same, few)
+    by false = let same = length-grown (is_live_as now name) octets now us in omega (arith, same, few)
 
 pub length-without : (name : RequestName) (us : List Upload) → length (without_upload name us) ≤ length us
 length-without name us = length-filter-le (λ (u : Upload). not (is_of name u)) us

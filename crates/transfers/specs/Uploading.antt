@@ -42,14 +42,14 @@ unfoldable pub grown_first : (Upload → Bool) → List ℕ → ℕ → List Upl
 grown_first test octets now [] = []
 grown_first test octets now (u ∷ us) = if test u then with_block octets now u ∷ us else u ∷ grown_first test octets now us
 
--- the uploads that live after the upload of a name begins anew
+-- the uploads after that of a name begins anew: of the others those that live
 unfoldable pub begun : ℕ → RequestName → List ℕ → List Upload → List Upload
 begun now name octets us = other_uploads now name us ++ first_block name octets now ∷ []
 
--- the uploads that live after that of a name goes on
+-- the uploads after that of a name goes on
 unfoldable pub gone_on : ℕ → RequestName → List ℕ → List Upload → List Upload
-gone_on now name octets us = young_uploads now (grown_first (is_live_as now name) octets now us)
+gone_on now name octets us = grown_first (is_live_as now name) octets now us
 
--- the uploads that live after a block was collected
+-- the uploads after a block was collected
 abbrev pub taken : Block → ℕ → RequestName → List ℕ → List Upload → List Upload
 taken b now name octets us = if b.num == 0 then begun now name octets us else gone_on now name octets us

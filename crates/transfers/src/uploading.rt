@@ -82,10 +82,15 @@ fn collected<'a>(body: Option<&'a [u8]>, block: &Block) -> Option<&'a [u8]>
 }
 
 /// Whether a block begins an upload that more blocks follow, and as many others live as may.
-fn is_one_too_many(block: &Block, body: Option<&[u8]>, live: usize) -> bool
-    ensures { result ≡ is_one_too_many block.now (option_map (λ s. s.now) body.entry) live }
+fn is_one_too_many(
+    uploads: &Vec<Collected>,
+    now: Moment,
+    block: &Block,
+    body: Option<&[u8]>,
+) -> bool
+    ensures { result ≡ is_one_too_many block.now (option_map (λ s. s.now) body.entry) (length (young_uploads now.0 uploads.now.items)) }
 {
-    block.num == 0 && block.more && body.is_none() && MAX_UPLOADS <= live
+    block.num == 0 && block.more && body.is_none() && MAX_UPLOADS <= count_live(uploads, now)
 }
 
 /// What is collected with the last block. `Starved`: out of memory.
@@ -104,14 +109,6 @@ fn keep_others(uploads: &mut Vec<Collected>, now: Moment, peer: Peer, key: &Key)
     ensures capacity { vec_capacity uploads.new ≡ vec_capacity uploads.old }
 {
     uploads.retain(|upload| upload.is_young(now) && !upload.is_of(peer, key));
-}
-
-/// Keeps of the uploads those that live.
-fn keep_young(uploads: &mut Vec<Collected>, now: Moment)
-    ensures items { uploads.new.items ≡ young_uploads now.0 uploads.old.items }
-    ensures capacity { vec_capacity uploads.new ≡ vec_capacity uploads.old }
-{
-    uploads.retain(|upload| upload.is_young(now));
 }
 
 /// Drops the upload of this peer and request key.
@@ -143,7 +140,7 @@ fn begin(
     Ok(())
 }
 
-/// Goes on with the upload at an index, which lives. `Starved`: out of memory, and all is as before.
+/// Goes on with the upload of this peer and request key, where it lives. `Starved`: out of memory, and all is as before.
 fn go_on(
     uploads: &mut Vec<Collected>,
     now: Moment,
@@ -155,10 +152,10 @@ fn go_on(
     ensures err { OnErr result (uploads.new.items ≡ uploads.old.items) }
     ensures capacity { vec_capacity uploads.new ≡ vec_capacity uploads.old }
 {
-    if let Some(index) = live_index(uploads, now, peer, key) {
-        uploads[index].go_on(now, piece)?;
-    }
-    keep_young(uploads, now);
+    let Some(index) = live_index(uploads, now, peer, key) else {
+        return Ok(());
+    };
+    uploads[index].go_on(now, piece)?;
     Ok(())
 }
 
@@ -183,10 +180,17 @@ fn take(
     go_on(uploads, now, peer, key, piece)
 }
 
-/// How a block is answered, by what is collected of the upload and by how many uploads live; a last block is joined to what is collected.
+/// How a block is answered, by what is collected of its upload and by how many uploads live; a last block is joined to what is collected.
 #[tactic(auto, unfolding(crate::specs::BlockAnswers::answer_to))]
-fn judge(alloc: Global, block: &Block, piece: &[u8], body: Option<&[u8]>, live: usize) -> Upload
-    ensures { result ≢ Upload.Starved → result ≡ answer_to block.now piece.now (option_map (λ s. s.now) body.entry) live }
+fn judge(
+    uploads: &Vec<Collected>,
+    alloc: Global,
+    now: Moment,
+    block: &Block,
+    piece: &[u8],
+    body: Option<&[u8]>,
+) -> Upload
+    ensures { result ≢ Upload.Starved → result ≡ answer_to block.now piece.now (option_map (λ s. s.now) body.entry) (length (young_uploads now.0 uploads.now.items)) }
 {
     let Some(octets) = collected(body, block) else {
         return Upload::OutOfOrder;
@@ -194,7 +198,7 @@ fn judge(alloc: Global, block: &Block, piece: &[u8], body: Option<&[u8]>, live: 
     if octets.len() + piece.len() > MAX_BODY {
         return Upload::TooLarge;
     }
-    if is_one_too_many(block, body, live) {
+    if is_one_too_many(uploads, now, block, body) {
         return Upload::FullUploads;
     }
     if block.more {
@@ -224,14 +228,8 @@ pub(crate) fn upload(
     ensures few { vec_len uploads.new ≤ 64 }
     ensures capacity { vec_capacity uploads.new ≡ vec_capacity uploads.old }
 {
-    let live = count_live(uploads, now);
-    let answer = judge(
-        alloc,
-        block,
-        piece,
-        live_body(uploads, now, peer, key),
-        live,
-    );
+    let body = live_body(uploads, now, peer, key);
+    let answer = judge(uploads, alloc, now, block, piece, body);
     let Upload::More = answer else {
         return answer;
     };
