@@ -6,6 +6,7 @@
 #![tactic(auto)]
 
 mod attributes;
+mod blocks;
 mod exchanges;
 mod leases;
 mod listings;
@@ -18,6 +19,7 @@ use tables::Trouble;
 /// Measures all calls, one after another.
 fn measured(rt: &HostRuntime) -> Result<(), Trouble> {
     exchanges::measured(rt)?;
+    blocks::measured(rt)?;
     maps::measured(rt)?;
     leases::measured(rt)?;
     attributes::measured(rt)?;

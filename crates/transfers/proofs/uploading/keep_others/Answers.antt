@@ -1,0 +1,9 @@
+use Rattle.std.proofs.Common.{rules, not, ◌&&◌}
+use Rattle.std.proofs.lemmas.Fn.{filter_same}
+use Rattle.event_model.specs.Events.{is_young}
+use Rattle.event_model.specs.Uploads.{Upload}
+use Rattle.transfers.specs.Uploading.{is_of}
+use Rattle.transfers.proofs.uploading.keep_others.Goals as goal
+
+pub returns-clause-items : goal.returns-clause-items
+returns-clause-items c = filter_same _ (λ (u : Upload). is_young c.args.now.0 u.moment && not (is_of (c.args.peer, c.args.key.now) u)) _ (λ u b f k. search rules) _ _ c.retain.ensures.filtered

@@ -1,0 +1,58 @@
+-- The kept answers of a table, that of the latest use first: which is found, and what keeping and reading change (RFC 7959 section 2.4).
+use Rattle.std.specs.Prelude.{ℕ, ◌<◌, Bool, List, [], ◌∷◌, take, find, map, Option, Some, None, option_map, option_and_then, unwrap_or, if◌then◌else◌}
+use Rattle.std.specs.List.{AllByRecursion}
+use Rattle.event_model.specs.Same.{RequestName, is_same_request}
+use Rattle.event_model.specs.Events.{is_young}
+use Rattle.event_model.specs.KeptAnswers.{max_answers, Answer, KeptAnswer}
+
+-- an answer that is to be kept under a name
+pub record NamedAnswer : Type 0 where
+  pub name : RequestName
+  pub answer : Answer
+
+-- the kept answer of a name
+abbrev pub is_kept_as : RequestName → KeptAnswer → Bool
+is_kept_as name x = is_same_request name x.name
+
+-- the kept answer of a name, where its last use is young enough
+unfoldable pub live_kept : ℕ → RequestName → List KeptAnswer → Option KeptAnswer
+live_kept now name xs = option_and_then (λ x. if is_young now x.moment then Some x else None) (find (is_kept_as name) xs)
+
+-- the first that passes a test is gone
+unfoldable pub without_first : (KeptAnswer → Bool) → List KeptAnswer → List KeptAnswer
+without_first test [] = []
+without_first test (x ∷ xs) = if test x then xs else x ∷ without_first test xs
+
+-- an answer is used: it stands first, in place of what was kept under its name, and the 64 that were used last are left
+unfoldable pub used : KeptAnswer → List KeptAnswer → List KeptAnswer
+used x xs = take max_answers (x ∷ without_first (is_kept_as x.name) xs)
+
+-- an answer that is kept at a moment
+abbrev pub kept_at : ℕ → NamedAnswer → KeptAnswer
+kept_at now a = record { name = a.name; answer = a.answer; moment = now }
+
+-- a kept answer that is used again
+abbrev pub used_at : ℕ → KeptAnswer → KeptAnswer
+used_at now x = record { name = x.name; answer = x.answer; moment = now }
+
+-- the kept answers after that of a name is read: it is used where it lives, and else all is as before
+abbrev pub after_reading : ℕ → Option KeptAnswer → List KeptAnswer → List KeptAnswer
+after_reading now None xs = xs
+after_reading now (Some x) xs = used (used_at now x) xs
+
+-- the kept answers after each of these is kept, one after the other
+unfoldable pub kept_each : ℕ → List NamedAnswer → List KeptAnswer → List KeptAnswer
+kept_each now [] xs = xs
+kept_each now (a ∷ more) xs = kept_each now more (used (kept_at now a) xs)
+
+-- the values of the pairs of a cache
+abbrev pub values : {K V : Type 0} → List (K × V) → List V
+values pairs = map (λ p. p.1) pairs
+
+-- the keys of the pairs of a cache are below a number
+abbrev pub AreBelow : {V : Type 0} → ℕ → List (ℕ × V) → Type 0
+AreBelow number pairs = AllByRecursion (λ p. p.0 < number) pairs
+
+-- the number of the answer that is kept under a name, and else another
+abbrev pub number_for : RequestName → ℕ → List (ℕ × KeptAnswer) → ℕ
+number_for name number pairs = unwrap_or (option_map (λ p. p.0) (find (λ p. is_kept_as name p.1) pairs)) number

@@ -1,0 +1,19 @@
+//! Block-wise transfers: uploads that are collected block by block, and answers that are kept so that their further blocks come from one state (RFC 7959).
+#![tactic(auto)]
+
+mod caching;
+mod collecting;
+mod kept;
+mod named;
+mod readiness;
+mod table;
+mod uploading;
+
+pub use collecting::{Collected, Upload};
+pub use kept::Kept;
+pub use named::{Answer, Answers};
+pub use readiness::Ready;
+pub use table::Transfers;
+
+#[cfg(test)]
+mod tests;

@@ -1,0 +1,240 @@
+//! The uploads of a table, in the order in which they began.
+ghost use Rattle.std.specs.Prelude.{◌≡◌, ◌≢◌, ◌<◌, ◌≤◌, ◌==◌, ◌++◌, not, ◌&&◌, length, filter, find, option_map, IfOk, OnOk, OnErr};
+ghost use Rattle.std.specs.List.{position};
+ghost use Rattle.std.specs.Vec.{vec_len, vec_capacity};
+ghost use Rattle.journal_model.specs.Registrations.{collected_before, is_one_too_many};
+ghost use Rattle.transfers.specs.Uploading.{is_of, is_live_as, live_body, young_uploads, other_uploads, begun, gone_on, taken, without_upload};
+ghost use Rattle.transfers.specs.BlockAnswers.{answer_to};
+
+use crate::collecting::begins_at;
+use crate::{Collected, Upload};
+use message_model::Block;
+use rd_base::{Bytes, Key, Moment, Peer, Starved};
+use std::alloc::Global;
+
+/// How many uploads live at most.
+pub(crate) const MAX_UPLOADS: usize = 64;
+
+/// How many octets a body has at most.
+const MAX_BODY: usize = 8_192;
+
+/// The upload of this peer and request key, where it lives.
+fn live_upload<'a>(
+    uploads: &'a Vec<Collected>,
+    now: Moment,
+    peer: Peer,
+    key: &Key,
+) -> Option<&'a Collected>
+    ensures { option_map (λ u. u.now) result ≡ find (is_live_as now.0 (peer, key.now)) uploads.now.items }
+{
+    uploads
+        .iter()
+        .find(|upload| upload.is_live_as(now, peer, key))
+}
+
+/// The index of the upload of this peer and request key, where it lives.
+fn live_index(uploads: &Vec<Collected>, now: Moment, peer: Peer, key: &Key) -> Option<usize>
+    ensures { result ≡ position (is_live_as now.0 (peer, key.now)) uploads.now.items }
+{
+    uploads
+        .iter()
+        .position(|upload| upload.is_live_as(now, peer, key))
+}
+
+/// What is collected under this peer and request key, where the upload lives.
+#[tactic(auto, unfolding(crate::specs::Uploading::live_body))]
+fn live_body<'a>(
+    uploads: &'a Vec<Collected>,
+    now: Moment,
+    peer: Peer,
+    key: &Key,
+) -> Option<&'a [u8]>
+    ensures { option_map (λ s. s.now) result ≡ live_body now.0 (peer, key.now) uploads.now.items }
+{
+    let Some(upload) = live_upload(uploads, now, peer, key) else {
+        return None;
+    };
+    Some(upload.body())
+}
+
+/// How many uploads live.
+fn count_live(uploads: &Vec<Collected>, now: Moment) -> usize
+    ensures { result ≡ length (young_uploads now.0 uploads.now.items) }
+{
+    uploads.iter().filter(|upload| upload.is_young(now)).count()
+}
+
+/// What is collected before a block: nothing before the first, and else what the live upload has, where the block begins there.
+/// None where the block is out of order.
+fn collected<'a>(body: Option<&'a [u8]>, block: &Block) -> Option<&'a [u8]>
+    ensures { option_map (λ s. s.now) result ≡ collected_before block.now (option_map (λ s. s.now) body.entry) }
+{
+    if block.num == 0 {
+        return Some(&[]);
+    }
+    let Some(octets) = body else {
+        return None;
+    };
+    if begins_at(block, octets.len() as u64) {
+        return Some(octets);
+    }
+    None
+}
+
+/// Whether a block begins an upload that more blocks follow, and as many others live as may.
+fn is_one_too_many(
+    uploads: &Vec<Collected>,
+    now: Moment,
+    block: &Block,
+    body: Option<&[u8]>,
+) -> bool
+    ensures { result ≡ is_one_too_many block.now (option_map (λ s. s.now) body.entry) (length (young_uploads now.0 uploads.now.items)) }
+{
+    block.num == 0 && block.more && body.is_none() && MAX_UPLOADS <= count_live(uploads, now)
+}
+
+/// What is collected with the last block. `Starved`: out of memory.
+fn joined(alloc: Global, collected: &[u8], piece: &[u8]) -> Result<Bytes, Starved>
+    ensures { IfOk result (λ b. b ≡ collected.now ++ piece.now) }
+{
+    let mut whole = Vec::with_capacity(alloc, collected.len() + piece.len())?;
+    whole.extend_from_slice(collected)?;
+    whole.extend_from_slice(piece)?;
+    Ok(Bytes::of(whole))
+}
+
+/// Keeps of the uploads those that live, without that of this peer and request key.
+fn keep_others(uploads: &mut Vec<Collected>, now: Moment, peer: Peer, key: &Key)
+    ensures items { uploads.new.items ≡ other_uploads now.0 (peer, key.now) uploads.old.items }
+    ensures capacity { vec_capacity uploads.new ≡ vec_capacity uploads.old }
+{
+    uploads.retain(|upload| upload.is_young(now) && !upload.is_of(peer, key));
+}
+
+/// Drops the upload of this peer and request key.
+pub(crate) fn drop_upload(uploads: &mut Vec<Collected>, peer: Peer, key: &Key)
+    ensures items { uploads.new.items ≡ without_upload (peer, key.now) uploads.old.items }
+    ensures capacity { vec_capacity uploads.new ≡ vec_capacity uploads.old }
+{
+    uploads.retain(|upload| !upload.is_of(peer, key));
+}
+
+/// Begins the upload of this peer and request key anew, with a first block. `Starved`: out of memory, and all is as before.
+#[tactic(auto, unfolding(crate::specs::Uploading::begun))]
+fn begin(
+    uploads: &mut Vec<Collected>,
+    alloc: Global,
+    now: Moment,
+    peer: Peer,
+    key: &Key,
+    piece: &[u8],
+) -> Result<(), Starved>
+    requires { length (other_uploads now.0 (peer, key.now) uploads.old.items) < vec_capacity uploads.old }
+    ensures ok { OnOk result (uploads.new.items ≡ begun now.0 (peer, key.now) piece.now uploads.old.items) }
+    ensures err { OnErr result (uploads.new.items ≡ uploads.old.items) }
+    ensures capacity { vec_capacity uploads.new ≡ vec_capacity uploads.old }
+{
+    let upload = Collected::begin(alloc, now, peer, key, piece)?;
+    keep_others(uploads, now, peer, key);
+    uploads.push_reserved(upload);
+    Ok(())
+}
+
+/// Goes on with the upload of this peer and request key, where it lives. `Starved`: out of memory, and all is as before.
+fn go_on(
+    uploads: &mut Vec<Collected>,
+    now: Moment,
+    peer: Peer,
+    key: &Key,
+    piece: &[u8],
+) -> Result<(), Starved>
+    ensures ok { OnOk result (uploads.new.items ≡ gone_on now.0 (peer, key.now) piece.now uploads.old.items) }
+    ensures err { OnErr result (uploads.new.items ≡ uploads.old.items) }
+    ensures capacity { vec_capacity uploads.new ≡ vec_capacity uploads.old }
+{
+    let Some(index) = live_index(uploads, now, peer, key) else {
+        return Ok(());
+    };
+    uploads[index].go_on(now, piece)?;
+    Ok(())
+}
+
+/// Collects a block that more follow. `Starved`: out of memory, and all is as before.
+fn take(
+    uploads: &mut Vec<Collected>,
+    alloc: Global,
+    now: Moment,
+    peer: Peer,
+    key: &Key,
+    block: &Block,
+    piece: &[u8],
+) -> Result<(), Starved>
+    requires { length (other_uploads now.0 (peer, key.now) uploads.old.items) < vec_capacity uploads.old }
+    ensures ok { OnOk result (uploads.new.items ≡ taken block.now now.0 (peer, key.now) piece.now uploads.old.items) }
+    ensures err { OnErr result (uploads.new.items ≡ uploads.old.items) }
+    ensures capacity { vec_capacity uploads.new ≡ vec_capacity uploads.old }
+{
+    if block.num == 0 {
+        return begin(uploads, alloc, now, peer, key, piece);
+    }
+    go_on(uploads, now, peer, key, piece)
+}
+
+/// How a block is answered, by what is collected of its upload and by how many uploads live; a last block is joined to what is collected.
+#[tactic(auto, unfolding(crate::specs::BlockAnswers::answer_to))]
+fn judge(
+    uploads: &Vec<Collected>,
+    alloc: Global,
+    now: Moment,
+    block: &Block,
+    piece: &[u8],
+    body: Option<&[u8]>,
+) -> Upload
+    ensures { result ≢ Upload.Starved → result ≡ answer_to block.now piece.now (option_map (λ s. s.now) body.entry) (length (young_uploads now.0 uploads.now.items)) }
+{
+    let Some(octets) = collected(body, block) else {
+        return Upload::OutOfOrder;
+    };
+    if octets.len() + piece.len() > MAX_BODY {
+        return Upload::TooLarge;
+    }
+    if is_one_too_many(uploads, now, block, body) {
+        return Upload::FullUploads;
+    }
+    if block.more {
+        return Upload::More;
+    }
+    match joined(alloc, octets, piece) {
+        Ok(whole) => Upload::Whole(whole),
+        Err(_) => Upload::Starved,
+    }
+}
+
+/// How a block is answered. One that more follow is collected where it is answered by `More`; after any other answer all is as before.
+pub(crate) fn upload(
+    uploads: &mut Vec<Collected>,
+    alloc: Global,
+    now: Moment,
+    peer: Peer,
+    key: &Key,
+    block: &Block,
+    piece: &[u8],
+) -> Upload
+    requires room { 64 ≤ vec_capacity uploads.old }
+    requires few { vec_len uploads.old ≤ 64 }
+    ensures answer { result ≢ Upload.Starved → result ≡ answer_to block.now piece.now (live_body now.0 (peer, key.now) uploads.old.items) (length (young_uploads now.0 uploads.old.items)) }
+    ensures more { result ≡ Upload.More → uploads.new.items ≡ taken block.now now.0 (peer, key.now) piece.now uploads.old.items }
+    ensures other { result ≢ Upload.More → uploads.new.items ≡ uploads.old.items }
+    ensures few { vec_len uploads.new ≤ 64 }
+    ensures capacity { vec_capacity uploads.new ≡ vec_capacity uploads.old }
+{
+    let body = live_body(uploads, now, peer, key);
+    let answer = judge(uploads, alloc, now, block, piece, body);
+    let Upload::More = answer else {
+        return answer;
+    };
+    match take(uploads, alloc, now, peer, key, block, piece) {
+        Ok(()) => Upload::More,
+        Err(_) => Upload::Starved,
+    }
+}
