@@ -1,7 +1,9 @@
 -- Which events of a journal a table of exchanges stands for (RFC 7252 section 4.5).
-use Rattle.std.specs.Prelude.{◌≡◌, ℕ, Bool, true, false, List, Option, Some, None}
+use Rattle.std.specs.Prelude.{◌≡◌, ◌≢◌, ℕ, ◌≤◌, Bool, true, false, List, ◌∷◌, Option, Some, None}
 use Rattle.rd_base.specs.declared.peers.Peer.{Peer}
+use Rattle.event_model.specs.declared.notes.Note.TheVariants as note
 use Rattle.event_model.specs.Events.{Event}
+use Rattle.event_model.specs.AdmissionOrder.{IsOrderly, NoneAfter, IsNewPlace}
 use Rattle.event_model.specs.Repeats.{repeated, settled, is_full_of_exchanges, exchanges_at}
 use Rattle.exchange_core.specs.declared.writes.Keyed.{Keyed}
 use Rattle.exchange_core.specs.declared.writes.Keyed.TheVariants as keyed
@@ -24,3 +26,18 @@ keyed_as None moment events = keyed_new (is_full_of_exchanges moment events)
 -- how a write of a peer under a Message ID is answered after these events
 unfoldable pub keyed_after : ℕ → Peer → ℕ → List Event → Keyed
 keyed_after moment peer mid events = keyed_as (repeated moment peer mid events) moment events
+
+-- a write of a peer under a Message ID was handed to a table at a moment: how it is answered, and what the table stands for afterwards,
+-- whatever events the table stood for at that moment
+pub record IsKeyedAt (now : ℕ) (peer : Peer) (mid : ℕ) (before after : Table) (answer : Keyed) : Type 0 where
+  -- it is answered as it is after those events
+  pub answered : (events : List Event) → IsOrderly events → NoneAfter now events → ExchangesStandFor now events before → answer ≡ keyed_after now peer mid events
+  -- one that is admitted is an event more
+  pub admitted : (events : List Event) (e : Event) → answer ≡ keyed.Fresh → e.note ≡ note.Admitted peer mid → e.moment ≡ now → IsNewPlace e.place events
+      → ExchangesStandFor now events before → ExchangesStandFor now (e ∷ events) after
+  -- any other leaves the events as they are
+  pub aside : (events : List Event) → answer ≢ keyed.Fresh → ExchangesStandFor now events before → ExchangesStandFor now events after
+  -- a repeat changes nothing
+  pub repeated : answer ≢ keyed.Fresh → answer ≢ keyed.FullExchanges → after ≡ before
+  -- the table was changed at no later moment
+  pub moment : after.moment ≤ now

@@ -1,7 +1,7 @@
 //! Messages that wait for their acknowledgement, and when they are sent again.
-ghost use Rattle.std.specs.Prelude.{◌≡◌, ◌≢◌, [], ◌∷◌, List};
+ghost use Rattle.std.specs.Prelude.{◌≡◌, []};
 ghost use Rattle.event_model.specs.Events.{Event};
-ghost use Rattle.exchange_core.specs.Retransmissions.{Resends, due_at};
+ghost use Rattle.exchange_core.specs.Retransmissions.{Resends, kept_due, kept_after};
 
 use rd_base::{Bytes, Moment};
 use std::marker::Model;
@@ -62,9 +62,8 @@ impl Resend {
 
     /// What is due now (RFC 7252 section 4.2). A retransmission counts as made now.
     pub fn at_tick(&mut self, now: Moment) -> Again
-        ensures answer { (first : Event) (others : List Event) → Resends first others self.old → result ≡ due_at now.0 first others }
-        ensures sent { (first : Event) (others : List Event) (again : Event) → again.moment ≡ now.0 → result ≡ Again.Send → Resends first others self.old → Resends first (again ∷ others) self.new }
-        ensures unsent { result ≢ Again.Send → self.new ≡ self.old }
+        ensures due { result ≡ kept_due now.0 self.old }
+        ensures kept { self.new ≡ kept_after (kept_due now.0 self.old) now.0 self.old }
     {
         if now.0.saturating_sub(self.sent.0) < u64::from(self.wait) {
             return Again::Wait;

@@ -6,8 +6,8 @@ ghost use Rattle.rd_base.specs.declared.peers.Peer.{Peer};
 ghost use Rattle.event_model.specs.declared.notes.Note.TheVariants as note;
 ghost use Rattle.event_model.specs.Events.{Event};
 ghost use Rattle.exchange_core.specs.Table.{is_with, is_admitted_at, InOrder, young, repeat_among, answered_first, without_first};
-ghost use Rattle.event_model.specs.AdmissionOrder.{IsOrderly, NoneAfter, IsNewPlace, HasAdmission};
-ghost use Rattle.exchange_core.specs.ExchangeEvents.{ExchangesStandFor, keyed_after};
+ghost use Rattle.event_model.specs.AdmissionOrder.{IsOpen};
+ghost use Rattle.exchange_core.specs.ExchangeEvents.{ExchangesStandFor, IsKeyedAt};
 
 use crate::{Exchange, Keyed, Reply};
 use rd_base::{Moment, Peer, Starved};
@@ -56,11 +56,7 @@ impl Exchanges {
     /// Now is not before the moments that the table was changed at. Takes no memory.
     pub fn admit_key(&mut self, now: Moment, peer: Peer, mid: u16) -> Keyed
         requires { self.old.moment ≤ now.0 }
-        ensures answer { (at : ℕ) (events : List Event) → at ≤ now.0 → IsOrderly events → NoneAfter now.0 events → ExchangesStandFor at events self.old → result ≡ keyed_after now.0 peer mid events }
-        ensures stands { (at : ℕ) (events : List Event) → at ≤ now.0 → result ≢ Keyed.Fresh → ExchangesStandFor at events self.old → ExchangesStandFor now.0 events self.new }
-        ensures admitted { (at : ℕ) (events : List Event) (e : Event) → at ≤ now.0 → result ≡ Keyed.Fresh → e.note ≡ note.Admitted peer mid → e.moment ≡ now.0 → IsNewPlace e.place events → ExchangesStandFor at events self.old → ExchangesStandFor now.0 (e ∷ events) self.new }
-        ensures repeat { result ≢ Keyed.Fresh → result ≢ Keyed.FullExchanges → self.new ≡ self.old }
-        ensures moment { self.new.moment ≤ now.0 }
+        ensures { IsKeyedAt now.0 peer mid self.old self.new result }
     {
         if let Some(repeat) = repeat_in(&self.rows, now, peer, mid) {
             return repeat;
@@ -76,7 +72,7 @@ impl Exchanges {
 
     /// Keeps the reply of the write that was admitted at a moment, where it is still there. Takes no memory.
     pub fn settle(&mut self, peer: Peer, mid: u16, admitted: Moment, reply: Reply)
-        ensures stands { (at : ℕ) (events : List Event) (e : Event) (place : ℕ) → IsOrderly events → HasAdmission place peer mid admitted.0 events → e.note ≡ note.Settled place reply → ExchangesStandFor at events self.old → ExchangesStandFor at (e ∷ events) self.new }
+        ensures stands { (at : ℕ) (events : List Event) (e : Event) (place : ℕ) → IsOpen place peer mid admitted.0 events → e.note ≡ note.Settled place reply → ExchangesStandFor at events self.old → ExchangesStandFor at (e ∷ events) self.new }
         ensures answered { self.new.exchanges ≡ answered_first (is_admitted_at peer mid admitted.0) reply self.old.exchanges }
         ensures moment { self.new.moment ≡ self.old.moment }
     {
@@ -85,7 +81,7 @@ impl Exchanges {
 
     /// Forgets the write that was admitted at a moment, where it is still there: it comes again as a new one.
     pub fn forget(&mut self, peer: Peer, mid: u16, admitted: Moment)
-        ensures stands { (at : ℕ) (events : List Event) (e : Event) (place : ℕ) → IsOrderly events → HasAdmission place peer mid admitted.0 events → e.note ≡ note.Failed place → ExchangesStandFor at events self.old → ExchangesStandFor at (e ∷ events) self.new }
+        ensures stands { (at : ℕ) (events : List Event) (e : Event) (place : ℕ) → IsOpen place peer mid admitted.0 events → e.note ≡ note.Failed place → ExchangesStandFor at events self.old → ExchangesStandFor at (e ∷ events) self.new }
         ensures forgotten { self.new.exchanges ≡ without_first (is_admitted_at peer mid admitted.0) self.old.exchanges }
         ensures moment { self.new.moment ≡ self.old.moment }
     {

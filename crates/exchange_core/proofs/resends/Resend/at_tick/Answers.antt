@@ -1,20 +1,27 @@
-use Rattle.std.proofs.Common.{arith, subst, sym}
-use Rattle.exchange_core.specs.Retransmissions.{Resends}
-use Rattle.exchange_core.proofs.ResendLaws.{due_waits, due_sends, due_ends, sent_again}
+use Rattle.std.proofs.Common.{◌≡◌, arith, sym, ap, subst, ◌∙◌}
+use Rattle.exchange_core.specs.declared.resends.Again.TheVariants as again
+use Rattle.exchange_core.specs.Retransmissions.{kept_due, kept_after}
+use Rattle.exchange_core.proofs.ResendLaws.{due_waits, due_sends, due_ends}
 use Rattle.exchange_core.proofs.resends.Resend.at_tick.Goals as goal
 
-pub returns-then-saturating_sub-from-clause-answer : goal.returns-then-saturating_sub-from-clause-answer
-returns-then-saturating_sub-from-clause-answer c first others h =
-    due_waits c.args.now.0 first others (record { sent = c.self.inside.sent.0; wait = c.self.inside.wait; again = c.self.inside.again }) (omega (arith, c.if-saturating_sub-from.true, c.saturating_sub.ensures, c.from.ensures)) (subst (Resends first others) (sym c.self.view_is) h)
+pub returns-then-saturating_sub-from-clause-due : goal.returns-then-saturating_sub-from-clause-due
+returns-then-saturating_sub-from-clause-due c =
+    due_waits c.args.now.0 (record { sent = c.self.inside.sent.0; wait = c.self.inside.wait; again = c.self.inside.again }) (omega (arith, c.if-saturating_sub-from.true, c.saturating_sub.ensures, c.from.ensures)) ∙ ap (kept_due c.args.now.0) c.self.view_is
 
-pub returns-then-self-eq-MAX_AGAIN-clause-answer : goal.returns-then-self-eq-MAX_AGAIN-clause-answer
-returns-then-self-eq-MAX_AGAIN-clause-answer c first others h =
-    due_ends c.args.now.0 first others (record { sent = c.self.inside.sent.0; wait = c.self.inside.wait; again = c.self.inside.again }) (omega (arith, c.if-saturating_sub-from.false, c.saturating_sub.ensures, c.from.ensures)) c.self.invariant.0 c.if-self-eq-MAX_AGAIN.true (subst (Resends first others) (sym c.self.view_is) h)
+pub returns-then-saturating_sub-from-clause-kept : goal.returns-then-saturating_sub-from-clause-kept
+returns-then-saturating_sub-from-clause-kept c = ap (λ due. kept_after due c.args.now.0 c.args.self.now) (returns-then-saturating_sub-from-clause-due c)
 
-pub returns-clause-answer : goal.returns-clause-answer
-returns-clause-answer c first others h =
-    due_sends c.args.now.0 first others (record { sent = c.self.inside.sent.0; wait = c.self.inside.wait; again = c.self.inside.again }) (omega (arith, c.if-saturating_sub-from.false, c.saturating_sub.ensures, c.from.ensures)) c.self.invariant.0 (omega (arith, c.self.invariant.1, c.if-self-eq-MAX_AGAIN.false)) (subst (Resends first others) (sym c.self.view_is) h)
+pub returns-then-self-eq-MAX_AGAIN-clause-due : goal.returns-then-self-eq-MAX_AGAIN-clause-due
+returns-then-self-eq-MAX_AGAIN-clause-due c =
+    due_ends c.args.now.0 (record { sent = c.self.inside.sent.0; wait = c.self.inside.wait; again = c.self.inside.again }) (omega (arith, c.if-saturating_sub-from.false, c.saturating_sub.ensures, c.from.ensures)) c.self.invariant.0 c.if-self-eq-MAX_AGAIN.true ∙ ap (kept_due c.args.now.0) c.self.view_is
 
-pub returns-clause-sent : goal.returns-clause-sent
-returns-clause-sent c first others again at is h =
-    sent_again c.args.now.0 first others again (record { sent = c.self.inside.sent.0; wait = c.self.inside.wait; again = c.self.inside.again }) at (subst (Resends first others) (sym c.self.view_is) h)
+pub returns-then-self-eq-MAX_AGAIN-clause-kept : goal.returns-then-self-eq-MAX_AGAIN-clause-kept
+returns-then-self-eq-MAX_AGAIN-clause-kept c = ap (λ due. kept_after due c.args.now.0 c.args.self.now) (returns-then-self-eq-MAX_AGAIN-clause-due c)
+
+pub returns-clause-due : goal.returns-clause-due
+returns-clause-due c =
+    due_sends c.args.now.0 (record { sent = c.self.inside.sent.0; wait = c.self.inside.wait; again = c.self.inside.again }) (omega (arith, c.if-saturating_sub-from.false, c.saturating_sub.ensures, c.from.ensures)) c.self.invariant.0 (omega (arith, c.self.invariant.1, c.if-self-eq-MAX_AGAIN.false)) ∙ ap (kept_due c.args.now.0) c.self.view_is
+
+pub returns-clause-kept : goal.returns-clause-kept
+returns-clause-kept c =
+    ap (λ r. kept_after again.Send c.args.now.0 r) c.self.view_is ∙ ap (λ due. kept_after due c.args.now.0 c.args.self.now) (returns-clause-due c)

@@ -22,9 +22,9 @@ invariant_of-self c =
     )
 
 pub returns-clause-stands : goal.returns-clause-stands
-returns-clause-stands c at events e place orderly there is stands =
+returns-clause-stands c at events e place it is stands =
     ExchangesStandFor-failed at place c.args.peer c.args.mid c.args.admitted.0 e events (record { moment = c.self.inside.moment.0; exchanges = c.self.inside.rows.items })
-    (record { moment = c.self.inside.moment.0; exchanges = c.drop_first.new.rows.items }) is orderly there c.drop_first.ensures.items (subst (ExchangesStandFor at events) (sym c.self.view_is) stands)
+    (record { moment = c.self.inside.moment.0; exchanges = c.drop_first.new.rows.items }) is it.orderly it.admission c.drop_first.ensures.items (subst (ExchangesStandFor at events) (sym c.self.view_is) stands)
 
 pub returns-clause-forgotten : goal.returns-clause-forgotten
 returns-clause-forgotten c = c.drop_first.ensures.items ∙ ap (λ (t : Table). without_first (is_admitted_at c.args.peer c.args.mid c.args.admitted.0) t.exchanges) c.self.view_is
