@@ -13,7 +13,10 @@ pub enum StartFault {
 }
 
 impl From<Starved> for StartFault {
-    ghost from_gives = { λ _ fault. fault ≡ StartFault.Starved };
+    ghost use Rattle.std.specs.Prelude.{◌≡◌};
+    ghost use Rattle.simple_registration.specs.declared.starts.StartFault.TheVariants as fault;
+
+    ghost from_gives = { λ _ given. given ≡ fault.Starved };
 
     fn from(_: Starved) -> StartFault {
         StartFault::Starved
