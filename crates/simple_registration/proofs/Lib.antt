@@ -6,3 +6,6 @@ pub mod RowLaws
 pub mod NoteLaws
 pub mod PeerLaws
 pub mod RunningLaws
+pub mod TokenLaws
+pub mod RuleLaws
+pub mod TableLaws

@@ -1,5 +1,5 @@
 -- The fetches that run, as a list: whose they are, which is found, and what an event changes of the list.
-use Rattle.std.proofs.Common.{◌≡◌, ℕ, ◌==◌, ◌||◌, ◌&&◌, Bool, true, false, not, cond, List, [], ◌∷◌, ◌++◌, length, map, filter, find, Option, Some, None, option_map, option_and_then, refl, sym, ap, subst, ◌∙◌, arith}
+use Rattle.std.proofs.Common.{◌≡◌, ℕ, zero, suc, set, ◌==◌, ◌||◌, ◌&&◌, Bool, true, false, not, cond, List, [], ◌∷◌, ◌++◌, length, map, filter, find, Option, Some, None, option_map, option_and_then, refl, sym, ap, subst, ◌∙◌, arith}
 use Rattle.std.specs.Prelude.{is_some, IsSome}
 use Rattle.std.specs.List.{cons_option, filter_map, list_any, AllByRecursion, slice_get}
 use Rattle.std.proofs.lemmas.Bool.{false≢true}
@@ -65,7 +65,7 @@ none_of : (p : Peer) (q : Peer) (peers : List Peer) → AllByRecursion (λ x. is
 none_of p q peers others same = let is : p ≡ q = (is_same_peer-Decides p q).0 same in subst (λ (r : Peer). AllByRecursion (λ x. is_same_peer r x ≡ false) peers) (sym is) others
 
 -- two functions that give the same for each of some peers find the same
-same_for : (f g : Peer → Option Fetch) (p : Peer) → ((q : Peer) → is_same_peer p q ≡ false → f q ≡ g q) → (peers : List Peer) → AllByRecursion (λ x. is_same_peer p x ≡ false) peers → filter_map f peers ≡ filter_map g peers
+pub same_for : (f g : Peer → Option Fetch) (p : Peer) → ((q : Peer) → is_same_peer p q ≡ false → f q ≡ g q) → (peers : List Peer) → AllByRecursion (λ x. is_same_peer p x ≡ false) peers → filter_map f peers ≡ filter_map g peers
 same_for f g p same [] others = refl
 same_for f g p same (q ∷ peers) others = rw (same q others.0) (ap (λ xs. cons_option (g q) xs) (same_for f g p same peers others.1))
 
@@ -141,6 +141,56 @@ filter_map-found f p named (q ∷ peers) all = by (is_same_peer p q) refl (prese
         let no : is_same_peer x.0.peer p ≡ false = subst (λ (r : Peer). is_same_peer r p ≡ false) (sym (named q x.0 x.1)) (other_peer-symmetric p q e) in
         rw e (rw x.1 (rw no more))
 
+-- a peer that is one of them has one
+pub any_there : (f : Peer → Option Fetch) (p : Peer) (peers : List Peer) → AllByRecursion (λ q. is_some (f q) ≡ true) peers → list_any (is_same_peer p) peers ≡ true → is_some (f p) ≡ true
+any_there f p [] all h = absurd (false≢true h)
+any_there f p (q ∷ peers) all h = by (is_same_peer p q) refl h (any_there f p peers all.1)
+  where
+    by : (b : Bool) → is_same_peer p q ≡ b → (b || list_any (is_same_peer p) peers) ≡ true → (list_any (is_same_peer p) peers ≡ true → is_some (f p) ≡ true) → is_some (f p) ≡ true
+    by true e h more = ap (λ r. is_some (f r)) ((is_same_peer-Decides p q).0 e) ∙ all.0
+    by false e h more = more h
+
+-- the fetch at an index is that of the peer there
+pub filter_map-at : (f : Peer → Option Fetch) (p : Peer) (peers : List Peer) (i : ℕ) → AllByRecursion (λ q. is_some (f q) ≡ true) peers → slice_get peers i ≡ Some p → slice_get (filter_map f peers) i ≡ f p
+filter_map-at f p [] i all at = absurd cc
+filter_map-at f p (q ∷ peers) zero all at =
+    let x = present (f q) all.0 in
+    let same : q ≡ p = cc in
+    rw x.1 (sym x.1 ∙ ap f same)
+filter_map-at f p (q ∷ peers) (suc i) all at = let x = present (f q) all.0 in rw x.1 (filter_map-at f p peers i all.1 at)
+
+-- what stands at an index is none of theirs from whom all are apart
+apart_at : (q p : Peer) (peers : List Peer) (i : ℕ) → AllByRecursion (λ x. is_same_peer q x ≡ false) peers → slice_get peers i ≡ Some p → is_same_peer q p ≡ false
+apart_at q p [] i apart at = absurd cc
+apart_at q p (x ∷ peers) zero apart at = let same : x ≡ p = cc in subst (λ (r : Peer). is_same_peer q r ≡ false) same apart.0
+apart_at q p (x ∷ peers) (suc i) apart at = apart_at q p peers i apart.1 at
+
+-- one that changes at an index is the first of its peer
+pub filter_map-set : (f : Peer → Option Fetch) (p : Peer) (y : Fetch) → IsNamed f → (peers : List Peer) (i : ℕ) → AreApart peers → AllByRecursion (λ q. is_some (f q) ≡ true) peers → slice_get peers i ≡ Some p
+    → set (filter_map f peers) i y ≡ changed_first (is_of p) (λ x. y) (filter_map f peers)
+unfolding changed_first
+filter_map-set f p y named [] i apart all at = absurd cc
+filter_map-set f p y named (q ∷ peers) zero apart all at =
+    let x = present (f q) all.0 in
+    let same : q ≡ p = cc in
+    let own : is_same_peer x.0.peer p ≡ true = subst (λ (r : Peer). is_same_peer r p ≡ true) (sym (named q x.0 x.1 ∙ same)) (is_same_peer-refl p) in
+    rw x.1 (rw own refl)
+filter_map-set f p y named (q ∷ peers) (suc i) apart all at =
+    let x = present (f q) all.0 in
+    let no : is_same_peer x.0.peer p ≡ false = subst (λ (r : Peer). is_same_peer r p ≡ false) (sym (named q x.0 x.1)) (apart_at q p peers i apart.0 at) in
+    rw x.1 (rw no (ap (λ rest. x.0 ∷ rest) (filter_map-set f p y named peers i apart.1 all.1 at)))
+
+-- two changes one after the other
+pub changed_twice : (test : Fetch → Bool) (y z : Fetch) → test y ≡ true → (xs : List Fetch) → changed_first test (λ x. z) (changed_first test (λ x. y) xs) ≡ changed_first test (λ x. z) xs
+unfolding changed_first
+changed_twice test y z own [] = refl
+changed_twice test y z own (x ∷ xs) = by (test x) refl (changed_twice test y z own xs)
+  where
+    by : (b : Bool) → test x ≡ b → changed_first test (λ w. z) (changed_first test (λ w. y) xs) ≡ changed_first test (λ w. z) xs
+        → changed_first test (λ w. z) (cond b (y ∷ xs) (x ∷ changed_first test (λ w. y) xs)) ≡ cond b (z ∷ xs) (x ∷ changed_first test (λ w. z) xs)
+    by true e more = rw own refl
+    by false e more = rw e (ap (λ rest. x ∷ rest) more)
+
 -- ---- the fetches that run
 
 pub running-peers : (octets : OctetsSent) (events : List Event) → map (λ f. f.peer) (fetches_running octets events) ≡ fetches events
@@ -150,6 +200,18 @@ running-peers octets events = peers_of (fetch_of octets events) (fetch_of-peer o
 pub running-found : (octets : OctetsSent) (events : List Event) (p : Peer) → find (is_of p) (fetches_running octets events) ≡ cond (is_fetching p events) (fetch_of octets events p) None
 unfolding fetches_running
 running-found octets events p = filter_map-found (fetch_of octets events) p (fetch_of-peer octets events) (fetches events) (fetches-there octets events)
+
+pub running-there : (octets : OctetsSent) (events : List Event) (p : Peer) → is_fetching p events ≡ true → is_some (fetch_of octets events p) ≡ true
+running-there octets events p is = any_there (fetch_of octets events) p (fetches events) (fetches-there octets events) is
+
+pub running-at : (octets : OctetsSent) (events : List Event) (p : Peer) (i : ℕ) → slice_get (fetches events) i ≡ Some p → slice_get (fetches_running octets events) i ≡ fetch_of octets events p
+unfolding fetches_running
+running-at octets events p i at = filter_map-at (fetch_of octets events) p (fetches events) i (fetches-there octets events) at
+
+pub running-set : (octets : OctetsSent) (events : List Event) (p : Peer) (y : Fetch) (i : ℕ) → slice_get (fetches events) i ≡ Some p
+    → set (fetches_running octets events) i y ≡ changed_first (is_of p) (λ x. y) (fetches_running octets events)
+unfolding fetches_running
+running-set octets events p y i at = filter_map-set (fetch_of octets events) p y (fetch_of-peer octets events) (fetches events) i (fetches-apart events) (fetches-there octets events) at
 
 -- an event that changes the fetch of one peer alone
 pub running-changed : (octets : OctetsSent) (p : Peer) (change : Fetch → Fetch) (x : Fetch) (e : Event) (events : List Event) → fetches (e ∷ events) ≡ fetches events

@@ -1,5 +1,5 @@
 -- The fetches of the table, in the order in which they started: which is found, and what changes.
-use Rattle.std.specs.Prelude.{◌≡◌, ℕ, Bool, false, ◌&&◌, ◌==◌, List, [], ◌∷◌, find, Option, Some, None, if◌then◌else◌}
+use Rattle.std.specs.Prelude.{◌≡◌, ℕ, Bool, false, List, [], ◌∷◌, find, Option, Some, None, if◌then◌else◌}
 use Rattle.rd_base.specs.declared.peers.Peer.{Peer}
 use Rattle.message_model.specs.Message.{Message}
 use Rattle.event_model.specs.Same.{is_same_peer}
@@ -16,10 +16,6 @@ pub record Table : Type 0 where
 -- a fetch of a peer
 abbrev pub is_of : Peer → Fetch → Bool
 is_of peer f = is_same_peer f.peer peer
-
--- a fetch of a peer whose last request has a Message ID
-abbrev pub is_asked : Peer → ℕ → Fetch → Bool
-is_asked peer mid f = is_of peer f && f.waits.mid == mid
 
 -- a test of a fetch that may be missing
 abbrev pub some_passes : (Fetch → Bool) → Option Fetch → Bool

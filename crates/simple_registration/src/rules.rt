@@ -82,12 +82,19 @@ pub(crate) fn is_other_format(format: Option<u16>) -> bool
     }
 }
 
+/// The first entity tag of a response that is recognized.
+fn first_etag<'a>(meaning: &Meaning<'a>) -> Option<&'a [u8]>
+    ensures { option_map (λ tag. tag.now) result ≡ responses.tag_in (message_in meaning.now.view) }
+{
+    etags(meaning).next()
+}
+
 /// The entity tag of a response: the first that is recognized, of at most eight octets (RFC 7252 section 5.10.6).
 pub(crate) fn tag_in<'a>(meaning: &Meaning<'a>) -> Option<&'a [u8]>
     ensures value { option_map (λ tag. tag.now) result ≡ responses.tag_in (message_in meaning.now.view) }
     ensures short { IfSome result (λ tag. length tag.now ≤ 8) }
 {
-    etags(meaning).next()
+    first_etag(meaning)
 }
 
 /// Whether two tags are the same; to have none counts as a value.

@@ -1,5 +1,5 @@
 //! The table of fetches.
-ghost use Rattle.std.specs.Prelude.{◌≡◌, ◌≢◌, ◌+◌, ◌<◌, [], ◌∷◌, true, false, length, List, IfOk, OnErr, OnOk, Some, None, slice_get, option_map, find, vec_capacity};
+ghost use Rattle.std.specs.Prelude.{◌≡◌, ◌≢◌, ◌+◌, ◌<◌, [], ◌∷◌, true, false, length, List, ◌==◌, IfOk, OnErr, IfSome, is_some, Some, None, slice_get, option_map, find, vec_capacity};
 ghost use Rattle.std.specs.List.{position};
 ghost use Rattle.rd_base.specs.declared.peers.Peer.{Peer};
 ghost use Rattle.message_model.specs.declared.blocks.Block.{Block};
@@ -13,7 +13,7 @@ ghost use Rattle.event_model.specs.Fetches.{Request, fetches, next_token, last_r
 ghost use Rattle.journal_model.specs.Commits.{fetch_request};
 ghost use Rattle.journal_model.specs.Responses.{request_of, block_in, tag_in};
 ghost use Rattle.journal_model.specs.EmptyMessages.{is_last_request};
-ghost use Rattle.simple_registration.specs.Table.{is_of, is_asked, belongs_among, without_first, IsKeptAfter};
+ghost use Rattle.simple_registration.specs.Table.{is_of, some_passes, belongs_among, without_first, IsKeptAfter};
 ghost use Rattle.simple_registration.specs.FetchEvents.{FetchesStandFor, start_refusal, IsRefusedAs, belongs_after, heard_after, fetch_due};
 
 use crate::running::Fetch;
@@ -218,12 +218,16 @@ fn index_of(rows: &Vec<Fetch>, peer: &Peer) -> Option<usize>
     rows.iter().position(|fetch| fetch.is_of(peer))
 }
 
-/// The index of the fetch of a peer whose last request has this Message ID.
+/// The index of the fetch of a peer, where its last request has this Message ID.
 fn index_of_request(rows: &Vec<Fetch>, peer: &Peer, mid: u16) -> Option<usize>
-    ensures { result ≡ position (is_asked peer.now mid) rows.now.items }
+    ensures index { IfSome result (λ i. position (is_of peer.now) rows.now.items ≡ Some i) }
+    ensures answer { is_some result ≡ some_passes (λ f. f.waits.mid == mid) (find (is_of peer.now) rows.now.items) }
 {
-    rows.iter()
-        .position(|fetch| fetch.is_of(peer) && fetch.has_mid(mid))
+    let index = index_of(rows, peer)?;
+    if !rows[index].has_mid(mid) {
+        return None;
+    }
+    Some(index)
 }
 
 /// The fetch of a peer.
