@@ -9,3 +9,4 @@ pub mod RunningLaws
 pub mod TokenLaws
 pub mod RuleLaws
 pub mod TableLaws
+pub mod CallLaws

@@ -51,6 +51,9 @@ find-at test xs i x there is =
     let found = position-Some test xs i x there in
     find_at test xs i x found.0 found.1 found.2 ∙ ap (λ y. Some y) (sym is)
 
+pub find-or : (test : Fetch → Bool) (xs : List Fetch) (i : ℕ) (d : Fetch) → position test xs ≡ Some i → find test xs ≡ Some (get_or xs i d)
+find-or test xs i d there = let found = position-Some test xs i d there in find_at test xs i d found.0 found.1 found.2
+
 -- its index is within
 pub index_within : (test : Fetch → Bool) (xs : List Fetch) (i : ℕ) → position test xs ≡ Some i → i < length xs
 index_within test [] i there = absurd cc

@@ -11,7 +11,7 @@ use Rattle.message_model.specs.OptionTable.{Definition, definition_of, values, f
 use Rattle.message_model.proofs.ValueLemmas.{HasSize, values_sizes}
 use Rattle.event_model.specs.declared.notes.Note.TheVariants as note
 use Rattle.event_model.specs.Events.{Event}
-use Rattle.event_model.specs.Flights.{Retransmission, first_wait, max_again, deadline, OctetsSent}
+use Rattle.event_model.specs.Flights.{Retransmission, first_wait, max_again, moment_of_last, deadline, OctetsSent}
 use Rattle.event_model.specs.Fetches.{Request, fetch_asked, fetch_deadline, is_waiting, resendings, response_wait}
 use Rattle.event_model.proofs.NotedLaws.{event_at}
 use Rattle.exchange_core.specs.declared.resends.Again.{Again}
@@ -60,12 +60,15 @@ sent_is now word r h =
 two_ways : (a b : ℕ) (x y : Again) → cond (nat_lt a b) x y ≡ cond (nat_le b a) y x
 two_ways a b x y = grind arith
 
+due_cases : (waits : Bool) (now apart wait n : ℕ)
+    → cond waits (cond (nat_lt now apart) again.Wait again.GaveUp) (cond (nat_lt now wait) again.Wait (cond (nat_lt n max_again) again.Send again.GaveUp))
+    ≡ cond (nat_le (cond waits apart wait) now) (cond (waits || nat_le max_again n) again.GaveUp again.Send) again.Wait
+due_cases true now apart wait n = two_ways now apart again.Wait again.GaveUp
+due_cases false now apart wait n =
+    two_ways now wait again.Wait (cond (nat_lt n max_again) again.Send again.GaveUp) ∙ ap (λ x. cond (nat_le wait now) x again.Wait) (two_ways n max_again again.Send again.GaveUp)
+
+-- what is due of a fetch as it is kept, is what is due of it by events
 pub due_is : (octets : OctetsSent) (now : ℕ) (p : Peer) (e : Event) (r : Request) (events : List Event) → due_of now (fetch_asked octets events p e r) ≡ fetch_due now p e events
 unfolding fetch_due fetch_deadline deadline kept_due
-due_is octets now p e r events = by (is_waiting p events) refl
-  where
-    Goal : Bool → Type 0
-    Goal b = ?
-
-    by : (b : Bool) → is_waiting p events ≡ b → due_of now (fetch_asked octets events p e r) ≡ fetch_due now p e events
-    by b h = ?
+due_is octets now p e r events =
+    due_cases (is_waiting p events) now (e.moment + response_wait) (moment_of_last (resendings p events) e.moment + first_wait e.word * 2 ^ length (resendings p events)) (length (resendings p events))

@@ -44,13 +44,14 @@ abbrev pub request_after : ℕ → List ℕ → Block → List ℕ
 request_after mid token b = spelling (fetch_request mid token (Some (block_after b)))
 
 -- what comes of a block that is collected: where more follow, the next one is asked for under a Message ID, and else the body is whole
+abbrev pub heard_part : Bool → Block → ℕ → Peer → List ℕ → RegParams → List ℕ → Heard
+heard_part true b mid peer token params body = heard.Next (record { peer = peer; bytes = request_after mid token b })
+heard_part false b mid peer token params body = heard.Whole params body
+
+-- a response that is no block has the whole body
 abbrev pub heard_block : Option Block → ℕ → Peer → List ℕ → RegParams → List ℕ → Heard
 heard_block None mid peer token params body = heard.Whole params body
-heard_block (Some b) mid peer token params body = heard_part b.more b
-  where
-    heard_part : Bool → Block → Heard
-    heard_part true b = heard.Next (record { peer = peer; bytes = request_after mid token b })
-    heard_part false b = heard.Whole params body
+heard_block (Some b) mid peer token params body = heard_part b.more b mid peer token params body
 
 -- what comes of a response: it is passed over, or it ends the fetch, or its block is collected
 abbrev pub heard_by : Bool → Bool → Heard → Heard

@@ -70,15 +70,15 @@ impl Model for Fetch {
     ghost Value = { Running };
 
     ghost view = { λ f. record {
-        peer = f.peer;
-        token = f.token;
-        params = f.params;
-        number = f.number;
-        asked = f.asked.0;
-        waits = f.waits;
-        acknowledged = f.acknowledged;
-        body = f.body;
-        tag = f.tag;
+      peer = f.peer;
+      token = f.token;
+      params = f.params;
+      number = f.number;
+      asked = f.asked.0;
+      waits = f.waits;
+      acknowledged = f.acknowledged;
+      body = f.body;
+      tag = f.tag;
     } };
 
     ghost invariant = { λ f. length f.body ≤ max_body };

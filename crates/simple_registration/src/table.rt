@@ -133,6 +133,7 @@ impl Fetches {
         let heard = self.rows[index].hear(alloc, now, word, mid, meaning);
         if let Heard::Ended = heard {
             let _ = self.rows.remove(index);
+            return Heard::Ended;
         }
         heard
     }
@@ -223,7 +224,9 @@ fn index_of_request(rows: &Vec<Fetch>, peer: &Peer, mid: u16) -> Option<usize>
     ensures index { IfSome result (λ i. position (is_of peer.now) rows.now.items ≡ Some i) }
     ensures answer { is_some result ≡ some_passes (λ f. f.waits.mid == mid) (find (is_of peer.now) rows.now.items) }
 {
-    let index = index_of(rows, peer)?;
+    let Some(index) = index_of(rows, peer) else {
+        return None;
+    };
     if !rows[index].has_mid(mid) {
         return None;
     }
