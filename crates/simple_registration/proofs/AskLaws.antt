@@ -1,5 +1,5 @@
 -- The requests of fetches are short.
-use Rattle.std.proofs.Common.{◌≡◌, ℕ, ltb, true, ◌+◌, ◌≤◌, List, [], ◌∷◌, ◌++◌, length, codes, refl, ap, sym, ◌∙◌, lt-ltb, arith, None, Some}
+use Rattle.std.proofs.Common.{◌≡◌, ℕ, ltb, true, ◌+◌, ◌≤◌, ◌<◌, List, [], ◌∷◌, ◌++◌, length, codes, refl, ap, sym, ◌∙◌, lt-ltb, arith, None, Some}
 use Rattle.std.proofs.lemmas.List.{append-nil, length-append}
 use Rattle.message_model.specs.declared.messages.Kind4.TheVariants.{Con}
 use Rattle.message_model.specs.declared.blocks.Block.{Block}
@@ -58,3 +58,8 @@ pub short_block : (mid : ℕ) (token value : List ℕ) → length token ≤ long
 unfolding request_with path core
 short_block mid token value short few =
     let size = request_size mid token (path ∷ core ∷ (table.block2, value) ∷ []) in let options = block_size_is value few in omega (arith, size, options, short, few)
+
+-- a message is spelled in octets
+pub spelled_some : (m : Message) → 0 < length (spelling m)
+unfolding spelling header_spelling
+spelled_some m = omega arith

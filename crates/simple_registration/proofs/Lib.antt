@@ -10,3 +10,6 @@ pub mod TokenLaws
 pub mod RuleLaws
 pub mod TableLaws
 pub mod CallLaws
+pub mod DeskLaws
+pub mod StepLaws
+mod examples

@@ -110,7 +110,7 @@ is_shown octets events p request f is asked = by (last_request p events) refl is
 -- ---- how many started
 
 -- a note that starts none
-started-aside : (e : Event) (events : List Event) → is_start e.note ≡ false → fetches_started (e ∷ events) ≡ fetches_started events
+pub started-aside : (e : Event) (events : List Event) → is_start e.note ≡ false → fetches_started (e ∷ events) ≡ fetches_started events
 unfolding fetches_started
 started-aside e events other =
     ap (λ n. n % 2 ^ 64) (sum_by-cons one e events ∙ (ap (λ b. cond b 1 0 + count_by (λ (x : Event). is_start x.note) events) other ∙ zero-add (count_by (λ (x : Event). is_start x.note) events)))

@@ -58,13 +58,18 @@ fn core_request(mid: u16, token: &[u8]) -> Writer
 }
 
 /// The datagram of a request that has all its options and no payload. `Starved`: out of memory.
+#[tactic(auto, using(crate::proofs::AskLaws::spelled_some))]
 fn datagram_of(alloc: Global, mut request: Writer) -> Result<Bytes, Starved>
     requires open { request.payload ≡ [] }
     requires short { length (spelling request) ≤ longest_datagram }
-    ensures { IfOk result (λ bytes. bytes ≡ spelling request) }
+    ensures spelled { IfOk result (λ bytes. bytes ≡ spelling request) }
+    ensures some { IfOk result (λ bytes. 0 < length bytes) }
 {
     match request.finish(b"") {
-        Ok(octets) => Bytes::copy_of(alloc, octets),
+        Ok(octets) => {
+            let bytes = Bytes::copy_of(alloc, octets)?;
+            Ok(bytes)
+        }
         Err(TooLong) => unreachable!(),
     }
 }
@@ -73,7 +78,8 @@ fn datagram_of(alloc: Global, mut request: Writer) -> Result<Bytes, Starved>
 /// `Starved`: out of memory.
 pub(crate) fn first_request(alloc: Global, mid: u16, token: &[u8]) -> Result<Bytes, Starved>
     requires { length token.now ≤ longest_token }
-    ensures { IfOk result (λ bytes. bytes ≡ spelling (fetch_request mid token.now None)) }
+    ensures spelled { IfOk result (λ bytes. bytes ≡ spelling (fetch_request mid token.now None)) }
+    ensures some { IfOk result (λ bytes. 0 < length bytes) }
 {
     datagram_of(alloc, core_request(mid, token))
 }
@@ -87,7 +93,8 @@ pub(crate) fn request_for(
 ) -> Result<Bytes, Starved>
     requires token { length token.now ≤ longest_token }
     requires block { IsBlock block.now }
-    ensures { IfOk result (λ bytes. bytes ≡ spelling (fetch_request mid token.now (Some block.now))) }
+    ensures spelled { IfOk result (λ bytes. bytes ≡ spelling (fetch_request mid token.now (Some block.now))) }
+    ensures some { IfOk result (λ bytes. 0 < length bytes) }
 {
     let mut value = [0u8; 3];
     let size = block_write(block, &mut value);

@@ -1,5 +1,5 @@
 //! A fetch that runs.
-ghost use Rattle.std.specs.Prelude.{◌≡◌, ◌≢◌, ◌≤◌, ◌+◌, ◌++◌, ◌==◌, length, IfOk, OnOk, OnErr, option_map, Some, false};
+ghost use Rattle.std.specs.Prelude.{◌≡◌, ◌≢◌, ◌≤◌, ◌<◌, ◌+◌, ◌++◌, ◌==◌, length, IfOk, OnOk, OnErr, option_map, Some, false};
 ghost use Rattle.std.specs.Option.{ForSome};
 ghost use Rattle.rd_base.specs.declared.peers.Peer.{Peer};
 ghost use Rattle.message_model.specs.Blocks.{IsBlock};
@@ -63,7 +63,7 @@ pub(crate) struct Fetch {
 }
 
 impl Model for Fetch {
-    ghost use Rattle.std.specs.Prelude.{◌≤◌, length};
+    ghost use Rattle.std.specs.Prelude.{◌≤◌, ◌<◌, length};
     ghost use Rattle.event_model.specs.Uploads.{max_body};
     ghost use Rattle.event_model.specs.Fetches.{Fetch as Running};
 
@@ -81,7 +81,7 @@ impl Model for Fetch {
       tag = f.tag;
     } };
 
-    ghost invariant = { λ f. length f.body ≤ max_body };
+    ghost invariant = { λ f. (length f.body ≤ max_body) × (0 < length f.waits.octets) };
 }
 
 /// A request that is sent now and waits for its acknowledgement.
@@ -169,7 +169,8 @@ impl Fetch {
 
     /// Its last request, as it was sent.
     pub(crate) fn request(&self) -> &[u8]
-        ensures { result.now ≡ self.now.waits.octets }
+        ensures octets { result.now ≡ self.now.waits.octets }
+        ensures some { 0 < length result.now }
     {
         self.waits.bytes.as_slice()
     }

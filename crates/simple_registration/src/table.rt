@@ -199,7 +199,8 @@ impl Fetches {
     /// The last GET of the fetch at an index, which is in range, as it was sent.
     pub fn sent(&self, index: usize) -> &[u8]
         requires { index < length self.now.fetches }
-        ensures { option_map (λ f. f.waits.octets) (slice_get self.now.fetches index) ≡ Some result.now }
+        ensures octets { option_map (λ f. f.waits.octets) (slice_get self.now.fetches index) ≡ Some result.now }
+        ensures some { 0 < length result.now }
     {
         self.rows[index].request()
     }
