@@ -1,17 +1,20 @@
 -- The steps of the machine, as a table of fetches answers them: responses, the start of a fetch, and requests that are sent again.
 -- End theorems, for a desk above: nothing here cites them.
-use Rattle.std.proofs.Common.{◌≡◌, ℕ, ◌+◌, ◌*◌, ◌/◌, ◌%◌, ◌<◌, ◌≤◌, ◌==◌, ◌&&◌, ◌||◌, Bool, true, false, cond, List, [], ◌∷◌, ◌++◌, length, codes, find, Option, Some, None, option_map, refl, sym, ap, subst, ◌∙◌, eq-eqb, arith}
+use Rattle.std.proofs.Common.{◌≡◌, ◌≢◌, ℕ, ◌+◌, ◌*◌, ◌/◌, ◌%◌, ◌<◌, ◌≤◌, ◌==◌, ◌&&◌, ◌||◌, Bool, true, false, cond, List, [], ◌∷◌, ◌++◌, length, codes, find, Option, Some, None, option_map, refl, sym, ap, subst, ◌∙◌, eq-eqb, arith}
 use Rattle.std.specs.Prelude.{is_none, nat_le, unwrap_or}
-use Rattle.std.proofs.lemmas.Bool.{false≢true, and_parts}
+use Rattle.std.specs.List.{AllByRecursion}
+use Rattle.std.proofs.lemmas.Bool.{false≢true, and_parts, ne_eqb}
 use Rattle.rd_base.specs.declared.peers.Peer.{Peer}
 use Rattle.rd_base.specs.declared.parameters.RegParams.{RegParams}
-use Rattle.rd_base.proofs.lemmas.Among.{find_passes}
+use Rattle.rd_base.proofs.lemmas.Numbers.{eqb-refl}
 use Rattle.message_model.specs.declared.blocks.Block.{Block}
+use Rattle.message_model.specs.declared.messages.Kind4.{Kind4}
+use Rattle.message_model.specs.declared.messages.Kind4.TheVariants.{Con, Non, Ack, Rst}
 use Rattle.message_model.specs.Codes as codes_of
 use Rattle.message_model.specs.Message.{Message, longest_token}
 use Rattle.message_model.specs.OptionTable.{first_bad_option}
 use Rattle.message_model.specs.Request.{queries_in}
-use Rattle.message_model.specs.Spelling.{spelling, header_spelling}
+use Rattle.message_model.specs.Spelling.{spelling, header_spelling, kind_number}
 use Rattle.record_model.specs.Parameters.{registration_values}
 use Rattle.event_model.specs.declared.notes.Note.{Note}
 use Rattle.event_model.specs.declared.notes.Note.TheVariants as note
@@ -19,7 +22,7 @@ use Rattle.event_model.specs.Same.{is_same_peer}
 use Rattle.event_model.specs.Events.{Event}
 use Rattle.event_model.specs.Flights.{max_again}
 use Rattle.event_model.specs.Fetches.{max_fetches, fetches, is_fetching, next_token, Request, request_noted, last_request, gathered, collected, is_waiting, resendings, fetch_deadline}
-use Rattle.event_model.proofs.SameLaws.{is_same_peer-Decides}
+use Rattle.event_model.proofs.SameLaws.{is_same_peer-Decides, is_same_peer-refl}
 use Rattle.journal_model.specs.declared.steps.Step.{Step}
 use Rattle.journal_model.specs.declared.rows.Row.{Row}
 use Rattle.journal_model.specs.Journal.{events, row_at}
@@ -136,6 +139,31 @@ request_confirmable mid token b short = rw (first, second) refl
 
     second : (mid / 256 * 256 + mid % 256 == mid) ≡ true
     second = eq-eqb (mid / 256 * 256 + mid % 256) mid (omega arith)
+
+-- and a message of another type is none
+pub other_kind : (mid : ℕ) (m : Message) → length m.token ≤ longest_token → m.kind ≢ Con → is_confirmable_with mid (spelling m) ≡ false
+unfolding spelling header_spelling
+other_kind mid m short other = rw (by m.kind other) refl
+  where
+    by : (kind : Kind4) → kind ≢ Con → ((64 + kind_number kind * 16 + length m.token) / 16 == 4) ≡ false
+    by Con h = absurd (h refl)
+    by Non h = ne_eqb ((80 + length m.token) / 16) 4 (λ e. absurd (omega (arith, short, e)))
+    by Ack h = ne_eqb ((96 + length m.token) / 16) 4 (λ e. absurd (omega (arith, short, e)))
+    by Rst h = ne_eqb ((112 + length m.token) / 16) 4 (λ e. absurd (omega (arith, short, e)))
+
+-- the octets that the row being made sent to a peer in the confirmable message with a Message ID: those of the first such datagram
+pub octets_sent-here : (rows : List Row) (r : Row) (peer : Peer) (mid : ℕ) (bytes : List ℕ) (front rest : List (Peer × List ℕ)) → r.sent ≡ front ++ (peer, bytes) ∷ rest
+    → AllByRecursion (λ d. (is_same_peer d.0 peer && is_confirmable_with mid d.1) ≡ false) front → is_confirmable_with mid bytes ≡ true → octets_sent (r ∷ rows) (length rows) peer mid ≡ bytes
+unfolding octets_sent row_at
+octets_sent-here rows r peer mid bytes front rest sent none it =
+    rw (eqb-refl (length rows)) (rw sent (ap (λ d. unwrap_or (option_map (λ (x : Peer × List ℕ). x.1) d) []) (found front none)))
+  where
+    test : Peer × List ℕ → Bool
+    test d = is_same_peer d.0 peer && is_confirmable_with mid d.1
+
+    found : (ds : List (Peer × List ℕ)) → AllByRecursion (λ d. (is_same_peer d.0 peer && is_confirmable_with mid d.1) ≡ false) ds → find test (ds ++ (peer, bytes) ∷ rest) ≡ Some (peer, bytes)
+    found [] h = rw (is_same_peer-refl peer, it) refl
+    found (d ∷ ds) h = let no : test d ≡ false = h.0 in rw no (found ds h.1)
 
 -- the octets that a row sent are sent once more, where it sent some
 pub repeating-octets : (rows : List Row) (place : ℕ) (peer : Peer) (mid : ℕ) (n : Note) → 0 < length (octets_sent rows place peer mid)

@@ -9,8 +9,7 @@ use std::alloc::Global;
 use std::test::Fail;
 
 /// A first block of 16 octets that more follow, under an entity tag.
-const FIRST_BLOCK: &str =
-    "48450777000000000000000141aa8128b108ff3c2f613e3b72743d2230313233343536";
+const FIRST_BLOCK: &str = "48450777000000000000000141aa8128b108ff3c2f613e3b72743d2230313233343536";
 
 /// The calls, line by line, each with its answer.
 ///
@@ -457,7 +456,9 @@ fn as_many_run_as_may(rt: HostRuntime) -> Result<(), Fail> {
     fetches.end(&third);
     let params = params_of(alloc, "s")?;
     assert_eq!(rt;
-        fetches.start(alloc, Moment(0), 0, 64, peer_of("p"), params).is_ok(),
+        fetches
+            .start(alloc, Moment(0), 0, 64, peer_of("p"), params)
+            .is_ok(),
         true
     );
     Ok(())
