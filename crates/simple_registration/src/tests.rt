@@ -13,9 +13,11 @@ const FIRST_BLOCK: &str = "48450777000000000000000141aa8128b108ff3c2f613e3b72743
 
 /// The calls, line by line, each with its answer.
 ///
-/// `empty` makes a table; `new` makes one in which a fetch of p started at 1,000 under the Message ID 0 and with the word 0; `begun` makes one in which
-/// that was acknowledged, and the first block came at 1,200. `start`, `hear` and `tick` name the moment, `start` and `hear` the Message ID of a GET.
-/// `*n` after a datagram stands for n octets of payload. What is not said of `hear` and `tick` is their order: the peer, the datagram; the index.
+/// `empty` makes a table. `new` makes one in which a fetch of p started at 1,000, under the Message ID 0 and with the word 0. `begun` makes one in which
+/// its GET was acknowledged, and the first block came at 1,200.
+/// `start` has a moment, a Message ID, a peer and a name; `hear` a moment, the Message ID of a further GET, a peer and a datagram; `tick` a moment and an
+/// index; `ack` and `rst` a peer and a Message ID; `end` a peer, and answers how many are left; `at` an index.
+/// `*n` behind a datagram stands for a payload of n octets.
 const CALLS: &str = r#"# a device is fetched from in two blocks
 empty
 start 1000 0 p s1 -> ask 480100000000000000000001bb2e77656c6c2d6b6e6f776e04636f7265
