@@ -1,0 +1,15 @@
+-- The octets of requests: AskLaws. The fetches of a table: RowLaws.
+-- Events, and the fetches that run after them: NoteLaws (one event more, for one fetch), PeerLaws (who is fetched from), RunningLaws (the list of the fetches).
+-- What a table stands for: TableLaws. For a desk above: DeskLaws.
+pub mod AskLaws
+pub mod RowLaws
+pub mod NoteLaws
+pub mod PeerLaws
+pub mod RunningLaws
+pub mod TokenLaws
+pub mod RuleLaws
+pub mod TableLaws
+pub mod CallLaws
+pub mod DeskLaws
+pub mod StepLaws
+mod examples

@@ -1,0 +1,5 @@
+pub mod Responses
+pub mod Running
+pub mod Hearing
+pub mod Table
+pub mod FetchEvents

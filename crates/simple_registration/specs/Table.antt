@@ -1,0 +1,43 @@
+-- The fetches of the table, in the order in which they started: which is found, and what changes.
+use Rattle.std.specs.Prelude.{◌≡◌, ℕ, Bool, false, List, [], ◌∷◌, find, Option, Some, None, if◌then◌else◌}
+use Rattle.rd_base.specs.declared.peers.Peer.{Peer}
+use Rattle.message_model.specs.Message.{Message}
+use Rattle.event_model.specs.Same.{is_same_peer}
+use Rattle.event_model.specs.Fetches.{Fetch}
+use Rattle.simple_registration.specs.declared.hearing.Heard.{Heard}
+use Rattle.simple_registration.specs.declared.hearing.Heard.TheVariants as heard
+use Rattle.simple_registration.specs.Running.{is_answered_by}
+
+-- what a table of fetches shows: the fetches that run, in the order in which they started, and how many were started, as 64 bits count
+pub record Table : Type 0 where
+  pub fetches : List Fetch
+  pub started : ℕ
+
+-- a fetch of a peer
+abbrev pub is_of : Peer → Fetch → Bool
+is_of peer f = is_same_peer f.peer peer
+
+-- a test of a fetch that may be missing
+abbrev pub some_passes : (Fetch → Bool) → Option Fetch → Bool
+some_passes test None = false
+some_passes test (Some f) = test f
+
+-- a response belongs to one of the fetches
+abbrev pub belongs_among : Peer → Message → List Fetch → Bool
+belongs_among peer m fs = some_passes (is_answered_by m) (find (is_of peer) fs)
+
+-- the first that passes a test changes
+unfoldable pub changed_first : (Fetch → Bool) → (Fetch → Fetch) → List Fetch → List Fetch
+changed_first test change [] = []
+changed_first test change (f ∷ fs) = if test f then change f ∷ fs else f ∷ changed_first test change fs
+
+-- the first that passes a test is gone
+unfoldable pub without_first : (Fetch → Bool) → List Fetch → List Fetch
+without_first test [] = []
+without_first test (f ∷ fs) = if test f then fs else f ∷ without_first test fs
+
+-- after a response the table is as before, unless the next block is asked for or the fetch ends
+abbrev pub IsKeptAfter : Heard → Table → Table → Type 0
+IsKeptAfter (heard.Next ask) before after = Unit {0}
+IsKeptAfter heard.Ended before after = Unit {0}
+IsKeptAfter _ before after = after ≡ before

@@ -1,0 +1,104 @@
+//! The request of a fetch: a confirmable GET of /.well-known/core (RFC 9176 section 5.1).
+ghost use Rattle.std.specs.Prelude.{◌≡◌, ◌≤◌, ◌<◌, [], length, None, IfOk};
+ghost use Rattle.message_model.specs.Codes as codes_of;
+ghost use Rattle.message_model.specs.Message.{longest_token, last_number, longest_value, end_number};
+ghost use Rattle.message_model.specs.Blocks.{IsBlock};
+ghost use Rattle.message_model.specs.Spelling.{spelling};
+ghost use Rattle.coap_message.specs.PartialMessages.{longest_datagram, with_last_option};
+ghost use Rattle.journal_model.specs.Commits.{fetch_request};
+
+use block_wise::{Block, block_write};
+use coap_message::{Kind4, TooLong, Writer};
+use rd_base::{Bytes, Peer, Starved};
+use std::alloc::Global;
+
+/// The code of a GET, 0.01 (RFC 7252 section 5.8.1).
+const GET: u8 = 1;
+
+/// The number of the option Uri-Path (RFC 7252 section 5.10.1).
+const URI_PATH: u32 = 11;
+
+/// The number of the option Block2 (RFC 7959 section 2.1).
+const BLOCK2: u32 = 23;
+
+/// A request of a fetch that is to be sent.
+#[derive(Debug, Drop, PartialEq, Eq)]
+pub struct Ask {
+    /// Who is asked.
+    pub peer: Peer,
+    /// The datagram of the GET.
+    pub bytes: Bytes,
+}
+
+/// Adds an option to a request that has room for it.
+fn put_option(request: &mut Writer, number: u32, value: &[u8])
+    requires filled { codes_of.empty < request.old.code }
+    requires open { request.old.payload ≡ [] }
+    requires ascends { end_number 0 request.old.options ≤ number }
+    requires number { number ≤ last_number }
+    requires value { length value.now ≤ longest_value }
+    requires short { length (spelling (with_last_option request.old (number, value.now))) ≤ longest_datagram }
+    ensures { request.new ≡ with_last_option request.old (number, value.now) }
+{
+    match request.option(number, value) {
+        Ok(()) => {}
+        Err(TooLong) => unreachable!(),
+    }
+}
+
+/// The GET of /.well-known/core under a Message ID and a token, which has at most eight octets.
+fn core_request(mid: u16, token: &[u8]) -> Writer
+    requires { length token.now ≤ longest_token }
+    ensures { result ≡ fetch_request mid token.now None }
+{
+    let mut request = Writer::start(Kind4::Con, GET, mid, token);
+    put_option(&mut request, URI_PATH, b".well-known");
+    put_option(&mut request, URI_PATH, b"core");
+    request
+}
+
+/// The datagram of a request that has all its options and no payload. `Starved`: out of memory.
+#[tactic(auto, using(crate::proofs::AskLaws::spelled_some))]
+fn datagram_of(alloc: Global, mut request: Writer) -> Result<Bytes, Starved>
+    requires open { request.payload ≡ [] }
+    requires short { length (spelling request) ≤ longest_datagram }
+    ensures spelled { IfOk result (λ bytes. bytes ≡ spelling request) }
+    ensures some { IfOk result (λ bytes. 0 < length bytes) }
+{
+    match request.finish(b"") {
+        Ok(octets) => {
+            let bytes = Bytes::copy_of(alloc, octets)?;
+            Ok(bytes)
+        }
+        Err(TooLong) => unreachable!(),
+    }
+}
+
+/// The datagram of the first request of a fetch, which has no other option than its path (RFC 9176 section 5.1).
+/// `Starved`: out of memory.
+pub(crate) fn first_request(alloc: Global, mid: u16, token: &[u8]) -> Result<Bytes, Starved>
+    requires { length token.now ≤ longest_token }
+    ensures spelled { IfOk result (λ bytes. bytes ≡ spelling (fetch_request mid token.now None)) }
+    ensures some { IfOk result (λ bytes. 0 < length bytes) }
+{
+    datagram_of(alloc, core_request(mid, token))
+}
+
+/// The datagram of the request for a block (RFC 7959 section 2.4). `Starved`: out of memory.
+pub(crate) fn request_for(
+    alloc: Global,
+    mid: u16,
+    token: &[u8],
+    block: &Block,
+) -> Result<Bytes, Starved>
+    requires token { length token.now ≤ longest_token }
+    requires block { IsBlock block.now }
+    ensures spelled { IfOk result (λ bytes. bytes ≡ spelling (fetch_request mid token.now (Some block.now))) }
+    ensures some { IfOk result (λ bytes. 0 < length bytes) }
+{
+    let mut value = [0u8; 3];
+    let size = block_write(block, &mut value);
+    let mut request = core_request(mid, token);
+    put_option(&mut request, BLOCK2, &value[..size]);
+    datagram_of(alloc, request)
+}

@@ -1,0 +1,316 @@
+//! A fetch that runs.
+ghost use Rattle.std.specs.Prelude.{◌≡◌, ◌≢◌, ◌≤◌, ◌<◌, ◌+◌, ◌++◌, ◌==◌, length, IfOk, OnOk, OnErr, option_map, Some, false};
+ghost use Rattle.std.specs.Option.{ForSome};
+ghost use Rattle.rd_base.specs.declared.peers.Peer.{Peer};
+ghost use Rattle.message_model.specs.Blocks.{IsBlock};
+ghost use Rattle.message_model.specs.Spelling.{spelling};
+ghost use Rattle.coap_message.specs.Views.{message_in};
+ghost use Rattle.coap_options.specs.Meanings.{IsMeaning};
+ghost use Rattle.event_model.specs.Same.{is_same_peer};
+ghost use Rattle.event_model.specs.Uploads.{max_body};
+ghost use Rattle.journal_model.specs.Commits.{fetch_request};
+ghost use Rattle.journal_model.specs.Responses as responses;
+ghost use Rattle.simple_registration.specs.Responses.{ends_by, request_after};
+ghost use Rattle.simple_registration.specs.Running as running;
+ghost use Rattle.simple_registration.specs.Hearing.{fetch_started, first_ask, IsLeftBy};
+
+use crate::asks::{Ask, first_request, request_for};
+use crate::hearing::Heard;
+use crate::rules::{
+    block_in, has_names_of, is_cut_short, is_elsewhere, is_other_format, is_other_tag, tag_in,
+};
+use block_wise::Block;
+use coap_message::View;
+use coap_options::Meaning;
+use exchange_core::{Again, Octets, Resend, Sent, Token};
+use rd_base::{Bytes, Moment, Peer, RegParams, Starved};
+use std::alloc::Global;
+use std::marker::Model;
+
+/// The most octets of a body.
+const MAX_BODY: usize = 8_192;
+
+/// How long a fetch waits for a response that comes apart, in milliseconds (RFC 7252 section 4.8.2, MAX_TRANSMIT_WAIT).
+const RESPONSE_WAIT: u64 = 93_000;
+
+/// The code of a response with content, 2.05 (RFC 7252 section 5.9.1.5).
+const CONTENT: u8 = 0x45;
+
+/// An entity tag, of at most eight octets (RFC 7252 section 5.10.6).
+pub(crate) type EntityTag = Octets<8>;
+
+/// A fetch that runs: what it asked last, and what it collected.
+#[derive(Debug, Drop)]
+pub(crate) struct Fetch {
+    /// The device whose links are fetched.
+    peer: Peer,
+    /// The token of its requests.
+    token: Token,
+    /// The parameters of the registration that it is for.
+    params: RegParams,
+    /// The number of the block that was asked for last.
+    number: u32,
+    /// When that was first asked for.
+    asked: Moment,
+    /// That request, as it waits for its acknowledgement.
+    waits: Sent,
+    /// Whether that was acknowledged: the response comes apart.
+    acknowledged: bool,
+    /// What is collected of the body, at most 8,192 octets.
+    body: Bytes,
+    /// The entity tag of the first block, where one came; the block may have had none.
+    tag: Option<Option<EntityTag>>,
+}
+
+impl Model for Fetch {
+    ghost use Rattle.std.specs.Prelude.{◌≤◌, ◌<◌, length};
+    ghost use Rattle.event_model.specs.Uploads.{max_body};
+    ghost use Rattle.event_model.specs.Fetches.{Fetch as Running};
+
+    ghost Value = { Running };
+
+    ghost view = { λ f. record {
+      peer = f.peer;
+      token = f.token;
+      params = f.params;
+      number = f.number;
+      asked = f.asked.0;
+      waits = f.waits;
+      acknowledged = f.acknowledged;
+      body = f.body;
+      tag = f.tag;
+    } };
+
+    ghost invariant = { λ f. (length f.body ≤ max_body) × (0 < length f.waits.octets) };
+}
+
+/// A request that is sent now and waits for its acknowledgement.
+fn sent_now(now: Moment, word: u32, mid: u16, bytes: Bytes) -> Sent
+    ensures { result ≡ running.sent_first now.0 word mid bytes }
+{
+    Sent {
+        mid,
+        bytes,
+        resend: Resend::start(now, word),
+    }
+}
+
+/// The tag of the first block, with that of one more.
+fn first_tag(first: &Option<Option<EntityTag>>, tag: Option<&[u8]>) -> Option<Option<EntityTag>>
+    requires { ForSome tag (λ t. length t.now ≤ 8) }
+    ensures { result ≡ running.first_tag first.now (option_map (λ t. t.now) tag.entry) }
+{
+    if let Some(first) = first {
+        return Some(copy_of(first));
+    }
+    Some(tag.map(Octets::of))
+}
+
+/// An equal tag.
+fn copy_of(tag: &Option<EntityTag>) -> Option<EntityTag>
+    ensures { result ≡ tag.now }
+{
+    match tag {
+        Some(tag) => Some(tag.copy()),
+        None => None,
+    }
+}
+
+impl Fetch {
+    /// A fetch that starts now, with its first request. `Starved`: out of memory.
+    pub(crate) fn start(
+        alloc: Global,
+        now: Moment,
+        word: u32,
+        mid: u16,
+        peer: Peer,
+        token: Token,
+        params: RegParams,
+    ) -> Result<(Fetch, Ask), Starved>
+        ensures fetch { IfOk result (λ x. x.0 ≡ fetch_started now.0 word mid peer token params) }
+        ensures ask { IfOk result (λ x. x.1 ≡ first_ask mid peer token) }
+    {
+        let kept = first_request(alloc, mid, token.as_slice())?;
+        let bytes = Bytes::copy_of(alloc, kept.as_slice())?;
+        let fetch = Fetch {
+            peer,
+            token,
+            params,
+            number: 0,
+            asked: now,
+            waits: sent_now(now, word, mid, kept),
+            acknowledged: false,
+            body: Bytes::new(alloc),
+            tag: None,
+        };
+        Ok((fetch, Ask { peer, bytes }))
+    }
+
+    /// Whose fetch it is.
+    pub(crate) fn peer(&self) -> Peer
+        ensures { result ≡ self.now.peer }
+    {
+        self.peer
+    }
+
+    /// Whether it is a fetch of this peer.
+    pub(crate) fn is_of(&self, peer: &Peer) -> bool
+        ensures { result ≡ is_same_peer self.now.peer peer.now }
+    {
+        self.peer == *peer
+    }
+
+    /// Whether its last request has this Message ID.
+    pub(crate) fn has_mid(&self, mid: u16) -> bool
+        ensures { result ≡ (self.now.waits.mid == mid) }
+    {
+        self.waits.mid == mid
+    }
+
+    /// Its last request, as it was sent.
+    pub(crate) fn request(&self) -> &[u8]
+        ensures octets { result.now ≡ self.now.waits.octets }
+        ensures some { 0 < length result.now }
+    {
+        self.waits.bytes.as_slice()
+    }
+
+    /// Whether a message is a response to its last request, by its token and, where it is an acknowledgement, its Message ID.
+    pub(crate) fn is_answered_by(&self, view: &View<'_>) -> bool
+        ensures { result ≡ running.is_answered_by (message_in view.now) self.now }
+    {
+        has_names_of(view, self.token.as_slice(), self.waits.mid)
+    }
+
+    /// Its last request was acknowledged: the response comes apart.
+    pub(crate) fn await_response(&mut self)
+        ensures { self.new ≡ running.awaiting self.old }
+    {
+        self.acknowledged = true;
+    }
+
+    /// What is due of it now. A retransmission counts as made now.
+    pub(crate) fn timeout(&mut self, now: Moment) -> Again
+        ensures due { result ≡ running.due_of now.0 self.old }
+        ensures after { self.new ≡ running.after_due (running.due_of now.0 self.old) now.0 self.old }
+    {
+        if !self.acknowledged {
+            return self.waits.resend.at_tick(now);
+        }
+        if now.0.saturating_sub(self.asked.0) < RESPONSE_WAIT {
+            return Again::Wait;
+        }
+        Again::GaveUp
+    }
+
+    /// Whether a response ends it without a registration.
+    fn is_ended_by(&self, meaning: &Meaning<'_>, block: &Option<Block>) -> bool
+        requires meaning { IsMeaning (message_in meaning.now.view) meaning.now }
+        requires block { block.now ≡ responses.block_in (message_in meaning.now.view) }
+        requires sound { ForSome block.now (λ b. IsBlock b) }
+        ensures { result ≡ ends_by (message_in meaning.now.view) self.now.tag (length self.now.body) }
+    {
+        let size = meaning.view.payload.len();
+        if meaning.view.code != CONTENT {
+            return true;
+        }
+        if is_other_format(meaning.format) {
+            return true;
+        }
+        if meaning.block2.is_some() && block.is_none() {
+            return true;
+        }
+        if is_cut_short(block, size) {
+            return true;
+        }
+        if meaning.block2.is_none() && self.tag.is_some() {
+            return true;
+        }
+        if is_other_tag(&self.tag, tag_in(meaning)) {
+            return true;
+        }
+        MAX_BODY - self.body.len() < size
+    }
+
+    /// Collects the block of a response and asks for the next. `Starved`: out of memory, and all is as before.
+    fn ask_next(
+        &mut self,
+        alloc: Global,
+        now: Moment,
+        word: u32,
+        mid: u16,
+        meaning: &Meaning<'_>,
+        block: &Block,
+    ) -> Result<Ask, Starved>
+        requires meaning { IsMeaning (message_in meaning.now.view) meaning.now }
+        requires block { IsBlock block.now }
+        requires here { responses.is_elsewhere (Some block.now) (length self.old.body) ≡ false }
+        requires fits { length self.old.body + length meaning.now.view.payload.now ≤ max_body }
+        ensures ask { IfOk result (λ ask. ask ≡ record { peer = self.old.peer; bytes = request_after mid self.old.token block.now }) }
+        ensures next { OnOk result (self.new ≡ running.with_next now.0 word mid (message_in meaning.now.view) block.now self.old) }
+        ensures kept { OnErr result (self.new ≡ self.old) }
+    {
+        let next = Block {
+            num: block.num + 1,
+            more: false,
+            szx: block.szx,
+        };
+        let kept = request_for(alloc, mid, self.token.as_slice(), &next)?;
+        let bytes = Bytes::copy_of(alloc, kept.as_slice())?;
+        self.body.append(meaning.view.payload)?;
+        self.tag = first_tag(&self.tag, tag_in(meaning));
+        self.number = next.num;
+        self.asked = now;
+        self.waits = sent_now(now, word, mid, kept);
+        self.acknowledged = false;
+        Ok(Ask {
+            peer: self.peer,
+            bytes,
+        })
+    }
+
+    /// The whole body, which a response completes, and the parameters of the registration. `Starved`: out of memory.
+    fn whole(&self, alloc: Global, payload: &[u8]) -> Result<(RegParams, Bytes), Starved>
+        ensures params { IfOk result (λ x. x.0 ≡ self.now.params) }
+        ensures body { IfOk result (λ x. x.1 ≡ self.now.body ++ payload.now) }
+    {
+        let params = self.params.copy(alloc)?;
+        let mut body = Bytes::copy_of(alloc, self.body.as_slice())?;
+        body.append(payload)?;
+        Ok((params, body))
+    }
+
+    /// What comes of a response to its last request, with the Message ID of a further request. Where that is not asked for, all is as before.
+    pub(crate) fn hear(
+        &mut self,
+        alloc: Global,
+        now: Moment,
+        word: u32,
+        mid: u16,
+        meaning: &Meaning<'_>,
+    ) -> Heard
+        requires { IsMeaning (message_in meaning.now.view) meaning.now }
+        ensures answer { result ≢ Heard.Starved → result ≡ running.heard_of mid (message_in meaning.now.view) self.old }
+        ensures left { IsLeftBy result now.0 word mid (message_in meaning.now.view) self.old self.new }
+    {
+        let block = block_in(meaning);
+        if is_elsewhere(&block, self.body.len()) {
+            return Heard::Passed;
+        }
+        if self.is_ended_by(meaning, &block) {
+            return Heard::Ended;
+        }
+        if let Some(part) = block {
+            if part.more {
+                return match self.ask_next(alloc, now, word, mid, meaning, &part) {
+                    Ok(ask) => Heard::Next(ask),
+                    Err(Starved) => Heard::Starved,
+                };
+            }
+        }
+        match self.whole(alloc, meaning.view.payload) {
+            Ok((params, body)) => Heard::Whole(params, body),
+            Err(Starved) => Heard::Starved,
+        }
+    }
+}
