@@ -102,7 +102,7 @@ impl AttributeIndex {
     }
 
     /// A cursor over the entries of this name whose values the pattern matches (RFC 6690 section 4.1), in order. It begins
-    /// where the first of them stands, and passes no other. `Starved`: out of memory.
+    /// where the first of them stands. `Starved`: out of memory.
     pub fn carriers(
         &self,
         alloc: Global,
