@@ -1,14 +1,11 @@
 -- What follows where a block is collected: it begins an upload for which there is room, or it goes on with one that lives.
-use Rattle.std.proofs.Common.{◌≡◌, ℕ, ◌+◌, ◌<◌, ◌≤◌, ◌*◌, ◌==◌, Bool, true, false, ◌&&◌, cond, ltb, leb, List, [], ◌++◌, length, Option, Some, None, is_none, option_and_then, refl, sym, ap, subst, ◌∙◌, arith}
-use Rattle.std.proofs.lemmas.Bool.{false≢true}
+use Rattle.std.proofs.Common.{◌≡◌, ℕ, ◌+◌, ◌<◌, ◌≤◌, ◌==◌, Bool, true, false, ◌&&◌, cond, ltb, leb, List, [], length, Option, Some, None, refl, sym, ap, subst, ◌∙◌, arith}
 use Rattle.message_model.specs.declared.blocks.Block.{Block}
-use Rattle.event_model.specs.Uploads.{Upload, max_uploads, max_body}
-use Rattle.journal_model.specs.Registrations.{collected_before, is_one_too_many}
+use Rattle.event_model.specs.Uploads.{Upload, max_body}
 use Rattle.event_model.specs.Same.{RequestName}
 use Rattle.transfers.specs.Uploading.{live_body, young_uploads, other_uploads}
-use Rattle.transfers.specs.declared.collecting.Upload.{Upload as BlockAnswer}
 use Rattle.transfers.specs.declared.collecting.Upload.TheVariants as upload
-use Rattle.transfers.specs.BlockAnswers.{answer_taken, answer_unless, answer_after, answer_to}
+use Rattle.transfers.specs.BlockAnswers.{answer_unless, answer_after, answer_to}
 use Rattle.transfers.proofs.UploadLists.{others-few}
 
 -- a block that is collected is none that would be one too many, and more follow

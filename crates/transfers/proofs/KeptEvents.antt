@@ -1,10 +1,10 @@
 -- What the kept answers of a table stand for, as answers are kept and read.
-use Rattle.std.proofs.Common.{◌≡◌, ℕ, ◌+◌, ◌≤◌, zero, suc, Bool, true, false, not, ◌||◌, ◌&&◌, cond, List, [], ◌∷◌, ◌++◌, length, map, take, filter, find, Option, Some, None, option_map, option_and_then, refl, sym, ap, ap₂, subst, ◌∙◌, arith, append-nil}
-use Rattle.std.specs.List.{cons_option, filter_map, list_any, AllByRecursion}
+use Rattle.std.proofs.Common.{◌≡◌, ℕ, zero, suc, Bool, true, false, not, ◌||◌, ◌&&◌, cond, List, [], ◌∷◌, ◌++◌, length, map, take, filter, find, Option, Some, None, option_map, option_and_then, refl, sym, ap, ap₂, subst, ◌∙◌, arith}
+use Rattle.std.specs.List.{AllByRecursion}
 use Rattle.std.proofs.lemmas.Bool.{false≢true, or_parts}
 use Rattle.rd_base.specs.declared.peers.Peer.{Peer}
 use Rattle.rd_base.proofs.lemmas.Filters.{filter_all}
-use Rattle.rd_base.proofs.lemmas.Each.{each_weaker, each_filter, each_passes}
+use Rattle.rd_base.proofs.lemmas.Each.{each_weaker, each_passes}
 use Rattle.rd_base.proofs.lemmas.Pairs.{PairsByRecursion, pairs_filter}
 use Rattle.rd_base.proofs.lemmas.Options.{some_same, none_some}
 use Rattle.event_model.specs.declared.notes.Note.{Note}
@@ -17,7 +17,7 @@ use Rattle.event_model.proofs.NotedLaws.{event_at}
 use Rattle.event_model.proofs.AsideTables.{about_answers}
 use Rattle.transfers.specs.Keeping.{NamedAnswer, is_kept_as, live_kept, without_first, used, kept_at, used_at, kept_each}
 use Rattle.transfers.specs.TransferEvents.{answer_of, AnswersStandFor, kept_note}
-use Rattle.transfers.proofs.KeptLists.{take_whole, length-take_le, length-without, without-none}
+use Rattle.transfers.proofs.KeptLists.{take_whole, length-take_le}
 
 -- the tests of names
 same_names : (name other : RequestName) → is_same_request name other ≡ true → name ≡ other

@@ -1,12 +1,9 @@
 -- Laws of the kept answers of a table.
-use Rattle.std.proofs.Common.{◌≡◌, ℕ, ◌+◌, ◌<◌, ◌≤◌, zero, suc, Bool, true, false, cond, List, [], ◌∷◌, ◌++◌, length, map, take, find, Option, Some, None, option_map, option_and_then, is_some, refl, sym, ap, ◌∙◌, arith}
-use Rattle.std.specs.List.{AllByRecursion}
+use Rattle.std.proofs.Common.{◌≡◌, ℕ, ◌+◌, ◌≤◌, zero, suc, Bool, true, false, cond, List, [], ◌∷◌, length, take, find, Option, Some, None, is_some, refl, sym, ap, arith}
 use Rattle.std.proofs.lemmas.Bool.{false≢true}
-use Rattle.rd_base.proofs.lemmas.Options.{none_some, some_same}
-use Rattle.event_model.specs.Same.{RequestName, is_same_request}
-use Rattle.event_model.specs.Events.{is_young}
-use Rattle.event_model.specs.KeptAnswers.{max_answers, Answer, KeptAnswer}
-use Rattle.transfers.specs.Keeping.{NamedAnswer, is_kept_as, live_kept, without_first, used, kept_at, used_at, kept_each}
+use Rattle.rd_base.proofs.lemmas.Options.{none_some}
+use Rattle.event_model.specs.KeptAnswers.{KeptAnswer}
+use Rattle.transfers.specs.Keeping.{NamedAnswer, without_first, used, kept_at, kept_each}
 
 -- a list that is short enough is taken whole
 pub take_whole : {A : Type 0} (n : ℕ) (xs : List A) → length xs ≤ n → take n xs ≡ xs

@@ -1,14 +1,13 @@
 -- A table shows the kept answers that live: of those that it has, the young ones, that of the latest use first.
 -- An end theorem, for who keeps the table beside a journal: nothing here cites it.
-use Rattle.std.proofs.Common.{◌≡◌, ℕ, zero, suc, Bool, true, false, ◌||◌, ◌&&◌, cond, List, [], ◌∷◌, ◌++◌, map, take, drop, filter, Option, Some, None, option_map, option_and_then, refl, sym, ap, ap₂, subst, ◌∙◌}
-use Rattle.std.specs.List.{cons_option, filter_map, list_any, AllByRecursion}
-use Rattle.std.proofs.lemmas.Bool.{false≢true}
+use Rattle.std.proofs.Common.{◌≡◌, ℕ, zero, suc, Bool, true, false, ◌||◌, ◌&&◌, cond, List, [], ◌∷◌, ◌++◌, map, take, drop, filter, Option, Some, None, option_map, option_and_then, refl, sym, ap, ap₂, ◌∙◌}
+use Rattle.std.specs.List.{cons_option, filter_map, AllByRecursion}
 use Rattle.std.proofs.lemmas.List.Elements.{filter_map-append}
 use Rattle.rd_base.proofs.lemmas.Each.{each_one, each_both}
 use Rattle.rd_base.proofs.lemmas.Pairs.{PairsByRecursion}
 use Rattle.event_model.specs.Same.{RequestName, is_same_request}
 use Rattle.event_model.specs.Events.{Event, last_event, event_moment, last_said, is_young}
-use Rattle.event_model.specs.KeptAnswers.{max_answers, Answer, answer_kept, is_named_among, is_use_of, names_used, is_live_answer, kept_answer, KeptAnswer, kept_answer_of, kept_answers_at}
+use Rattle.event_model.specs.KeptAnswers.{max_answers, Answer, answer_kept, is_named_among, is_use_of, names_used, kept_answer, KeptAnswer, kept_answer_of, kept_answers_at}
 use Rattle.event_model.proofs.SameLaws.{is_same_request-refl}
 use Rattle.transfers.specs.TransferEvents.{answer_of, AnswersStandFor}
 use Rattle.transfers.proofs.KeptEvents.{Differ, other_way, names-differ, young_event, live_is, kept_used}

@@ -1,19 +1,18 @@
 -- The kept answers of a cache by their numbers: the number that is found under a name, and what is put under one.
-use Rattle.std.proofs.Common.{◌≡◌, ℕ, ◌+◌, ◌-◌, ◌<◌, ◌≤◌, zero, suc, nat_eq, Bool, true, false, cond, List, [], ◌∷◌, ◌++◌, length, map, take, find, Option, Some, None, option_map, option_and_then, is_some, unwrap_or, not, refl, sym, ap, subst, ◌∙◌, arith}
+use Rattle.std.proofs.Common.{◌≡◌, ℕ, ◌+◌, ◌-◌, ◌<◌, ◌≤◌, zero, suc, nat_eq, Bool, true, false, cond, List, [], ◌∷◌, ◌++◌, length, take, find, Option, Some, None, option_map, option_and_then, refl, sym, ap, subst, ◌∙◌, arith}
 use Rattle.std.specs.List.{AllByRecursion, IsDistinct}
 use Rattle.std.specs.Option.{option_map_or}
 use Rattle.std.specs.Map.{keys_of, lookup, lookup_entry, remove_entry}
-use Rattle.std.proofs.lemmas.Bool.{false≢true}
 use Rattle.rd_base.proofs.lemmas.Options.{none_some, some_same}
 use Rattle.rd_base.proofs.lemmas.Numbers.{eqb-refl}
 use Rattle.rd_base.proofs.lemmas.Each.{each_weaker}
 use Rattle.std.specs.Map.{set_value}
 use Rattle.lru.specs.LruCache.{LruCache, promoted, put_entries}
 use Rattle.event_model.specs.Events.{is_young}
-use Rattle.event_model.specs.Same.{RequestName, is_same_request}
-use Rattle.event_model.specs.KeptAnswers.{max_answers, KeptAnswer}
+use Rattle.event_model.specs.Same.{RequestName}
+use Rattle.event_model.specs.KeptAnswers.{KeptAnswer}
 use Rattle.event_model.proofs.SameLaws.{is_same_request-Decides}
-use Rattle.transfers.specs.Keeping.{is_kept_as, without_first, used, used_at, values, AreBelow, live_kept, after_reading, number_for}
+use Rattle.transfers.specs.Keeping.{is_kept_as, without_first, used, used_at, values, AreBelow, live_kept, number_for}
 use Rattle.transfers.proofs.KeptLists.{take_whole, length-without, without-none}
 
 -- pairs of numbers and answers

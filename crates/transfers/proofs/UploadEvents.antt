@@ -1,5 +1,5 @@
 -- What the uploads of a table stand for, as blocks come and uploads end.
-use Rattle.std.proofs.Common.{◌≡◌, ℕ, ◌+◌, ◌≤◌, ◌==◌, suc, Bool, true, false, not, ◌&&◌, ◌||◌, cond, List, [], ◌∷◌, ◌++◌, length, map, filter, find, Option, Some, None, option_map, option_and_then, is_some, refl, sym, ap, subst, ◌∙◌, arith, append-nil}
+use Rattle.std.proofs.Common.{◌≡◌, ℕ, ◌≤◌, ◌==◌, suc, Bool, true, false, not, ◌&&◌, ◌||◌, cond, List, [], ◌∷◌, ◌++◌, length, filter, find, Option, Some, None, option_map, option_and_then, is_some, refl, sym, ap, subst, ◌∙◌, arith, append-nil}
 use Rattle.std.specs.List.{cons_option, filter_map, list_any, AllByRecursion}
 use Rattle.std.proofs.lemmas.Bool.{false≢true, and_parts, or_parts}
 use Rattle.std.proofs.lemmas.List.Elements.{filter_map-append, filter-append}
@@ -7,9 +7,8 @@ use Rattle.std.proofs.lemmas.List.Folds.{list_any-append}
 use Rattle.rd_base.specs.declared.peers.Peer.{Peer}
 use Rattle.rd_base.proofs.lemmas.Filters.{filter_all, filter_stronger, filter_swapped, find-filter, any_kept}
 use Rattle.rd_base.proofs.lemmas.Options.{some_same, none_some}
-use Rattle.rd_base.proofs.lemmas.Each.{each_one, each_weaker, each_filter, each_passes, each_append}
+use Rattle.rd_base.proofs.lemmas.Each.{each_one, each_weaker, each_passes}
 use Rattle.rd_base.proofs.lemmas.Pairs.{PairsByRecursion, pairs_filter, pairs_push}
-use Rattle.message_model.specs.declared.blocks.Block.{Block}
 use Rattle.event_model.specs.declared.notes.Note.{Note}
 use Rattle.event_model.specs.declared.notes.Note.TheVariants as note
 use Rattle.event_model.specs.Same.{RequestName, is_same_request}
@@ -18,7 +17,7 @@ use Rattle.event_model.specs.Uploads.{collected_after, upload, is_piece_of, is_l
 use Rattle.event_model.proofs.SameLaws.{is_same_request-Decides, is_same_request-refl}
 use Rattle.event_model.proofs.NotedLaws.{event_at}
 use Rattle.event_model.proofs.AsideTables.{about_uploads, uploads_at-noted}
-use Rattle.transfers.specs.Uploading.{is_of, is_live_as, live_body, young_uploads, other_uploads, without_upload, first_block, with_block, grown_first, begun, gone_on, taken}
+use Rattle.transfers.specs.Uploading.{is_of, is_live_as, live_body, young_uploads, other_uploads, without_upload, first_block, with_block, grown_first, begun, gone_on}
 use Rattle.transfers.specs.TransferEvents.{UploadsStandFor}
 
 -- an event by its parts

@@ -1,4 +1,4 @@
-use Rattle.std.proofs.Common.{◌≡◌, ℕ, ◌+◌, ◌<◌, ◌++◌, ◌∷◌, nat_eq, length, sym, ap, subst, ◌∙◌, arith}
+use Rattle.std.proofs.Common.{ℕ, ◌+◌, ◌<◌, ◌++◌, ◌∷◌, length, sym, ap, subst, ◌∙◌, arith}
 use Rattle.lru.specs.LruCache.{LruCache}
 use Rattle.event_model.specs.KeptAnswers.{KeptAnswer}
 use Rattle.transfers.specs.Keeping.{values, AreBelow}

@@ -1,4 +1,4 @@
-use Rattle.std.proofs.Common.{◌≡◌, ℕ, ◌+◌, nat_eq, sym, ap, subst, ◌∙◌}
+use Rattle.std.proofs.Common.{ℕ, ◌+◌, nat_eq, sym, ap, subst, ◌∙◌}
 use Rattle.lru.specs.LruCache.{LruCache, put_entries}
 use Rattle.event_model.specs.KeptAnswers.{KeptAnswer}
 use Rattle.transfers.specs.Keeping.{values, AreBelow}

@@ -1,9 +1,8 @@
-use Rattle.std.proofs.Common.{◌≡◌, ℕ, ◌≤◌, ◌∷◌, Some, None, Bool, true, false, not, nat_eq, length, is_some, option_map, refl, sym, ap, subst, ◌∙◌, arith}
+use Rattle.std.proofs.Common.{ℕ, ◌≤◌, nat_eq, length, is_some, option_map, sym, ap, ◌∙◌, arith}
 use Rattle.std.specs.Map.{lookup, remove_entry}
 use Rattle.lru.specs.LruCache.{LruCache}
 use Rattle.event_model.specs.KeptAnswers.{KeptAnswer}
-use Rattle.event_model.specs.Events.{is_young}
-use Rattle.transfers.specs.Keeping.{is_kept_as, live_kept, used_at, values, after_reading}
+use Rattle.transfers.specs.Keeping.{is_kept_as, used_at, values, after_reading}
 use Rattle.transfers.proofs.NumberLaws.{live-none, live-old, live-young, found_entry, values-used, lookup-first}
 use Rattle.transfers.proofs.caching.read.Goals as goal
 

@@ -1,5 +1,5 @@
-use Rattle.std.proofs.Common.{◌≡◌, ◌∷◌, Some, None, nat_eq, refl, sym, ap, ◌∙◌}
-use Rattle.std.specs.Map.{lookup, remove_entry, set_value}
+use Rattle.std.proofs.Common.{nat_eq, ap, ◌∙◌}
+use Rattle.std.specs.Map.{set_value}
 use Rattle.lru.specs.LruCache.{lru_cache, promoted}
 use Rattle.rd_base.proofs.lemmas.Options.{none_some, some_same}
 use Rattle.transfers.specs.Keeping.{used_at}

@@ -1,5 +1,4 @@
-use Rattle.std.proofs.Common.{◌≡◌, ◌<◌, ◌≤◌, length, None, refl, sym, ap, subst, ◌∙◌, arith}
-use Rattle.transfers.specs.Uploading.{live_body, young_uploads, other_uploads, taken}
+use Rattle.std.proofs.Common.{◌≤◌, length, refl, ap, arith}
 use Rattle.transfers.specs.declared.collecting.Upload.TheVariants as answer
 use Rattle.transfers.proofs.UploadLists.{length-taken}
 use Rattle.transfers.proofs.BlockLaws.{room_for}

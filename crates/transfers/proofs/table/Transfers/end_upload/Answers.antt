@@ -1,6 +1,6 @@
-use Rattle.std.proofs.Common.{◌∷◌, length, refl, sym, ap, subst, ◌∙◌, arith}
+use Rattle.std.proofs.Common.{◌∷◌, length, refl, sym, ap, subst, arith}
 use Rattle.transfers.specs.Keeping.{values}
-use Rattle.transfers.specs.TransferEvents.{Table, UploadsStandFor, TransfersStandFor}
+use Rattle.transfers.specs.TransferEvents.{UploadsStandFor, TransfersStandFor}
 use Rattle.transfers.proofs.UploadLists.{length-without}
 use Rattle.transfers.proofs.UploadEvents.{UploadsStandFor-ended}
 use Rattle.transfers.proofs.KeptEvents.{AnswersStandFor-aside}

@@ -1,9 +1,8 @@
-use Rattle.std.proofs.Common.{◌≡◌, ◌∷◌, Some, None, refl, sym, ap, ap₂, subst, ◌∙◌, option_map, option_and_then}
+use Rattle.std.proofs.Common.{◌≡◌, ◌∷◌, Some, None, refl, sym, ap, ap₂, subst, ◌∙◌, option_map}
 use Rattle.rd_base.proofs.lemmas.Options.{some_same}
-use Rattle.event_model.specs.Uploads.{Upload}
-use Rattle.event_model.specs.KeptAnswers.{Answer, KeptAnswer}
+use Rattle.event_model.specs.KeptAnswers.{KeptAnswer}
 use Rattle.transfers.specs.Keeping.{live_kept, values, used_at, after_reading}
-use Rattle.transfers.specs.TransferEvents.{Table, AnswersStandFor, TransfersStandFor, answer_read}
+use Rattle.transfers.specs.TransferEvents.{AnswersStandFor, TransfersStandFor}
 use Rattle.transfers.proofs.KeptLists.{is_none, is_present}
 use Rattle.transfers.proofs.UploadEvents.{UploadsStandFor-aside}
 use Rattle.transfers.proofs.KeptEvents.{kept-is, AnswersStandFor-read}

@@ -1,6 +1,6 @@
-use Rattle.std.proofs.Common.{map, ◌≡◌, sym, ap, subst, ◌∙◌}
+use Rattle.std.proofs.Common.{map, sym, ap, subst}
 use Rattle.event_model.specs.Events.{noted}
-use Rattle.transfers.specs.Keeping.{values, kept_each}
+use Rattle.transfers.specs.Keeping.{values}
 use Rattle.transfers.specs.TransferEvents.{Table, AnswersStandFor, kept_note}
 use Rattle.transfers.proofs.KeptEvents.{AnswersStandFor-kept_each}
 use Rattle.transfers.proofs.table.Transfers.ready.Goals as goal

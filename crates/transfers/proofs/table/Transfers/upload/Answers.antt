@@ -1,6 +1,6 @@
-use Rattle.std.proofs.Common.{◌∷◌, refl, sym, ap, subst, ◌∙◌}
+use Rattle.std.proofs.Common.{◌∷◌, refl, sym, subst, ◌∙◌}
 use Rattle.transfers.specs.Keeping.{values}
-use Rattle.transfers.specs.TransferEvents.{Table, UploadsStandFor, TransfersStandFor}
+use Rattle.transfers.specs.TransferEvents.{UploadsStandFor, TransfersStandFor}
 use Rattle.transfers.proofs.KeptEvents.{AnswersStandFor-aside}
 use Rattle.transfers.proofs.TransferLaws.{answer-is, UploadsStandFor-taken, more-not_starved}
 use Rattle.transfers.proofs.table.Transfers.upload.Goals as goal
