@@ -1,0 +1,4 @@
+mod OutboxLaws
+mod ReplySizes
+mod AskedLaws
+mod SendingLaws

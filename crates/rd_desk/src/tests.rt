@@ -1,0 +1,1 @@
+//! Outboxes, Message IDs and looks.
