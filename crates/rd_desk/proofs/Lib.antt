@@ -2,3 +2,4 @@ mod OutboxLaws
 mod ReplySizes
 mod AskedLaws
 mod SendingLaws
+mod RefusalLaws

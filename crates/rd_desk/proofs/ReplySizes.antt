@@ -1,11 +1,12 @@
 -- How long messages are that are written option by option.
-use Rattle.std.proofs.Common.{◌≡◌, ℕ, ◌+◌, ◌-◌, ◌/◌, ◌%◌, ◌≤◌, Bool, true, false, List, [], ◌∷◌, ◌++◌, length, sym, ap, subst, ◌∙◌, arith, append-nil, if◌then◌else◌, nat_lt}
+use Rattle.std.proofs.Common.{◌≡◌, ℕ, zero, suc, lit≤, ◌<◌, ◌+◌, ◌-◌, ◌/◌, ◌%◌, ◌≤◌, Bool, true, false, List, [], ◌∷◌, ◌++◌, length, sym, ap, subst, ◌∙◌, arith, append-nil, if◌then◌else◌, nat_lt}
 use Rattle.std.proofs.lemmas.List.{length-append}
 use Rattle.message_model.specs.Message.{Message, Opt, end_number}
 use Rattle.message_model.specs.declared.messages.Kind4.{Kind4}
 use Rattle.message_model.specs.Spelling.{first_extended, first_long, nibble_of, extension_of, header_spelling, option_spelling, options_spelling, payload_spelling, spelling}
 use Rattle.coap_message.specs.PartialMessages.{with_last_option, with_payload, bare_message}
 use Rattle.message_model.proofs.OrderLemmas.{end_number-push}
+use Rattle.message_model.specs.Blocks.{block_size}
 use Rattle.rd_desk.specs.Writing.{IsReadyFor}
 use Rattle.coap_message.proofs.WriterLemmas.{spelled_option, spelled_payload}
 
@@ -66,3 +67,14 @@ ready_after number value m after ready is = subst (IsReadyFor number) (sym is) (
 -- and of any later one
 pub ready_later : (number later : ℕ) (m : Message) → IsReadyFor number m → number ≤ later → IsReadyFor later m
 ready_later number later m ready most = record { filled = ready.filled; open_end = ready.open_end; ascends = let a = ready.ascends in omega (arith, a, most) }
+
+-- no block is longer than 1,024 octets (RFC 7959 section 2.2)
+pub block_short : (szx : ℕ) → szx < 7 → block_size szx ≤ 1_024
+block_short zero h = lit≤ tt
+block_short (suc zero) h = lit≤ tt
+block_short (suc (suc zero)) h = lit≤ tt
+block_short (suc (suc (suc zero))) h = lit≤ tt
+block_short (suc (suc (suc (suc zero)))) h = lit≤ tt
+block_short (suc (suc (suc (suc (suc zero))))) h = lit≤ tt
+block_short (suc (suc (suc (suc (suc (suc zero)))))) h = lit≤ tt
+block_short (suc (suc (suc (suc (suc (suc (suc n))))))) h = absurd (omega (arith, h))

@@ -1,11 +1,11 @@
 -- What is sent is what an effect sends.
-use Rattle.std.proofs.Common.{◌≡◌, ℕ, List, [], ◌∷◌, ◌++◌, sym, ap, ◌∙◌}
+use Rattle.std.proofs.Common.{◌≡◌, ℕ, List, [], ◌∷◌, ◌++◌, refl, sym, ap, ◌∙◌, append-nil}
 use Rattle.rd_base.specs.declared.peers.Peer.{Peer}
 use Rattle.message_model.specs.Message.{Message}
 use Rattle.message_model.specs.Spelling.{spelling}
 use Rattle.event_model.specs.declared.notes.Note.{Note}
 use Rattle.journal_model.specs.declared.steps.Step.{Step}
-use Rattle.journal_model.specs.Effects.{Reply, answer, answering, drawn_for}
+use Rattle.journal_model.specs.Effects.{Reply, nothing, answer, answering, drawn_for}
 use Rattle.journal_model.specs.UnfinishedRow.{drawing}
 use Rattle.rd_desk.specs.declared.mids.Mids.{Mids}
 use Rattle.rd_desk.specs.Sendings.{IsStepOf, Sends}
@@ -20,3 +20,7 @@ sends_answer s m reply notes sender before now mids_before mids datagram of sent
   worker = worker;
   drawn = drawn;
 }
+
+-- nothing is sent, and nothing is drawn
+pub sends_nothing : (before : List (Peer × List ℕ)) (mids : Mids) → Sends nothing before before mids mids
+sends_nothing before mids = record { sent = sym (append-nil before); worker = refl; drawn = refl }

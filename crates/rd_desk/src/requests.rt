@@ -5,7 +5,7 @@ ghost use Rattle.coap_message.specs.Views.{message_in};
 ghost use Rattle.coap_options.specs.Meanings.{IsMeaning, HasShortBlocks, HasReadableBlocks};
 ghost use Rattle.journal_model.specs.Requests as requests_of;
 ghost use Rattle.journal_model.specs.Machine.{is_look_datagram};
-ghost use Rattle.rd_desk.specs.Asking.{is_plain_lookup, refused_with};
+ghost use Rattle.rd_desk.specs.Asking.{is_plain_lookup, refused_with, IsRefusedBy};
 
 use block_wise::block_read;
 use coap_message::{View, role_of, view};
@@ -168,6 +168,7 @@ pub(crate) fn asked<'a>(view: &View<'a>) -> Result<Meaning<'a>, Refused>
     ensures readable { IfOk result HasReadableBlocks }
     ensures accepted { OnOk result (requests_of.refusal_of_request (message_in view.now) ≡ None) }
     ensures refused { IfErr result (λ refused. requests_of.refusal_of_request (message_in view.now) ≡ Some (refused_with refused)) }
+    ensures by { IfErr result (λ refused. IsRefusedBy refused (message_in view.now)) }
 {
     let meaning = match request(view) {
         Ok(meaning) => meaning,
