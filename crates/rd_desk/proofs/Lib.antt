@@ -1,0 +1,5 @@
+mod OutboxLaws
+mod ReplySizes
+mod AskedLaws
+mod SendingLaws
+mod RefusalLaws

@@ -1,0 +1,5 @@
+pub mod Outboxes
+pub mod Replies
+pub mod Sendings
+pub mod Asking
+pub mod Writing

@@ -1,0 +1,60 @@
+//! The answer to a request that is refused for itself (RFC 7252 sections 5.4.1 and 5.5.2).
+ghost use Rattle.std.specs.Prelude.{◌≡◌, ◌<◌, ◌≤◌, length};
+ghost use Rattle.message_model.specs.Message.{longest_token};
+ghost use Rattle.message_model.specs.OptionTable.{first_bad_option};
+ghost use Rattle.coap_message.specs.Views.{message_in};
+ghost use Rattle.journal_model.specs.declared.steps.Step.{Step};
+ghost use Rattle.journal_model.specs.Rows.{refusal_answered};
+ghost use Rattle.rd_desk.specs.Asking.{refused_with, IsRefusedBy, is_passed_over};
+ghost use Rattle.rd_desk.specs.Outboxes.{most_datagrams};
+ghost use Rattle.rd_desk.specs.Replies.{IsReply, reply_said};
+ghost use Rattle.rd_desk.specs.Sendings.{IsStepOf, Sends};
+
+use crate::refusals::{code_of, word_of};
+use crate::replies::{Reply, answer};
+use crate::requests::Refused;
+use crate::{Mids, Outbox};
+use coap_message::{Kind4, View};
+use coap_options::Refusal;
+use rd_base::Peer;
+
+/// What is said of a refusal.
+fn reply_to(refused: Refused) -> Reply<'static>
+    ensures said { reply_said result ≡ refused_with refused }
+    ensures reply { IsReply result }
+{
+    match refused {
+        Refused::Request(refusal) => Reply::plain(code_of(refusal), word_of(refusal)),
+        Refused::Query => Reply::plain(128, b"query"),
+        Refused::Payload => Reply::plain(128, b"payload"),
+    }
+}
+
+/// Whether nothing is answered: an unrecognized critical option in a message that is not confirmable (RFC 7252 section 5.4.1).
+fn is_passed_over(kind: Kind4, refused: &Refused) -> bool
+    ensures { result ≡ is_passed_over kind refused.now }
+{
+    match refused {
+        Refused::Request(Refusal::BadOption(_)) => kind == Kind4::Non,
+        Refused::Request(_) | Refused::Query | Refused::Payload => false,
+    }
+}
+
+/// A request is refused.
+pub(crate) fn refuse(
+    mids: &mut Mids,
+    peer: Peer,
+    view: &View<'_>,
+    refused: Refused,
+    out: &mut Outbox,
+)
+    requires token { length view.now.token.now ≤ longest_token }
+    requires refused { IsRefusedBy refused (message_in view.now) }
+    requires room { length out.old < most_datagrams }
+    ensures sends { (s : Step) → IsStepOf s peer mids.old → Sends (refusal_answered view.now.kind (first_bad_option (message_in view.now).options) s (message_in view.now) (refused_with refused)) out.old out.new mids.old mids.new }
+{
+    if is_passed_over(view.kind, &refused) {
+        return;
+    }
+    answer(mids, peer, view, &reply_to(refused), out);
+}
