@@ -1,1 +1,2 @@
--- To come.
+-- Events: EventLaws (the observers that stand after a note about them).
+pub mod EventLaws

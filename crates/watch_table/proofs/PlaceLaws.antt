@@ -2,8 +2,10 @@
 use Rattle.std.proofs.Common.{◌≡◌, ℕ, ◌+◌, ◌-◌, ◌<◌, ◌≤◌, zero, suc, nat_eq, Bool, true, false, cond, List, [], ◌∷◌, ◌++◌, map, take, drop, length, is_some, Some, None, Option, slice_get, refl, sym, ap, ◌∙◌, arith, eqb-true, ne_eqb}
 use Rattle.std.specs.Map.{lookup, remove_entry, values_of}
 use Rattle.std.proofs.lemmas.Bool.{false≢true}
+use Rattle.rd_base.specs.declared.queries.Query.{Query}
+use Rattle.event_model.specs.Same.{is_same_query}
 use Rattle.indexmap.specs.IndexMap.{set_value_at}
-use Rattle.watch_table.specs.WatchedQueries.{Watched, Table}
+use Rattle.watch_table.specs.WatchedQueries.{Watched, Table, place_of}
 use Rattle.watch_table.specs.Places.{changed_at}
 
 -- ---- a free place
@@ -42,16 +44,16 @@ places_used (suc n) es h =
 -- ---- one after the other
 
 -- a write at an index where this was
-pub changed-written : (change : Watched → Watched) (es : Table) (i : ℕ) (w : Watched) → slice_get (values_of es) i ≡ Some w → set_value_at es i (change w) ≡ changed_at change i es
+pub changed-written : (change : Watched → Watched) (es : Table) (i : ℕ) (w : Watched) → Some w ≡ slice_get (values_of es) i → set_value_at es i (change w) ≡ changed_at change i es
 changed-written change [] i w is = refl
 changed-written change (e ∷ es) zero w is = let same : e.1 ≡ w = cc in rw same refl
 changed-written change (e ∷ es) (suc i) w is = ap (λ rest. e ∷ rest) (changed-written change es i w is)
 
 -- past the end nothing changes
-pub changed-past : (change : Watched → Watched) (es : Table) (i : ℕ) → length es ≤ i → es ≡ changed_at change i es
+pub changed-past : (change : Watched → Watched) (es : Table) (i : ℕ) → None ≡ slice_get (values_of es) i → es ≡ changed_at change i es
 changed-past change [] i past = refl
-changed-past change (e ∷ es) zero past = absurd (omega arith)
-changed-past change (e ∷ es) (suc i) past = ap (λ rest. e ∷ rest) (changed-past change es i (omega arith))
+changed-past change (e ∷ es) zero past = absurd cc
+changed-past change (e ∷ es) (suc i) past = ap (λ rest. e ∷ rest) (changed-past change es i past)
 
 -- those before an index are changed, and those from it on are not yet
 abbrev pub changed_before : (Watched → Watched) → ℕ → Table → Table
@@ -68,7 +70,7 @@ changed-next change (e ∷ es) zero = refl
 changed-next change (e ∷ es) (suc i) = ap (λ rest. (e.0, change e.1) ∷ rest) (changed-next change es i)
 
 pub changed-more : (change : Watched → Watched) (es : Table) (i : ℕ) → changed_at change i (changed_before change i es) ≡ changed_before change (i + 1) es
-changed-more change es i = changed-next change es i ∙ ap (λ n. changed_before change n es) (omega arith)
+changed-more change es i = changed-next change es i ∙ (let more : suc i ≡ i + 1 = omega arith in ap (λ n. changed_before change n es) more)
 
 pub changed-all : (change : Watched → Watched) (es : Table) (i : ℕ) → length es ≤ i → changed_before change i es ≡ map (λ (e : ℕ × Watched). (e.0, change e.1)) es
 changed-all change [] zero past = refl
@@ -80,3 +82,19 @@ pub changed-length : (change : Watched → Watched) (es : Table) (i : ℕ) → l
 changed-length change [] i = refl
 changed-length change (e ∷ es) zero = refl
 changed-length change (e ∷ es) (suc i) = ap suc (changed-length change es i)
+
+-- ---- the place of a query
+
+-- from an entry on
+from_index : (es : Table) (i : ℕ) (e : ℕ × Watched) → Some e ≡ slice_get es i → drop i es ≡ e ∷ drop (suc i) es
+from_index [] i e is = absurd cc
+from_index (x ∷ es) zero e is = let same : x ≡ e = cc in ap (λ y. y ∷ es) same
+from_index (x ∷ es) (suc i) e is = from_index es i e is
+
+pub place-here : (query : Query) (es : Table) (i : ℕ) (e : ℕ × Watched) → Some e ≡ slice_get es i → is_same_query e.1.query query ≡ true → Some e.0 ≡ place_of query (drop i es)
+place-here query es i e is same = rw (from_index es i e is, same) refl
+
+pub place-next : (query : Query) (es : Table) (i : ℕ) (e : ℕ × Watched) → Some e ≡ slice_get es i → is_same_query e.1.query query ≡ false → place_of query (drop (i + 1) es) ≡ place_of query (drop i es)
+place-next query es i e is other =
+    let more : i + 1 ≡ suc i = omega arith in
+    ap (λ n. place_of query (drop n es)) more ∙ sym (ap (place_of query) (from_index es i e is) ∙ (rw other refl))

@@ -3,6 +3,7 @@
 
 mod faults;
 mod places;
+mod same_queries;
 mod table;
 mod watch;
 

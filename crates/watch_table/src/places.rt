@@ -1,18 +1,20 @@
 //! Watched queries by their places: one watcher more, one fewer, and a place for a query that is not watched yet.
-ghost use Rattle.std.specs.Prelude.{◌≡◌, ℕ, ◌+◌, ◌≤◌, ◌<◌, ◌-◌, ◌^◌, nat_le, List, Some, None, false, IsSome, IsOk, ◌∷◌, [], ◌++◌};
+ghost use Rattle.std.specs.Prelude.{◌≡◌, ◌≢◌, ℕ, ◌+◌, ◌≤◌, ◌<◌, ◌-◌, ◌^◌, nat_le, List, Some, None, false, IsSome, IsOk, ◌∷◌, [], ◌++◌};
 ghost use Rattle.std.specs.List.{list_any};
+ghost use Rattle.std.specs.Arc.{arc_value};
 ghost use Rattle.std.specs.Option.{option_copied};
 ghost use Rattle.rd_base.specs.declared.queries.Query.{Query as Sought};
 ghost use Rattle.indexmap.specs.IndexMap.{index_map_len, spare, values};
-ghost use Rattle.watch_table.specs.WatchedQueries.{watched_at, place_of, watched_first, one_more, one_fewer, without, touched, unmarked};
+ghost use Rattle.watch_table.specs.WatchedQueries.{watched_at, place_of, watched_first, one_more, one_fewer, without, touched, unmarked, with_body};
 ghost use Rattle.watch_table.specs.Places.{has_last, CanCount, IsFree, changed_at};
 ghost use Rattle.watch_table.specs.Outcomes.{Watches};
 
 use crate::WatchFault;
 use crate::watch::Watch;
 use indexmap::IndexMap;
-use rd_base::{Query, Record};
+use rd_base::{Bytes, Query, Record};
 use std::alloc::Global;
+use std::sync::Arc;
 
 /// How many queries are watched at most.
 pub(crate) const MAX_WATCHED: usize = 256;
@@ -21,10 +23,14 @@ pub(crate) const MAX_WATCHED: usize = 256;
 fn find_place(watches: &IndexMap<u32, Watch>, query: &Query) -> Option<u32>
     ensures { result ≡ place_of query.now watches.now.entries }
 {
-    watches
-        .iter()
-        .find(|(_, watch)| watch.is_of(query))
-        .map(|(place, _)| *place)
+    'watches: for index in 0..watches.len() {
+        if let Some((place, watch)) = watches.get_index(index) {
+            if watch.is_of(query) {
+                return Some(*place);
+            }
+        }
+    }
+    None
 }
 
 /// Whether no further watcher of some query can be counted.
@@ -97,6 +103,16 @@ pub(crate) fn touch_at(
     }
 }
 
+/// Sets the body of the query at a place, where one is watched.
+pub(crate) fn set_body(watches: &mut IndexMap<u32, Watch>, place: u32, body: Arc<Bytes>)
+    ensures set { watches.new.entries ≡ with_body place (arc_value body) watches.old.entries }
+    ensures len { index_map_len watches.new ≡ index_map_len watches.old }
+{
+    if let Some(watch) = watches.get_mut(&place) {
+        watch.set_body(body);
+    }
+}
+
 /// Takes the mark off what the entry with an index watches.
 pub(crate) fn unmark_at(watches: &mut IndexMap<u32, Watch>, index: usize)
     ensures len { index_map_len watches.new ≡ index_map_len watches.old }
@@ -145,6 +161,7 @@ fn watch_given(
     requires few { index_map_len watches.old ≤ 256 }
     requires room { 0 < spare watches.old }
     ensures outcome { Watches query.now watches.old.entries watches.old.entries result watches.new.entries }
+    ensures given { result ≢ Err WatchFault.Starved }
     ensures few { index_map_len watches.new ≤ 256 }
 {
     if let Some(place) = find_place(watches, query) {

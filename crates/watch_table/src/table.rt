@@ -7,7 +7,7 @@ ghost use Rattle.watch_table.specs.WatchedQueries.{watched_at, query_at, is_mark
 ghost use Rattle.watch_table.specs.Watchers.{WatchesStandFor, IsFullAmong};
 
 use crate::WatchFault;
-use crate::places::{MAX_WATCHED, leave, touch_at, unmark_at, watch_instead};
+use crate::places::{MAX_WATCHED, leave, set_body, touch_at, unmark_at, watch_instead};
 use crate::watch::Watch;
 use indexmap::IndexMap;
 use rd_base::{Bytes, Query, Record, Starved};
@@ -129,8 +129,6 @@ impl WatchTable {
         ensures set { self.new ≡ with_body place (arc_value body) self.old }
         ensures stands { (standing : List Observer) → WatchesStandFor standing self.old → WatchesStandFor standing self.new }
     {
-        if let Some(watch) = self.watches.get_mut(&place) {
-            watch.set_body(body);
-        }
+        set_body(&mut self.watches, place, body);
     }
 }

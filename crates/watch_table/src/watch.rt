@@ -6,6 +6,7 @@ ghost use Rattle.history_model.specs.ChangedParts.{is_other_part};
 ghost use Rattle.event_model.specs.Same.{is_same_query};
 ghost use Rattle.watch_table.specs.WatchedQueries.{watched_first, touched, unmarked};
 
+use crate::same_queries::is_same_query;
 use listing::same_part;
 use rd_base::{Bytes, Query, Record};
 use std::marker::Model;
@@ -58,7 +59,7 @@ impl Watch {
     pub(crate) fn is_of(&self, query: &Query) -> bool
         ensures { result ≡ is_same_query self.now.query query.now }
     {
-        self.query == *query
+        is_same_query(&self.query, query)
     }
 
     /// Whether one watcher is left at most.
