@@ -1,2 +1,3 @@
 pub mod Watchers
 pub mod ObserverEvents
+pub mod AwaitedPeers

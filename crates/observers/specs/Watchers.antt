@@ -1,6 +1,6 @@
 -- The observers of a table: which is found, and what changes (RFC 7641 section 4).
-use Rattle.std.specs.Prelude.{◌≡◌, ℕ, ◌+◌, zero, suc, Bool, true, false, not, ◌&&◌, ◌||◌, ◌==◌, List, [], ◌∷◌, drop, Option, Some, None, is_some, option_map, if◌then◌else◌}
-use Rattle.std.specs.List.{list_any, position}
+use Rattle.std.specs.Prelude.{◌≡◌, ℕ, ◌+◌, zero, suc, Bool, true, false, not, ◌&&◌, ◌||◌, ◌==◌, List, [], ◌∷◌, drop, Option, Some, None, is_some, if◌then◌else◌}
+use Rattle.std.specs.List.{list_any}
 use Rattle.rd_base.specs.declared.peers.Peer.{Peer}
 use Rattle.event_model.specs.Same.{is_same_peer, is_same_request}
 use Rattle.event_model.specs.Flights.{Sent}
@@ -21,16 +21,16 @@ pub record Watcher : Type 0 where
 
 -- the observer of this peer and token
 abbrev pub is_named : Peer → List ℕ → Watcher → Bool
-is_named peer token w = is_same_request (w.peer, w.token) (peer, token)
+is_named peer token w = is_same_request (peer, token) (w.peer, w.token)
 
 -- the message has this Message ID
 abbrev pub is_sent_as : ℕ → Option Sent → Bool
 is_sent_as mid None = false
-is_sent_as mid (Some s) = s.mid == mid
+is_sent_as mid (Some s) = mid == s.mid
 
 -- an observer of this peer, to which a notice with this Message ID is in flight
 abbrev pub has_notice : Peer → ℕ → Watcher → Bool
-has_notice peer mid w = is_same_peer w.peer peer && is_sent_as mid w.flight
+has_notice peer mid w = is_same_peer peer w.peer && is_sent_as mid w.flight
 
 -- a notice is in flight to one of the observers of a peer
 abbrev pub is_awaited : Peer → List Watcher → Bool
@@ -40,9 +40,14 @@ is_awaited peer ws = list_any (λ w. is_same_peer w.peer peer && is_some w.fligh
 abbrev pub is_ready : List Watcher → Watcher → Bool
 is_ready ws w = w.due && not (is_awaited w.peer ws)
 
--- the first index from a number on whose observer is so
+-- the first of them that passes a test, as they are counted from a number on
+abbrev pub first_from : (Watcher → Bool) → ℕ → List Watcher → Option ℕ
+first_from test i [] = None
+first_from test i (w ∷ ws) = if test w then Some i else first_from test (i + 1) ws
+
+-- the first index from a number on whose observer is due and free
 unfoldable pub next_ready : ℕ → List Watcher → Option ℕ
-next_ready from ws = option_map (λ i. from + i) (position (is_ready ws) (drop from ws))
+next_ready from ws = first_from (is_ready ws) from (drop from ws)
 
 -- an observer after a mark of a place: it is due where its query is watched there
 abbrev pub marked : ℕ → Watcher → Watcher

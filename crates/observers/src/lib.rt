@@ -3,6 +3,10 @@
 
 mod observer;
 mod table;
+mod walks;
 
 pub use observer::Observer;
 pub use table::{FullObservers, Observers};
+
+#[cfg(test)]
+mod tests;

@@ -1,6 +1,5 @@
 //! An observer of a lookup.
-ghost use Rattle.std.specs.Prelude.{◌≡◌, ◌&&◌, is_some};
-ghost use Rattle.event_model.specs.Same.{is_same_peer};
+ghost use Rattle.std.specs.Prelude.{◌≡◌};
 ghost use Rattle.std.specs.Arc.{arc_value};
 ghost use Rattle.observers.specs.Watchers.{is_named, has_notice, marked, noticed, seen, landed, due_of, timed};
 
@@ -44,14 +43,21 @@ impl Observer {
     pub(crate) fn is_named(&self, peer: &Peer, token: &Token) -> bool
         ensures { result ≡ is_named peer.now token.now self.now }
     {
-        self.peer == *peer && self.token == *token
+        *peer == self.peer && *token == self.token
     }
 
-    /// Whether it is an observer of this peer, to which a notice is in flight.
-    pub(crate) fn is_awaiting(&self, peer: &Peer) -> bool
-        ensures { result ≡ (is_same_peer self.now.peer peer.now && is_some self.now.flight) }
+    /// Whether it is due.
+    pub(crate) fn is_due(&self) -> bool
+        ensures { result ≡ self.now.due }
     {
-        self.peer == *peer && self.flight.is_some()
+        self.due
+    }
+
+    /// Where its notices go.
+    pub(crate) fn peer(&self) -> &Peer
+        ensures { result.now ≡ self.now.peer }
+    {
+        &self.peer
     }
 
     /// Whether it is an observer of this peer, to which a notice with this Message ID is in flight.
@@ -59,7 +65,7 @@ impl Observer {
         ensures { result ≡ has_notice peer.now mid self.now }
     {
         match &self.flight {
-            Some(sent) => self.peer == *peer && sent.mid == mid,
+            Some(sent) => *peer == self.peer && mid == sent.mid,
             None => false,
         }
     }

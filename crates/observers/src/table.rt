@@ -1,6 +1,6 @@
 //! The table of observers.
-ghost use Rattle.std.specs.Prelude.{◌≡◌, ◌≢◌, ◌↔◌, ℕ, ◌≤◌, ◌<◌, List, [], ◌∷◌, ◌++◌, false, Some, None, map, find, remove, slice_get, length, option_map, IfOk, OnOk, OnErr, IsErr, IsTrue};
-ghost use Rattle.std.specs.List.{list_any, position};
+ghost use Rattle.std.specs.Prelude.{◌≡◌, ◌≢◌, ◌↔◌, ℕ, ◌≤◌, ◌<◌, List, [], ◌∷◌, ◌++◌, false, Some, None, map, find, remove, slice_get, length, option_map, IfOk, IfSome, OnOk, OnErr, IsErr, IsTrue};
+ghost use Rattle.std.specs.List.{list_any};
 ghost use Rattle.std.specs.Arc.{arc_value};
 ghost use Rattle.rd_base.specs.declared.queries.Query.{Query};
 ghost use Rattle.event_model.specs.declared.notes.Note.TheVariants as note;
@@ -14,6 +14,10 @@ ghost use Rattle.observers.specs.Watchers.{Watcher, is_named, has_notice, is_awa
 ghost use Rattle.observers.specs.ObserverEvents.{observer_of, ObserversStandFor, NoneLater, notice_due};
 
 use crate::Observer;
+use crate::walks::{
+    gather, index_of, index_of_notice, land_first, mark_all, next_in, notice_at, peer_at, see_at,
+    take, time_at,
+};
 use exchange_core::{Again, Sent, Token};
 use rd_base::{Bytes, Moment, Peer, Starved};
 use std::alloc::Global;
@@ -32,6 +36,8 @@ pub struct FullObservers;
 pub struct Observers {
     /// The observers.
     items: Vec<Observer>,
+    /// The peers that notices are in flight to, by which the next that is due is found in one walk.
+    awaited: Vec<Peer>,
 }
 
 impl Model for Observers {
@@ -40,9 +46,11 @@ impl Model for Observers {
 
     ghost Value = { List Watcher };
 
+    ghost use Rattle.observers.specs.AwaitedPeers.{AreAwaited};
+
     ghost view = { λ t. t.items.items };
 
-    ghost invariant = { λ t. (vec_len t.items ≤ 1_024) × (1_024 ≤ vec_capacity t.items) };
+    ghost invariant = { λ t. (vec_len t.items ≤ 1_024) × (1_024 ≤ vec_capacity t.items) × (1_024 ≤ vec_capacity t.awaited) × AreAwaited t.items.items t.awaited.items };
 }
 
 impl Observers {
@@ -52,7 +60,8 @@ impl Observers {
         ensures stands { (queries : ℕ → Query) (octets : OctetsSent) → IfOk result (λ t. ObserversStandFor queries octets [] [] t) }
     {
         let items = Vec::with_capacity(alloc, MAX_OBSERVERS)?;
-        Ok(Observers { items })
+        let awaited = Vec::with_capacity(alloc, MAX_OBSERVERS)?;
+        Ok(Observers { items, awaited })
     }
 
     /// Adds an observer at the end, for which a body was formed. No observer of its peer and token stands, and no notice is in flight to it.
@@ -79,27 +88,26 @@ impl Observers {
         ensures left { self.new ≡ without_first (is_named peer.now token.now) self.old }
         ensures stands { (queries : ℕ → Query) (octets : OctetsSent) (events : List Event) (transitions : List Transition) (e : Event) → e.note ≡ note.Unwatched peer.now token.now → ObserversStandFor queries octets events transitions self.old → ObserversStandFor queries octets (e ∷ events) transitions self.new }
     {
-        let index = self
-            .items
-            .iter()
-            .position(|observer| observer.is_named(peer, token))?;
-        Some(self.items.remove(index))
+        let index = index_of(self.items.as_slice(), peer, token);
+        let taken = take(&mut self.items, index);
+        gather(&mut self.awaited, self.items.as_slice());
+        taken
     }
 
     /// Marks the observers whose query is watched at a place: they are due.
     pub fn mark(&mut self, place: u32)
         ensures { self.new ≡ map (marked place) self.old }
     {
-        'items: for item in self.items.iter_mut() {
-            item.mark(place);
-        }
+        mark_all(&mut self.items, place);
     }
 
     /// The first index from a number on of an observer that is due and to whose peer no notice is in flight.
     pub fn next_due(&self, from: usize) -> Option<usize>
         ensures next { result ≡ next_ready from self.now }
+        ensures within { IfSome result (λ i. (from ≤ i) × (i < length self.now)) }
+        ensures free { (i : ℕ) (w : Watcher) → result ≡ Some i → slice_get self.now i ≡ Some w → is_awaited w.peer self.now ≡ false }
     {
-        next_in(self.items.as_slice(), from)
+        next_in(self.items.as_slice(), self.awaited.as_slice(), from)
     }
 
     /// A notice with a body was formed for the observer with an index, to whose peer none is in flight: it is due no longer, and the notice is in flight to it.
@@ -109,7 +117,9 @@ impl Observers {
         ensures formed { self.new ≡ changed_at (noticed flight (arc_value body)) index self.old }
         ensures stands { (queries : ℕ → Query) (octets : OctetsSent) (events : List Event) (transitions : List Transition) (e : Event) (w : Watcher) → slice_get self.old index ≡ Some w → e.note ≡ note.Formed w.peer w.token (arc_value body) (Some flight.mid) → flight.octets ≡ octets e.place w.peer flight.mid → Resends e [] flight.resend → NoneLater e.place transitions → ObserversStandFor queries octets events transitions self.old → ObserversStandFor queries octets (e ∷ events) transitions self.new }
     {
-        self.items[index].notice(flight, body);
+        let peer = peer_at(self.items.as_slice(), index);
+        notice_at(&mut self.items, index, flight, body);
+        self.awaited.push_reserved(peer);
     }
 
     /// The listing of the observer with an index was found unchanged: it is due no longer.
@@ -118,7 +128,7 @@ impl Observers {
         ensures seen { self.new ≡ changed_at seen index self.old }
         ensures stands { (queries : ℕ → Query) (octets : OctetsSent) (events : List Event) (transitions : List Transition) (e : Event) (w : Watcher) → slice_get self.old index ≡ Some w → e.note ≡ note.Unchanged w.peer w.token → NoneLater e.place transitions → ObserversStandFor queries octets events transitions self.old → ObserversStandFor queries octets (e ∷ events) transitions self.new }
     {
-        self.items[index].see();
+        see_at(&mut self.items, index);
     }
 
     /// An acknowledgement of a peer with a Message ID came: it ends the flight of the notice that it is of, and the answer is whether there is one.
@@ -127,13 +137,9 @@ impl Observers {
         ensures landed { self.new ≡ changed_first (has_notice peer.now mid) landed self.old }
         ensures stands { (queries : ℕ → Query) (octets : OctetsSent) (events : List Event) (transitions : List Transition) (e : Event) → e.note ≡ note.Landed peer.now mid → ObserversStandFor queries octets events transitions self.old → ObserversStandFor queries octets (e ∷ events) transitions self.new }
     {
-        match index_of_notice(self.items.as_slice(), peer, mid) {
-            Some(index) => {
-                self.items[index].land();
-                true
-            }
-            None => false,
-        }
+        let found = land_first(&mut self.items, peer, mid);
+        gather(&mut self.awaited, self.items.as_slice());
+        found
     }
 
     /// A Reset of a peer with a Message ID came: it takes out the observer whose notice it is of, where there is one (RFC 7641 section 4.2).
@@ -142,8 +148,10 @@ impl Observers {
         ensures left { self.new ≡ without_first (has_notice peer.now mid) self.old }
         ensures stands { (queries : ℕ → Query) (octets : OctetsSent) (events : List Event) (transitions : List Transition) (e : Event) (w : Watcher) → result ≡ Some w → e.note ≡ note.Unwatched w.peer w.token → ObserversStandFor queries octets events transitions self.old → ObserversStandFor queries octets (e ∷ events) transitions self.new }
     {
-        let index = index_of_notice(self.items.as_slice(), peer, mid)?;
-        Some(self.items.remove(index))
+        let index = index_of_notice(self.items.as_slice(), peer, mid);
+        let taken = take(&mut self.items, index);
+        gather(&mut self.awaited, self.items.as_slice());
+        taken
     }
 
     /// What is due now of the notice in flight to the observer with an index, as it is by `Resend::at_tick`; `Wait` where none is in flight.
@@ -155,7 +163,7 @@ impl Observers {
         ensures stands { (queries : ℕ → Query) (octets : OctetsSent) (events : List Event) (transitions : List Transition) (e : Event) (w : Watcher) (s : Message) → result ≡ Again.Send → slice_get self.old index ≡ Some w → w.flight ≡ Some s → e.note ≡ note.Again w.peer s.mid → e.moment ≡ now.0 → ObserversStandFor queries octets events transitions self.old → ObserversStandFor queries octets (e ∷ events) transitions self.new }
         ensures unsent { result ≢ Again.Send → self.new ≡ self.old }
     {
-        self.items[index].time(now)
+        time_at(&mut self.items, index, now)
     }
 
     /// Takes out the observer with an index, whose notice is given up.
@@ -165,7 +173,9 @@ impl Observers {
         ensures left { self.new ≡ remove self.old index }
         ensures stands { (queries : ℕ → Query) (octets : OctetsSent) (events : List Event) (transitions : List Transition) (e : Event) → e.note ≡ note.Unwatched result.peer result.token → ObserversStandFor queries octets events transitions self.old → ObserversStandFor queries octets (e ∷ events) transitions self.new }
     {
-        self.items.remove(index)
+        let taken = self.items.remove(index);
+        gather(&mut self.awaited, self.items.as_slice());
+        taken
     }
 
     /// The observer with an index; none from their number on.
@@ -188,33 +198,4 @@ impl Observers {
     {
         self.items.is_empty()
     }
-}
-
-/// The index of the first observer of a peer to which a notice with a Message ID is in flight.
-fn index_of_notice(observers: &[Observer], peer: &Peer, mid: u16) -> Option<usize>
-    ensures { result ≡ position (has_notice peer.now mid) observers.now }
-{
-    observers
-        .iter()
-        .position(|observer| observer.has_notice(peer, mid))
-}
-
-/// Whether a notice is in flight to one of the observers of a peer.
-fn is_awaiting(observers: &[Observer], peer: &Peer) -> bool
-    ensures { result ≡ is_awaited peer.now observers.now }
-{
-    observers.iter().any(|observer| observer.is_awaiting(peer))
-}
-
-/// The first index from a number on of an observer that is due and to whose peer no notice is in flight.
-fn next_in(observers: &[Observer], from: usize) -> Option<usize>
-    ensures { result ≡ next_ready from observers.now }
-{
-    'observers: for index in from..observers.len() {
-        let observer = &observers[index];
-        if observer.due && !is_awaiting(observers, &observer.peer) {
-            return Some(index);
-        }
-    }
-    None
 }

@@ -9,3 +9,6 @@ mod watch;
 
 pub use faults::WatchFault;
 pub use table::WatchTable;
+
+#[cfg(test)]
+mod tests;
