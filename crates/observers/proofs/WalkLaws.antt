@@ -1,5 +1,5 @@
 -- Walks over observers: the first that passes a test, the one with an index, and the next that is due.
-use Rattle.std.proofs.Common.{◌≡◌, ℕ, ◌+◌, ◌-◌, ◌<◌, ◌≤◌, zero, suc, Bool, true, false, not, ◌||◌, cond, ltb, List, [], ◌∷◌, ◌++◌, length, get_or, set, take, drop, find, slice_get, IfSome, subst, ◌&&◌, Some, None, Option, refl, sym, ap, ◌∙◌, arith}
+use Rattle.std.proofs.Common.{◌≡◌, ℕ, ◌+◌, ◌-◌, ◌<◌, ◌≤◌, zero, suc, Bool, true, false, not, ◌||◌, cond, ltb, List, [], ◌∷◌, ◌++◌, length, get_or, set, take, drop, find, slice_get, IfSome, IfNone, subst, ◌&&◌, Some, None, Option, refl, sym, ap, ◌∙◌, arith}
 use Rattle.std.specs.List.{AllByRecursion, list_any, position, position_or_len, remove}
 use Rattle.std.proofs.lemmas.Bool.{and_parts}
 use Rattle.std.proofs.lemmas.List.Quantifiers.{position-Some}
@@ -209,15 +209,33 @@ not_true : (b : Bool) → not b ≡ true → b ≡ false
 not_true true h = sym h
 not_true false h = refl
 
-pub next-free : (from : ℕ) (ws : List Watcher) (r : Option ℕ) (i : ℕ) (w : Watcher) → r ≡ next_ready from ws → r ≡ Some i → slice_get ws i ≡ Some w → is_awaited w.peer ws ≡ false
-next-free from ws r i w is some there =
-    let next = next-IsNext from ws i (sym is ∙ some) in
+pub next-free : (from : ℕ) (ws : List Watcher) (r : Option ℕ) (w : Watcher) → r ≡ next_ready from ws → IfSome r (λ i. slice_get ws i ≡ Some w → is_awaited w.peer ws ≡ false)
+next-free from ws None w is = tt
+next-free from ws (Some i) w is = λ there.
+    let next = next-IsNext from ws i (sym is) in
     let same : Some next.watcher ≡ Some w = sym next.there ∙ there in
     let both = and_parts next.watcher.due (not (is_awaited next.watcher.peer ws)) next.ready in
     subst (λ x. is_awaited x.peer ws ≡ false) (one same) (not_true (is_awaited next.watcher.peer ws) both.1)
   where
     one : {x y : Watcher} → Some x ≡ Some y → x ≡ y
     one e = cc
+
+-- ---- one that is not found
+
+find_fails : (test : Watcher → Bool) (xs : List Watcher) → None ≡ find test xs → AllByRecursion (λ x. test x ≡ false) xs
+find_fails test [] none = tt
+find_fails test (x ∷ xs) none = by (test x) refl none (find_fails test xs)
+  where
+    by : (b : Bool) → test x ≡ b → None ≡ cond b (Some x) (find test xs) → (None ≡ find test xs → AllByRecursion (λ (y : Watcher). test y ≡ false) xs) → AllByRecursion (λ (y : Watcher). test y ≡ false) (x ∷ xs)
+    by true e g more = absurd cc
+    by false e g more = (e, more g)
+
+-- where none was found to be taken out, none is there
+pub absent-after : (test : Watcher → Bool) (xs after : List Watcher) (r : Option Watcher) → r ≡ find test xs → after ≡ without_first test xs → IfNone r (list_any test after ≡ false)
+absent-after test xs after (Some w) is left = tt
+absent-after test xs after None is left =
+    let fails = find_fails test xs is in
+    ap (list_any test) (left ∙ sym (kept_all test xs fails)) ∙ sym (any_none test xs fails)
 
 pub get-slice : (xs : List Watcher) (i : ℕ) (w : Watcher) → i < length xs → w ≡ get_or xs i w → slice_get xs i ≡ Some w
 get-slice [] i w inside is = absurd (omega (arith, inside))

@@ -1,5 +1,5 @@
 //! The table of observers.
-ghost use Rattle.std.specs.Prelude.{◌≡◌, ◌≢◌, ◌↔◌, ℕ, ◌≤◌, ◌<◌, List, [], ◌∷◌, ◌++◌, false, Some, None, map, find, remove, slice_get, length, option_map, IfOk, IfSome, OnOk, OnErr, IsErr, IsTrue};
+ghost use Rattle.std.specs.Prelude.{◌≡◌, ◌≢◌, ◌↔◌, ℕ, ◌≤◌, ◌<◌, List, [], ◌∷◌, ◌++◌, false, Some, None, map, find, remove, slice_get, length, option_map, IfOk, IfSome, IfNone, OnOk, OnErr, IsErr, IsTrue};
 ghost use Rattle.std.specs.List.{list_any};
 ghost use Rattle.std.specs.Arc.{arc_value};
 ghost use Rattle.rd_base.specs.declared.queries.Query.{Query};
@@ -15,8 +15,8 @@ ghost use Rattle.observers.specs.ObserverEvents.{observer_of, ObserversStandFor,
 
 use crate::Observer;
 use crate::walks::{
-    gather, index_of, index_of_notice, land_first, mark_all, next_in, notice_at, peer_at, see_at,
-    take, time_at,
+    await_peer, gather, index_of, index_of_notice, land_first, mark_all, next_in, notice_at,
+    peer_at, see_at, take, time_at,
 };
 use exchange_core::{Again, Sent, Token};
 use rd_base::{Bytes, Moment, Peer, Starved};
@@ -86,6 +86,7 @@ impl Observers {
     pub fn drop_one(&mut self, peer: &Peer, token: &Token) -> Option<Observer>
         ensures found { result ≡ find (is_named peer.now token.now) self.old }
         ensures left { self.new ≡ without_first (is_named peer.now token.now) self.old }
+        ensures absent { IfNone result (list_any (is_named peer.now token.now) self.new ≡ false) }
         ensures stands { (queries : ℕ → Query) (octets : OctetsSent) (events : List Event) (transitions : List Transition) (e : Event) → e.note ≡ note.Unwatched peer.now token.now → ObserversStandFor queries octets events transitions self.old → ObserversStandFor queries octets (e ∷ events) transitions self.new }
     {
         let index = index_of(self.items.as_slice(), peer, token);
@@ -105,7 +106,7 @@ impl Observers {
     pub fn next_due(&self, from: usize) -> Option<usize>
         ensures next { result ≡ next_ready from self.now }
         ensures within { IfSome result (λ i. (from ≤ i) × (i < length self.now)) }
-        ensures free { (i : ℕ) (w : Watcher) → result ≡ Some i → slice_get self.now i ≡ Some w → is_awaited w.peer self.now ≡ false }
+        ensures free { (w : Watcher) → IfSome result (λ i. slice_get self.now i ≡ Some w → is_awaited w.peer self.now ≡ false) }
     {
         next_in(self.items.as_slice(), self.awaited.as_slice(), from)
     }
@@ -119,7 +120,7 @@ impl Observers {
     {
         let peer = peer_at(self.items.as_slice(), index);
         notice_at(&mut self.items, index, flight, body);
-        self.awaited.push_reserved(peer);
+        await_peer(&mut self.awaited, peer);
     }
 
     /// The listing of the observer with an index was found unchanged: it is due no longer.

@@ -1,5 +1,5 @@
 //! Observers: who is due and free, what an acknowledgement and a Reset do, and when a notice is given up.
-ghost use Rattle.std.specs.Prelude.{IfOk};
+ghost use Rattle.std.specs.Prelude.{◌≡◌, IfOk, None};
 
 use crate::{FullObservers, Observer, Observers};
 use exchange_core::{Again, Resend, Sent, Token};
@@ -112,18 +112,37 @@ drop C c1|no
 count 0 -|0";
 
 /// Adds an observer after the observer of its peer and token is taken out, where there is one.
-fn add(observers: &mut Observers, observer: Observer) -> Result<&'static str, Fail> {
-    let _ = observers.drop_one(&observer.peer, &observer.token);
-    if observers
-        .drop_one(&observer.peer, &observer.token)
-        .is_some()
-    {
-        return Err("two observers of one name".into());
+fn add(
+    observers: &mut Observers,
+    peer: Peer,
+    token: Token,
+    observer: Observer,
+) -> Result<&'static str, Fail>
+    requires { (observer.peer ≡ peer) × (observer.token ≡ token) × (observer.flight ≡ None) }
+{
+    let _ = observers.drop_one(&peer, &token);
+    match observers.drop_one(&peer, &token) {
+        Some(_) => Err("two observers of one name".into()),
+        None => match observers.add(observer) {
+            Ok(()) => Ok("ok"),
+            Err(FullObservers) => Ok("full"),
+        },
     }
-    match observers.add(observer) {
-        Ok(()) => Ok("ok"),
-        Err(FullObservers) => Ok("full"),
-    }
+}
+
+/// Adds an observer of the peer and the token of these names.
+fn add_named(
+    alloc: Global,
+    observers: &mut Observers,
+    peer: &str,
+    words: &str,
+) -> Result<&'static str, Fail> {
+    let (token, place) = words.split_once(' ').ok_or("an observer without a place")?;
+    let place = place.parse::<u32>()?;
+    let peer = peer_named(peer);
+    let token = token_named(token);
+    let one = observer(alloc, peer, token.copy(), place)?;
+    add(observers, peer, token, one)
 }
 
 /// Forms a notice for the next observer that is due and free, at this moment and with the same number as its Message ID; it must be the one with this index.
@@ -171,16 +190,7 @@ fn step(alloc: Global, observers: &mut Observers, words: &str) -> Result<&'stati
     let (verb, rest) = words.split_once(' ').ok_or("a step of one word")?;
     let (first, second) = rest.split_once(' ').ok_or("a step of two words")?;
     match verb {
-        "add" => {
-            let (token, place) = second.split_once(' ').ok_or("an observer without a place")?;
-            let observer = observer(
-                alloc,
-                peer_named(first),
-                token_named(token),
-                place.parse::<u32>()?,
-            )?;
-            add(observers, observer)
-        }
+        "add" => add_named(alloc, observers, first, second),
         "drop" => Ok(word_of(
             observers
                 .drop_one(&peer_named(first), &token_named(second))
@@ -263,14 +273,28 @@ fn tells_who_is_due(rt: HostRuntime) -> Result<(), Fail> {
     Ok(())
 }
 
+/// Adds an observer whose token is this number.
+fn add_numbered(
+    alloc: Global,
+    observers: &mut Observers,
+    number: u16,
+) -> Result<&'static str, Fail> {
+    let peer = peer_named("C");
+    let token = Token::of(&number.to_be_bytes());
+    let one = observer(alloc, peer, token.copy(), 0)?;
+    add(observers, peer, token, one)
+}
+
 #[test]
 fn is_full_at_1024(rt: HostRuntime) -> Result<(), Fail> {
     let mut observers = Observers::make(rt.alloc())?;
     for number in 0..1_025_u16 {
-        let token = Token::of(&number.to_be_bytes());
-        let one = observer(rt.alloc(), peer_named("C"), token, 0)?;
         let want = if number < 1_024 { "ok" } else { "full" };
-        assert_eq!(rt; add(&mut observers, one)?, want, "{number}");
+        assert_eq!(rt;
+            add_numbered(rt.alloc(), &mut observers, number)?,
+            want,
+            "{number}"
+        );
     }
     assert_eq!(rt; observers.len(), 1_024);
     assert!(rt; observers.at(1_023).is_some());

@@ -1,5 +1,5 @@
 //! Walks over observers: which is found, and how one of them changes.
-ghost use Rattle.std.specs.Prelude.{◌≡◌, ◌<◌, ◌≤◌, ℕ, Some, Bool, List, map, find, slice_get, length, option_map, IfSome, vec_len, vec_capacity};
+ghost use Rattle.std.specs.Prelude.{◌≡◌, ◌<◌, ◌≤◌, ℕ, ◌++◌, ◌∷◌, [], Some, Bool, List, map, find, slice_get, length, option_map, IfSome, vec_len, vec_capacity};
 ghost use Rattle.std.specs.List.{list_any, position};
 ghost use Rattle.std.specs.Arc.{arc_value};
 ghost use Rattle.event_model.specs.Same.{is_same_peer};
@@ -67,6 +67,15 @@ pub(crate) fn gather(awaited: &mut Vec<Peer>, observers: &[Observer])
             awaited.push_reserved(observer.peer);
         }
     }
+}
+
+/// The peer is one of those that notices are in flight to.
+pub(crate) fn await_peer(awaited: &mut Vec<Peer>, peer: Peer)
+    requires { length awaited.old.items < vec_capacity awaited.old }
+    ensures awaited { awaited.new.items ≡ awaited.old.items ++ peer ∷ [] }
+    ensures capacity { vec_capacity awaited.new ≡ vec_capacity awaited.old }
+{
+    awaited.push_reserved(peer);
 }
 
 /// Whether the peer is one of these.

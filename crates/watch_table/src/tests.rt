@@ -8,7 +8,6 @@ use rd_base::{
     Starved, Text,
 };
 use std::alloc::Global;
-use std::process::Abort;
 use std::sync::Arc;
 use std::test::Fail;
 
@@ -139,51 +138,70 @@ touch none light|023
 watch 3 pump|1
 touch none pump|012";
 
-/// Does one step of the table.
-fn step(
-    rt: &impl Abort,
+/// Watches a query in place of what was watched at a place, where one is named.
+fn watch_step(
     alloc: Global,
     table: &mut WatchTable,
-    words: &str,
-    want: &str,
-) -> Result<(), Fail> {
+    instead_of: &str,
+    name: &str,
+) -> Result<u32, Fail> {
+    let query = query_named(alloc, name)?;
+    match table.watch(alloc, instead_of.parse::<u32>().ok(), &query) {
+        Ok(place) => Ok(place),
+        Err(WatchFault::FullWatches) => Err("no room".into()),
+        Err(WatchFault::Starved) => Err("out of memory".into()),
+    }
+}
+
+/// Shows a change of a registration.
+fn touch_step(alloc: Global, table: &mut WatchTable, old: &str, new: &str) -> Result<(), Fail> {
+    let before = record_named(alloc, old)?;
+    let after = record_named(alloc, new)?;
+    table.touched(before.as_ref(), after.as_ref());
+    Ok(())
+}
+
+/// Sets a body at a place where this is asked for, and tells whether one is there.
+fn body_step(alloc: Global, table: &mut WatchTable, place: u32, word: &str) -> Result<bool, Fail> {
+    if word == "set" {
+        let body = Arc::new(alloc, Bytes::copy_of(alloc, b"body")?)?;
+        table.set_body(place, body);
+    }
+    Ok(table.body(place).is_some())
+}
+
+/// Whether exactly the first four places that are named are marked.
+fn are_marked(table: &WatchTable, named: &str) -> bool {
+    table.marked(0) == named.contains("0")
+        && table.marked(1) == named.contains("1")
+        && table.marked(2) == named.contains("2")
+        && table.marked(3) == named.contains("3")
+}
+
+/// Does one step of the table, and tells whether its answer is the one that is wanted.
+fn step(alloc: Global, table: &mut WatchTable, words: &str, want: &str) -> Result<bool, Fail> {
     let (verb, rest) = words.split_once(' ').ok_or("a step of one word")?;
     let (first, second) = rest.split_once(' ').ok_or("a step of two words")?;
     match verb {
-        "watch" => {
-            let query = query_named(alloc, second)?;
-            let instead_of = first.parse::<u32>().ok();
-            let place = table
-                .watch(alloc, instead_of, &query)
-                .map_err(|_| "no place")?;
-            assert_eq!(rt; place, want.parse::<u32>()?, "{words}");
-            return Ok(());
-        }
-        "unwatch" => table.unwatch(first.parse::<u32>()?),
-        "clear" => table.clear(),
+        "watch" => Ok(watch_step(alloc, table, first, second)? == want.parse::<u32>()?),
         "touch" => {
-            let old = record_named(alloc, first)?;
-            let new = record_named(alloc, second)?;
-            table.touched(old.as_ref(), new.as_ref());
+            touch_step(alloc, table, first, second)?;
+            Ok(are_marked(table, want))
         }
         "body" => {
-            let place = first.parse::<u32>()?;
-            if second == "set" {
-                table.set_body(place, Arc::new(alloc, Bytes::copy_of(alloc, b"body")?)?);
-            }
-            assert_eq!(rt; table.body(place).is_some(), second != "none", "{words}");
+            let there = body_step(alloc, table, first.parse::<u32>()?, second)?;
+            Ok(there == (second != "none") && are_marked(table, want))
         }
-        _ => return Err("an unknown step".into()),
+        "unwatch" => {
+            table.unwatch(first.parse::<u32>()?);
+            Ok(are_marked(table, want))
+        }
+        "clear" => {
+            table.clear();
+            Ok(are_marked(table, want))
+        }
+        _ => Err("an unknown step".into()),
     }
-    for place in 0..4 {
-        let name = place.to_string(alloc)?;
-        assert_eq!(rt;
-            table.marked(place),
-            want.contains(name.as_str()),
-            "{words} at {place}"
-        );
-    }
-    Ok(())
 }
 
 #[test]
@@ -191,7 +209,7 @@ fn marks_what_a_change_touches(rt: HostRuntime) -> Result<(), Fail> {
     let mut table = WatchTable::make(rt.alloc())?;
     for line in STEPS.lines() {
         let (words, want) = line.split_once('|').ok_or("a line without an answer")?;
-        step(&rt, rt.alloc(), &mut table, words, want)?;
+        assert!(rt; step(rt.alloc(), &mut table, words, want)?, "{line}");
     }
     Ok(())
 }

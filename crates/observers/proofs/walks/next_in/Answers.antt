@@ -1,5 +1,4 @@
-use Rattle.std.proofs.lemmas.Bool.{false≢true}
-use Rattle.std.proofs.Common.{lt-ltb, arith, sym, ◌∙◌}
+use Rattle.std.proofs.Common.{arith, sym, ◌∙◌}
 use Rattle.observers.proofs.WalkLaws.{get-slice, next-here, next-later, next-none}
 use Rattle.observers.proofs.walks.next_in.Goals.{in-Some+else-is_free, in_default}
 use Rattle.observers.proofs.walks.next_in.Goals as goal
@@ -11,7 +10,7 @@ returns-then-is_free c =
 pub observers-preserved : goal.observers-preserved
 observers-preserved c = elim c.match-get.branch [
   | in-Some+else-is_free w ↦ next-later c.args.observers.now c.observers.index w.in-Some.observer.now (get-slice c.args.observers.now c.observers.index w.in-Some.observer.now c.observers-test.true w.in-Some.ensures.lookup.1) (sym (w.is_free.ensures c.args.observers.now c.requires) ∙ w.if-is_free.false) ∙ c.observers.invariant
-  | in_default w ↦ absurd (false≢true (w.in_default.ensures.lookup ∙ lt-ltb _ _ c.observers-test.true))
+  | in_default w ↦ let over = w.in_default.ensures.lookup.3 in let inside = c.observers-test.true in absurd (omega (arith, over, inside))
 ]
 
 pub returns : goal.returns

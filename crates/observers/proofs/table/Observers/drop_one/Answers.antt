@@ -1,3 +1,4 @@
+use Rattle.observers.proofs.WalkLaws.{absent-after}
 use Rattle.std.proofs.Common.{arith}
 use Rattle.observers.specs.AwaitedPeers.{AreAwaited, awaited_of}
 use Rattle.observers.proofs.AwaitedLaws.{of-AreAwaited}
@@ -27,3 +28,9 @@ invariant_of-self c =
       omega (arith, more, gathered),
       subst (AreAwaited c.take-taken.new.observers.items) (sym (c.gather.ensures.peers ∙ ap awaited_of c.as_slice-2.ensures.value)) (of-AreAwaited c.take-taken.new.observers.items),
     )
+
+pub returns-clause-absent : goal.returns-clause-absent
+returns-clause-absent c =
+    absent-after (is_named c.args.peer.now c.args.token.now) c.self.inside.items.items c.take-taken.new.observers.items c.take-taken.result
+    (c.take-taken.ensures.found (is_named c.args.peer.now c.args.token.now) (c.index_of-index.ensures ∙ ap (position (is_named c.args.peer.now c.args.token.now)) c.as_slice.ensures.value))
+    (c.take-taken.ensures.left (is_named c.args.peer.now c.args.token.now) (c.index_of-index.ensures ∙ ap (position (is_named c.args.peer.now c.args.token.now)) c.as_slice.ensures.value))

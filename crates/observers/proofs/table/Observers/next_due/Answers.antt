@@ -7,4 +7,4 @@ pub returns-clause-within : goal.returns-clause-within
 returns-clause-within c = next-within c.args.from c.args.self.now c.next_in.result (c.next_in.ensures ∙ ap (next_ready c.args.from) (c.as_slice.ensures.value ∙ c.self.view_is))
 
 pub returns-clause-free : goal.returns-clause-free
-returns-clause-free c i w is there = next-free c.args.from c.args.self.now c.next_in.result i w (c.next_in.ensures ∙ ap (next_ready c.args.from) (c.as_slice.ensures.value ∙ c.self.view_is)) is there
+returns-clause-free c w = next-free c.args.from c.args.self.now c.next_in.result w (c.next_in.ensures ∙ ap (next_ready c.args.from) (c.as_slice.ensures.value ∙ c.self.view_is))
