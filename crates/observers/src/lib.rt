@@ -1,0 +1,12 @@
+//! Observers: who observes, who is due, and which notice waits for its acknowledgement (RFC 7641 section 4).
+#![tactic(auto)]
+
+mod observer;
+mod table;
+mod walks;
+
+pub use observer::Observer;
+pub use table::{FullObservers, Observers};
+
+#[cfg(test)]
+mod tests;

@@ -1,0 +1,113 @@
+//! An observer of a lookup.
+ghost use Rattle.std.specs.Prelude.{◌≡◌};
+ghost use Rattle.std.specs.Arc.{arc_value};
+ghost use Rattle.observers.specs.Watchers.{is_named, has_notice, marked, noticed, seen, landed, due_of, timed};
+
+use exchange_core::{Again, Sent, Token};
+use rd_base::{Bytes, Key, Moment, Peer};
+use std::marker::Model;
+use std::sync::Arc;
+
+/// An observer of a lookup (RFC 7641 section 1.2), and the notice in flight to it.
+#[derive(Drop)]
+pub struct Observer {
+    /// Where its notices go.
+    pub peer: Peer,
+    /// The token of its request, which each notice has.
+    pub token: Token,
+    /// The place where its query is watched.
+    pub place: u32,
+    /// The key of its request.
+    pub key: Key,
+    /// The exponent of the block size that it asked for (RFC 7959 section 2.2).
+    pub szx: u8,
+    /// Whether the lines of its query changed since its listing was last looked at.
+    pub due: bool,
+    /// The body that was last formed for it.
+    pub last: Arc<Bytes>,
+    /// The notice in flight to it: the one that was last formed, where it was not acknowledged.
+    pub flight: Option<Sent>,
+}
+
+impl Model for Observer {
+    ghost use Rattle.std.specs.Arc.{arc_value};
+    ghost use Rattle.observers.specs.Watchers.{Watcher};
+
+    ghost Value = { Watcher };
+
+    ghost view = { λ o. record { peer = o.peer; token = o.token; place = o.place; key = o.key; szx = o.szx; due = o.due; last = arc_value o.last; flight = o.flight } };
+}
+
+impl Observer {
+    /// Whether it is the observer of this peer and token.
+    pub(crate) fn is_named(&self, peer: &Peer, token: &Token) -> bool
+        ensures { result ≡ is_named peer.now token.now self.now }
+    {
+        *peer == self.peer && *token == self.token
+    }
+
+    /// Whether it is due.
+    pub(crate) fn is_due(&self) -> bool
+        ensures { result ≡ self.now.due }
+    {
+        self.due
+    }
+
+    /// Where its notices go.
+    pub(crate) fn peer(&self) -> &Peer
+        ensures { result.now ≡ self.now.peer }
+    {
+        &self.peer
+    }
+
+    /// Whether it is an observer of this peer, to which a notice with this Message ID is in flight.
+    pub(crate) fn has_notice(&self, peer: &Peer, mid: u16) -> bool
+        ensures { result ≡ has_notice peer.now mid self.now }
+    {
+        match &self.flight {
+            Some(sent) => *peer == self.peer && mid == sent.mid,
+            None => false,
+        }
+    }
+
+    /// Is due where its query is watched at this place.
+    pub(crate) fn mark(&mut self, place: u32)
+        ensures { self.new ≡ marked place self.old }
+    {
+        self.due = self.due || self.place == place;
+    }
+
+    /// A notice with this body was formed for it.
+    pub(crate) fn notice(&mut self, flight: Sent, body: Arc<Bytes>)
+        ensures { self.new ≡ noticed flight (arc_value body) self.old }
+    {
+        self.due = false;
+        self.last = body;
+        self.flight = Some(flight);
+    }
+
+    /// Its listing was found unchanged.
+    pub(crate) fn see(&mut self)
+        ensures { self.new ≡ seen self.old }
+    {
+        self.due = false;
+    }
+
+    /// Its notice was acknowledged.
+    pub(crate) fn land(&mut self)
+        ensures { self.new ≡ landed self.old }
+    {
+        self.flight = None;
+    }
+
+    /// What is due of its notice now (RFC 7252 section 4.2); where there is none, nothing.
+    pub(crate) fn time(&mut self, now: Moment) -> Again
+        ensures due { result ≡ due_of now.0 self.old.flight }
+        ensures kept { self.new ≡ timed now.0 self.old }
+    {
+        match &mut self.flight {
+            Some(sent) => sent.resend.at_tick(now),
+            None => Again::Wait,
+        }
+    }
+}

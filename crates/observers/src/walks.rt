@@ -1,0 +1,166 @@
+//! Walks over observers: which is found, and how one of them changes.
+ghost use Rattle.std.specs.Prelude.{◌≡◌, ◌<◌, ◌≤◌, ℕ, ◌++◌, ◌∷◌, [], Some, Bool, List, map, find, slice_get, length, option_map, IfSome, vec_len, vec_capacity};
+ghost use Rattle.std.specs.List.{list_any, position};
+ghost use Rattle.std.specs.Arc.{arc_value};
+ghost use Rattle.event_model.specs.Same.{is_same_peer};
+ghost use Rattle.observers.specs.AwaitedPeers.{awaited_of, Tells};
+ghost use Rattle.observers.specs.Watchers.{Watcher, is_named, has_notice, is_awaited, is_ready, next_ready, marked, noticed, seen, landed, due_of, timed, changed_at, changed_first, without_first};
+
+use crate::Observer;
+use exchange_core::{Again, Sent, Token};
+use rd_base::{Bytes, Moment, Peer};
+use std::sync::Arc;
+
+/// The index of the observer of a peer and a token.
+pub(crate) fn index_of(observers: &[Observer], peer: &Peer, token: &Token) -> Option<usize>
+    ensures { result ≡ position (is_named peer.now token.now) observers.now }
+{
+    observers
+        .iter()
+        .position(|observer| observer.is_named(peer, token))
+}
+
+/// The index of the first observer of a peer to which a notice with a Message ID is in flight.
+pub(crate) fn index_of_notice(observers: &[Observer], peer: &Peer, mid: u16) -> Option<usize>
+    ensures { result ≡ position (has_notice peer.now mid) observers.now }
+{
+    observers
+        .iter()
+        .position(|observer| observer.has_notice(peer, mid))
+}
+
+/// Takes out the observer with an index, where there is one: it is the first that passes a test where its index is that of the first.
+pub(crate) fn take(observers: &mut Vec<Observer>, index: Option<usize>) -> Option<Observer>
+    requires { (test : Watcher → Bool) × (index ≡ position test observers.old.items) }
+    ensures found { (test : Watcher → Bool) → index ≡ position test observers.old.items → result ≡ find test observers.old.items }
+    ensures left { (test : Watcher → Bool) → index ≡ position test observers.old.items → observers.new.items ≡ without_first test observers.old.items }
+    ensures len { vec_len observers.new ≤ vec_len observers.old }
+    ensures capacity { vec_capacity observers.new ≡ vec_capacity observers.old }
+{
+    match index {
+        Some(at) => Some(observers.remove(at)),
+        None => None,
+    }
+}
+
+/// Marks the observers whose query is watched at a place.
+pub(crate) fn mark_all(observers: &mut Vec<Observer>, place: u32)
+    ensures marked { observers.new.items ≡ map (marked place) observers.old.items }
+    ensures len { vec_len observers.new ≡ vec_len observers.old }
+    ensures capacity { vec_capacity observers.new ≡ vec_capacity observers.old }
+{
+    'items: for item in observers.iter_mut() {
+        item.mark(place);
+    }
+}
+
+/// The peers that notices are in flight to, gathered anew.
+pub(crate) fn gather(awaited: &mut Vec<Peer>, observers: &[Observer])
+    requires few { length observers.now ≤ 1_024 }
+    requires room { 1_024 ≤ vec_capacity awaited.old }
+    ensures peers { awaited.new.items ≡ awaited_of observers.now }
+    ensures capacity { vec_capacity awaited.new ≡ vec_capacity awaited.old }
+{
+    awaited.clear();
+    'observers: for observer in observers {
+        if observer.flight.is_some() {
+            awaited.push_reserved(observer.peer);
+        }
+    }
+}
+
+/// The peer is one of those that notices are in flight to.
+pub(crate) fn await_peer(awaited: &mut Vec<Peer>, peer: Peer)
+    requires { length awaited.old.items < vec_capacity awaited.old }
+    ensures awaited { awaited.new.items ≡ awaited.old.items ++ peer ∷ [] }
+    ensures capacity { vec_capacity awaited.new ≡ vec_capacity awaited.old }
+{
+    awaited.push_reserved(peer);
+}
+
+/// Whether the peer is one of these.
+fn is_among(peers: &[Peer], peer: &Peer) -> bool
+    ensures { result ≡ list_any (λ q. is_same_peer q peer.now) peers.now }
+{
+    peers.iter().any(|other| *other == *peer)
+}
+
+/// Whether an observer is due, and its peer is none of those that notices are in flight to.
+fn is_free(awaited: &[Peer], observer: &Observer) -> bool
+    ensures { (ws : List Watcher) → Tells ws awaited.now → result ≡ is_ready ws observer.now }
+{
+    if !observer.is_due() {
+        return false;
+    }
+    !is_among(awaited, observer.peer())
+}
+
+/// The first index from a number on of an observer that is due and to whose peer no notice is in flight.
+pub(crate) fn next_in(observers: &[Observer], awaited: &[Peer], from: usize) -> Option<usize>
+    requires { Tells observers.now awaited.now }
+    ensures { result ≡ next_ready from observers.now }
+{
+    'observers: for index in from..observers.len() {
+        if let Some(observer) = observers.get(index) {
+            if is_free(awaited, observer) {
+                return Some(index);
+            }
+        }
+    }
+    None
+}
+
+/// The peer of the observer with an index.
+pub(crate) fn peer_at(observers: &[Observer], index: usize) -> Peer
+    requires { index < length observers.now }
+    ensures { (w : Watcher) → slice_get observers.now index ≡ Some w → result ≡ w.peer }
+{
+    *observers[index].peer()
+}
+
+/// A notice with a body was formed for the observer with an index.
+pub(crate) fn notice_at(observers: &mut Vec<Observer>, index: usize, flight: Sent, body: Arc<Bytes>)
+    requires { index < length observers.old.items }
+    ensures noticed { observers.new.items ≡ changed_at (noticed flight (arc_value body)) index observers.old.items }
+    ensures capacity { vec_capacity observers.new ≡ vec_capacity observers.old }
+    ensures len { vec_len observers.new ≡ vec_len observers.old }
+{
+    observers[index].notice(flight, body);
+}
+
+/// The listing of the observer with an index was found unchanged.
+pub(crate) fn see_at(observers: &mut Vec<Observer>, index: usize)
+    requires { index < length observers.old.items }
+    ensures seen { observers.new.items ≡ changed_at seen index observers.old.items }
+    ensures capacity { vec_capacity observers.new ≡ vec_capacity observers.old }
+    ensures len { vec_len observers.new ≡ vec_len observers.old }
+{
+    observers[index].see();
+}
+
+/// What is due of the notice of the observer with an index.
+pub(crate) fn time_at(observers: &mut Vec<Observer>, index: usize, now: Moment) -> Again
+    requires { index < length observers.old.items }
+    ensures due { (w : Watcher) → slice_get observers.old.items index ≡ Some w → result ≡ due_of now.0 w.flight }
+    ensures kept { observers.new.items ≡ changed_at (timed now.0) index observers.old.items }
+    ensures capacity { vec_capacity observers.new ≡ vec_capacity observers.old }
+    ensures len { vec_len observers.new ≡ vec_len observers.old }
+{
+    observers[index].time(now)
+}
+
+/// The notice with a Message ID that is in flight to a peer was acknowledged; whether there is one.
+pub(crate) fn land_first(observers: &mut Vec<Observer>, peer: &Peer, mid: u16) -> bool
+    ensures found { result ≡ list_any (has_notice peer.now mid) observers.old.items }
+    ensures landed { observers.new.items ≡ changed_first (has_notice peer.now mid) landed observers.old.items }
+    ensures capacity { vec_capacity observers.new ≡ vec_capacity observers.old }
+    ensures len { vec_len observers.new ≡ vec_len observers.old }
+{
+    match index_of_notice(observers.as_slice(), peer, mid) {
+        Some(index) => {
+            observers[index].land();
+            true
+        }
+        None => false,
+    }
+}

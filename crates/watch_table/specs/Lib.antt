@@ -1,0 +1,4 @@
+pub mod WatchedQueries
+pub mod Watchers
+pub mod Outcomes
+pub mod Places

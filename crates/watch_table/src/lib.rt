@@ -1,0 +1,14 @@
+//! Watched queries: which of them a change touched, and the body that was last formed for each (RFC 7641 section 1.3).
+#![tactic(auto)]
+
+mod faults;
+mod places;
+mod same_queries;
+mod table;
+mod watch;
+
+pub use faults::WatchFault;
+pub use table::WatchTable;
+
+#[cfg(test)]
+mod tests;

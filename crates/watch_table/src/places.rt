@@ -1,0 +1,195 @@
+//! Watched queries by their places: one watcher more, one fewer, and a place for a query that is not watched yet.
+ghost use Rattle.std.specs.Prelude.{◌≡◌, ◌≢◌, ℕ, ◌+◌, ◌≤◌, ◌<◌, ◌-◌, ◌^◌, nat_le, List, Some, None, false, IsSome, IsOk, ◌∷◌, [], ◌++◌};
+ghost use Rattle.std.specs.List.{list_any};
+ghost use Rattle.std.specs.Arc.{arc_value};
+ghost use Rattle.std.specs.Option.{option_copied};
+ghost use Rattle.rd_base.specs.declared.queries.Query.{Query as Sought};
+ghost use Rattle.indexmap.specs.IndexMap.{index_map_len, spare, values};
+ghost use Rattle.watch_table.specs.WatchedQueries.{watched_at, place_of, watched_first, one_more, one_fewer, without, touched, unmarked, with_body};
+ghost use Rattle.watch_table.specs.Places.{has_last, CanCount, IsFree, changed_at};
+ghost use Rattle.watch_table.specs.Outcomes.{Watches};
+
+use crate::WatchFault;
+use crate::watch::Watch;
+use indexmap::IndexMap;
+use rd_base::{Bytes, Query, Record};
+use std::alloc::Global;
+use std::sync::Arc;
+
+/// How many queries are watched at most.
+pub(crate) const MAX_WATCHED: usize = 256;
+
+/// The place where a query is watched.
+fn find_place(watches: &IndexMap<u32, Watch>, query: &Query) -> Option<u32>
+    ensures { result ≡ place_of query.now watches.now.entries }
+{
+    'watches: for index in 0..watches.len() {
+        if let Some((place, watch)) = watches.get_index(index) {
+            if watch.is_of(query) {
+                return Some(*place);
+            }
+        }
+    }
+    None
+}
+
+/// Whether no further watcher of some query can be counted.
+fn is_counted_out(watches: &IndexMap<u32, Watch>) -> bool
+    ensures { result ≡ list_any (λ w. nat_le (2 ^ 64 - 1) w.watchers) (values watches.now) }
+{
+    watches.values().any(|watch| watch.is_counted_out())
+}
+
+/// Whether one watcher at most is left at a place.
+fn is_last(watches: &IndexMap<u32, Watch>, place: u32) -> bool
+    ensures { result ≡ has_last (watched_at place watches.now.entries) }
+{
+    match watches.get(&place) {
+        Some(watch) => watch.is_last(),
+        None => false,
+    }
+}
+
+/// One watcher fewer at a place; its query is dropped with its last.
+pub(crate) fn leave(watches: &mut IndexMap<u32, Watch>, place: u32)
+    ensures left { watches.new.entries ≡ one_fewer place watches.old.entries }
+    ensures len { index_map_len watches.new ≤ index_map_len watches.old }
+    ensures room { spare watches.old ≤ spare watches.new }
+{
+    if is_last(watches, place) {
+        let _ = watches.shift_remove(&place);
+        return;
+    }
+    if let Some(watch) = watches.get_mut(&place) {
+        watch.count_down();
+    }
+}
+
+/// One watcher fewer at the place that an observer had before, where it had one.
+fn leave_before(watches: &mut IndexMap<u32, Watch>, instead_of: Option<u32>)
+    ensures left { watches.new.entries ≡ without instead_of watches.old.entries }
+    ensures len { index_map_len watches.new ≤ index_map_len watches.old }
+    ensures room { spare watches.old ≤ spare watches.new }
+{
+    if let Some(place) = instead_of {
+        leave(watches, place);
+    }
+}
+
+/// One watcher more at a place where a query is watched.
+fn join(watches: &mut IndexMap<u32, Watch>, place: u32)
+    requires counts { CanCount watches.old.entries }
+    requires watched { IsSome (watched_at place watches.old.entries) }
+    ensures joined { (query : Sought) → watches.new.entries ≡ one_more place query watches.old.entries }
+    ensures len { index_map_len watches.new ≡ index_map_len watches.old }
+{
+    if let Some(watch) = watches.get_mut(&place) {
+        watch.count_up();
+    }
+}
+
+/// Marks what the entry with an index watches where a change of a registration changed its lines, and then drops its body.
+pub(crate) fn touch_at(
+    watches: &mut IndexMap<u32, Watch>,
+    index: usize,
+    old: Option<&Record>,
+    new: Option<&Record>,
+)
+    ensures len { index_map_len watches.new ≡ index_map_len watches.old }
+    ensures touched { watches.new.entries ≡ changed_at (touched (option_copied old.entry) (option_copied new.entry)) index watches.old.entries }
+{
+    if let Some(watch) = watches.get_index_mut(index) {
+        watch.touch(old, new);
+    }
+}
+
+/// Sets the body of the query at a place, where one is watched.
+pub(crate) fn set_body(watches: &mut IndexMap<u32, Watch>, place: u32, body: Arc<Bytes>)
+    ensures set { watches.new.entries ≡ with_body place (arc_value body) watches.old.entries }
+    ensures len { index_map_len watches.new ≡ index_map_len watches.old }
+{
+    if let Some(watch) = watches.get_mut(&place) {
+        watch.set_body(body);
+    }
+}
+
+/// Takes the mark off what the entry with an index watches.
+pub(crate) fn unmark_at(watches: &mut IndexMap<u32, Watch>, index: usize)
+    ensures len { index_map_len watches.new ≡ index_map_len watches.old }
+    ensures unmarked { watches.new.entries ≡ changed_at unmarked index watches.old.entries }
+{
+    if let Some(watch) = watches.get_index_mut(index) {
+        watch.unmark();
+    }
+}
+
+/// A place where nothing is watched.
+fn free_place(watches: &IndexMap<u32, Watch>) -> u32
+    requires { index_map_len watches.now ≤ 256 }
+    ensures { IsFree result watches.now.entries }
+{
+    'places: for place in 0..257 {
+        if !watches.contains_key(&place) {
+            return place;
+        }
+    }
+    unreachable!()
+}
+
+/// A first watcher of a query, at a place where nothing is watched.
+fn begin(watches: &mut IndexMap<u32, Watch>, query: Query) -> u32
+    requires few { index_map_len watches.old ≤ 256 }
+    requires room { 0 < spare watches.old }
+    ensures place { IsFree result watches.old.entries }
+    ensures begun { watches.new.entries ≡ watches.old.entries ++ (result, watched_first query) ∷ [] }
+{
+    let place = free_place(watches);
+    match watches.insert(place, Watch::first(query)) {
+        Ok(_) => place,
+        Err(_) => unreachable!(),
+    }
+}
+
+/// One watcher more of a query, where there is room; `given` is a copy of it.
+fn watch_given(
+    watches: &mut IndexMap<u32, Watch>,
+    query: &Query,
+    given: Query,
+) -> Result<u32, WatchFault>
+    requires copied { given ≡ query.now }
+    requires counts { CanCount watches.old.entries }
+    requires few { index_map_len watches.old ≤ 256 }
+    requires room { 0 < spare watches.old }
+    ensures outcome { Watches query.now watches.old.entries watches.old.entries result watches.new.entries }
+    ensures given { result ≢ Err WatchFault.Starved }
+    ensures few { index_map_len watches.new ≤ 256 }
+{
+    if let Some(place) = find_place(watches, query) {
+        join(watches, place);
+        return Ok(place);
+    }
+    if watches.len() == MAX_WATCHED {
+        return Err(WatchFault::FullWatches);
+    }
+    Ok(begin(watches, given))
+}
+
+/// One watcher more of a query, after one fewer at the place that its observer had before. Memory is taken before anything changes.
+pub(crate) fn watch_instead(
+    watches: &mut IndexMap<u32, Watch>,
+    alloc: Global,
+    instead_of: Option<u32>,
+    query: &Query,
+) -> Result<u32, WatchFault>
+    requires { index_map_len watches.old ≤ 256 }
+    ensures outcome { Watches query.now watches.old.entries (without instead_of watches.old.entries) result watches.new.entries }
+    ensures few { index_map_len watches.new ≤ 256 }
+{
+    let given = query.copy(alloc)?;
+    watches.reserve(1)?;
+    if is_counted_out(watches) {
+        return Err(WatchFault::Starved);
+    }
+    leave_before(watches, instead_of);
+    watch_given(watches, query, given)
+}

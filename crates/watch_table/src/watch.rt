@@ -1,0 +1,138 @@
+//! A watched query.
+ghost use Rattle.std.specs.Prelude.{◌≡◌, ◌+◌, ◌-◌, ◌<◌, ◌^◌, Some, nat_le, option_map};
+ghost use Rattle.std.specs.Option.{option_copied};
+ghost use Rattle.std.specs.Arc.{arc_value};
+ghost use Rattle.history_model.specs.ChangedParts.{is_other_part};
+ghost use Rattle.event_model.specs.Same.{is_same_query};
+ghost use Rattle.watch_table.specs.WatchedQueries.{watched_first, touched, unmarked};
+
+use crate::same_queries::is_same_query;
+use listing::same_part;
+use rd_base::{Bytes, Query, Record};
+use std::marker::Model;
+use std::sync::Arc;
+
+/// A query that is watched.
+#[derive(Drop)]
+pub(crate) struct Watch {
+    /// The query.
+    query: Query,
+    /// How many watch it.
+    watchers: u64,
+    /// Whether its lines changed since the marks were taken off.
+    marked: bool,
+    /// The body that was last formed for it, where its lines have not changed since.
+    body: Option<Arc<Bytes>>,
+}
+
+impl Model for Watch {
+    ghost use Rattle.std.specs.Prelude.{option_map};
+    ghost use Rattle.std.specs.Arc.{arc_value};
+    ghost use Rattle.watch_table.specs.WatchedQueries.{Watched};
+
+    ghost Value = { Watched };
+
+    ghost view = { λ w. record { query = w.query; watchers = w.watchers; marked = w.marked; body = option_map arc_value w.body } };
+}
+
+impl Watch {
+    /// A query with its first watcher.
+    pub(crate) fn first(query: Query) -> Watch
+        ensures { result ≡ watched_first query }
+    {
+        Watch {
+            query,
+            watchers: 1,
+            marked: false,
+            body: None,
+        }
+    }
+
+    /// The query.
+    pub(crate) fn query(&self) -> &Query
+        ensures { result.now ≡ self.now.query }
+    {
+        &self.query
+    }
+
+    /// Whether this query is watched.
+    pub(crate) fn is_of(&self, query: &Query) -> bool
+        ensures { result ≡ is_same_query self.now.query query.now }
+    {
+        is_same_query(&self.query, query)
+    }
+
+    /// Whether one watcher is left at most.
+    pub(crate) fn is_last(&self) -> bool
+        ensures { result ≡ nat_le self.now.watchers 1 }
+    {
+        self.watchers <= 1
+    }
+
+    /// Whether no further watcher can be counted.
+    pub(crate) fn is_counted_out(&self) -> bool
+        ensures { result ≡ nat_le (2 ^ 64 - 1) self.now.watchers }
+    {
+        self.watchers >= u64::MAX
+    }
+
+    /// One watcher more.
+    pub(crate) fn count_up(&mut self)
+        ensures { self.old.watchers < 2 ^ 64 - 1 → self.new ≡ record self.old { watchers = self.old.watchers + 1 } }
+    {
+        self.watchers = self.watchers.saturating_add(1);
+    }
+
+    /// One watcher fewer.
+    pub(crate) fn count_down(&mut self)
+        ensures { self.new ≡ record self.old { watchers = self.old.watchers - 1 } }
+    {
+        self.watchers = self.watchers.saturating_sub(1);
+    }
+
+    /// Whether its lines changed since the marks were taken off.
+    pub(crate) fn is_marked(&self) -> bool
+        ensures { result ≡ self.now.marked }
+    {
+        self.marked
+    }
+
+    /// The body that was last formed for it.
+    pub(crate) fn body(&self) -> Option<&Arc<Bytes>>
+        ensures { option_map (λ body. arc_value body.now) result ≡ self.now.body }
+    {
+        self.body.as_ref()
+    }
+
+    /// Keeps the body that was formed for it.
+    pub(crate) fn set_body(&mut self, body: Arc<Bytes>)
+        ensures { self.new ≡ record self.old { body = Some (arc_value body) } }
+    {
+        self.body = Some(body);
+    }
+
+    /// Takes its mark off.
+    pub(crate) fn unmark(&mut self)
+        ensures { self.new ≡ unmarked self.old }
+    {
+        self.marked = false;
+    }
+
+    /// Marks it where a change of a registration changed its lines, and then drops its body.
+    pub(crate) fn touch(&mut self, old: Option<&Record>, new: Option<&Record>)
+        ensures { self.new ≡ touched (option_copied old.entry) (option_copied new.entry) self.old }
+    {
+        if is_changed(&self.query, old, new) {
+            self.marked = true;
+            self.body = None;
+        }
+    }
+}
+
+/// Whether the two states of a registration give other lines to a query.
+#[tactic(auto, using(crate::proofs::MarkLaws::other_by))]
+fn is_changed(query: &Query, old: Option<&Record>, new: Option<&Record>) -> bool
+    ensures { result ≡ is_other_part query.now (option_copied old.entry) (option_copied new.entry) }
+{
+    !same_part(query, old, new)
+}
