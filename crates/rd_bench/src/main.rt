@@ -6,7 +6,6 @@
 #![tactic(auto)]
 
 mod attributes;
-mod blocks;
 mod exchanges;
 mod leases;
 mod listings;
@@ -19,7 +18,6 @@ use tables::Trouble;
 /// Measures all calls, one after another.
 fn measured(rt: &HostRuntime) -> Result<(), Trouble> {
     exchanges::measured(rt)?;
-    blocks::measured(rt)?;
     maps::measured(rt)?;
     leases::measured(rt)?;
     attributes::measured(rt)?;
