@@ -121,3 +121,48 @@ impl Costs {
         Ok(())
     }
 }
+
+/// What a call costs beside one of std that does the same.
+#[derive(Drop)]
+pub struct Beside {
+    /// The name of the call.
+    name: &'static str,
+    /// What it stands beside.
+    std: &'static str,
+    /// The rounds of the call.
+    pub own: Rounds,
+    /// The rounds of what it stands beside.
+    pub other: Rounds,
+}
+
+impl Beside {
+    /// No round yet of the call of this name.
+    pub fn new(alloc: Global, name: &'static str, std: &'static str) -> Beside {
+        Beside {
+            name,
+            std,
+            own: Rounds::new(alloc),
+            other: Rounds::new(alloc),
+        }
+    }
+
+    /// Both are printed, the middle round of each, with how many times the other's cost the call's is; on standard output how much was counted.
+    pub fn print(self, rt: &HostRuntime, counted: u64) -> Result<(), Trouble> {
+        let Beside {
+            name,
+            std,
+            own,
+            other,
+        } = self;
+        let own = own.middle()?;
+        let other = other.middle()?;
+        let hundredths = u64::saturating_mul(own, 100)
+            .checked_div(other)
+            .unwrap_or(100);
+        let whole = hundredths / 100;
+        let rest = hundredths % 100;
+        eprintln!(rt; "{name}  {own} ns, {std} {other} ns ({whole}.{rest:02})")?;
+        println!(rt; "{name} counted {counted}")?;
+        Ok(())
+    }
+}

@@ -10,11 +10,14 @@ use rd_base::Starved;
 use std::alloc::Global;
 use std::snapshot::Snapshot;
 use std::sync::Wait;
+use std::sync::atomic::{AtomicU64, Ordering};
 
 /// A value that many workers change, each at its turn.
 #[derive(Drop)]
 pub struct TurnLock<T: Replays> {
     table: Table<Option<T>, View<T::Row, T::Label>, Snapshot<T>, Turn<T>, Global>,
+    /// How many workers sleep until the turn is given back, or are about to. Where it is 0, a give wakes nobody.
+    sleepers: AtomicU64,
     ghost words: { table.shared.table_id.words ≡ 1 },
     ghost slots: { table.shared.table_id.slots ≡ 1 },
 }
@@ -111,10 +114,19 @@ impl<T: Replays> TurnLock<T> {
                     return word;
                 }
             } else {
-                shared.park(rt, 0, (word & 0xffff_ffff) as u32);
+                self.sleep(rt, word);
             }
         }
         unreachable!()
+    }
+
+    /// Sleeps while the word is this one.
+    ///
+    /// A sleeper is counted before the word is compared, and a give changes the word before it reads the count: so a give that finds no sleeper changed the word before it was compared, and nobody sleeps through it.
+    fn sleep<R: Wait>(&self, rt: &R, word: u64) {
+        self.sleepers.fetch_add(1, Ordering::SeqCst);
+        self.table.shared.park(rt, 0, (word & 0xffff_ffff) as u32);
+        self.sleepers.fetch_sub(1, Ordering::SeqCst);
     }
 
     /// Takes the turn if the word is this one.
@@ -172,7 +184,7 @@ impl<T: Replays> TurnLock<T> {
         pass.word = word;
     }
 
-    /// Makes the turn free, and wakes one that waits.
+    /// Makes the turn free, and wakes one that sleeps.
     fn release<S: Added<T::Row>>(
         &self,
         seat: &mut Seat<Option<T>, View<T::Row, T::Label>>,
@@ -186,7 +198,9 @@ impl<T: Replays> TurnLock<T> {
     {
         let shared = &self.table.shared;
         shared.swap::<Give<T, S>>(seat, 0, word);
-        shared.wake_one(0);
+        if self.sleepers.load(Ordering::SeqCst) != 0 {
+            shared.wake_one(0);
+        }
     }
 
     /// Cuts a pass with the next number off the one that was made last.
@@ -256,7 +270,10 @@ impl<T: Replays> TurnLock<T> {
                 return Err(Unmade { value: only(slots) });
             }
         };
-        let lock = TurnLock { table };
+        let lock = TurnLock {
+            table,
+            sleepers: AtomicU64::new(0),
+        };
         let passes = lock.cut(passes, seat, seats as usize);
         Ok((lock, Passes::of(passes)))
     }
@@ -267,7 +284,7 @@ impl<T: Replays> TurnLock<T> {
         ensures value { IfFree result (λ value. (history : List T.Row) × Extends pass.seat.me.0.seen history × (pass.seat.me.0.mine ≡ rows_of T.number pass.seat.me.0.number history) × T.stands history value) }
         ensures value_label { IfFree result (λ value. T.label value ≡ pass.seat.me.0.label) }
     {
-        let TurnLock { table } = self;
+        let TurnLock { table, sleepers: _ } = self;
         let Pass { seat, word: _ } = pass;
         let mut closed = table.close_with(seat);
         let word = closed.word(0);

@@ -1,0 +1,4 @@
+pub mod Books
+pub mod Names
+pub mod Contents
+pub mod Ends
