@@ -2,3 +2,4 @@ pub mod Books
 pub mod Names
 pub mod Contents
 pub mod Ends
+pub mod Boards

@@ -1,5 +1,5 @@
 -- The name of a board, and the rule by which each of its ends knows it.
-use Rattle.std.specs.Prelude.{ℕ, ◌≡◌, true, false, List}
+use Rattle.std.specs.Prelude.{ℕ, ◌≡◌, true, false, List, [], ◌∷◌}
 use mathlib.Core.Option.{some}
 use lib.ListN.{get_elem?}
 use Rattle.logbook.specs.Pages.{Book}
@@ -7,15 +7,15 @@ use Rattle.version_board.specs.declared.published.Published.{Published}
 use Rattle.version_board.specs.declared.readers.Known.{Known}
 
 -- the name of a board: the numbers of its book, which no other book has
-abbrev pub name_of : Book → ℕ × ℕ × ℕ
-name_of book = (book.number, book.log_name, book.cells_name)
+abbrev pub name_of : Book → List ℕ
+name_of book = book.number ∷ book.log_name ∷ book.cells_name ∷ []
 
 -- what is known once a name is known, and before
-abbrev pub knowing : ℕ × ℕ × ℕ → Known
+abbrev pub knowing : List ℕ → Known
 knowing name = record { known = true; name = name }
 
 abbrev pub unknown : Known
-unknown = record { known = false; name = (0, 0, 0) }
+unknown = record { known = false; name = [] }
 
 -- whoever knows a name knows that of what is shown
 abbrev pub AllKnow : Published → List Known → Type 0

@@ -31,7 +31,7 @@ pub struct Looker {
 
 impl Model for Looker {
     ghost use Rattle.std.specs.Prelude.{◌≡◌, length, IsSome, IfSome};
-    ghost use Rattle.left_right.specs.Sides.{view};
+    ghost use Rattle.left_right.specs.Sides.{view as known_at};
     ghost use Rattle.version_board.specs.Names.{name_of, knowing};
     ghost use Rattle.version_board.specs.Ends.{LookerSeen};
 
@@ -39,7 +39,7 @@ impl Model for Looker {
 
     ghost view = { λ l. record { name = name_of l.front.book; seen = l.front.log } };
 
-    ghost invariant = { λ l. IsSome l.reader × IfSome l.reader (λ reader. view reader.place ≡ knowing (name_of l.front.book)) × (l.entries ≡ length l.front.log) };
+    ghost invariant = { λ l. IsSome l.reader × IfSome l.reader (λ reader. known_at reader.place ≡ knowing (name_of l.front.book)) × (l.entries ≡ length l.front.log) };
 }
 
 impl Looker {

@@ -25,7 +25,7 @@ pub struct Published {
 /// What two copies of what is shown have in common. No value of it is made.
 pub struct Content {
     /// The name of the board.
-    pub name: (u64, u64, u64),
+    pub name: LinkedList<u64>,
     /// The version.
     pub version: Directory,
     /// The entries that it stands for.

@@ -1,5 +1,5 @@
 //! A publisher: it shows one version after another, each with one entry more.
-ghost use Rattle.std.specs.Prelude.{◌≡◌, ◌∷◌, ◌++◌, [], None, Some, IsSome, IfSome, drop};
+ghost use Rattle.std.specs.Prelude.{◌≡◌, ◌∷◌, ◌++◌, [], None, Some, IsSome, IfSome, drop, length};
 ghost use Rattle.std.specs.Arc.{arc_value};
 ghost use Rattle.left_right.specs.Sides.{view};
 ghost use Rattle.history_model.specs.Versions.{VersionStandsFor};
@@ -36,7 +36,7 @@ pub struct Publisher {
 impl Model for Publisher {
     ghost use Rattle.std.specs.Prelude.{◌≡◌, ◌≤◌, [], length, drop, option_map, IsSome, IfSome};
     ghost use Rattle.std.specs.Arc.{arc_value};
-    ghost use Rattle.left_right.specs.Sides.{view};
+    ghost use Rattle.left_right.specs.Sides.{view as known_at};
     ghost use Rattle.version_board.specs.Books.{head_of};
     ghost use Rattle.version_board.specs.Names.{name_of, knowing};
     ghost use Rattle.version_board.specs.Ends.{PublisherSeen};
@@ -45,7 +45,7 @@ impl Model for Publisher {
 
     ghost view = { λ p. record { name = name_of p.front.book; told = p.front.log; published = option_map (λ writer. arc_value writer.desk.shown.value.version) p.writer; staged = option_map arc_value p.staged } };
 
-    ghost invariant = { λ p. IsSome p.writer × IfSome p.writer (λ writer. (view writer.desk.place ≡ knowing (name_of p.front.book)) × (writer.desk.shown.value.front.book ≡ p.front.book) × (writer.desk.shown.value.front.log ≡ p.front.log) × (drop writer.behind writer.log.items ≡ [])) × (p.head ≡ head_of p.front.book) × (p.entries ≡ length p.front.log) × IfSome p.staged (λ version. (arc_value version).swept ≤ (arc_value version).at) };
+    ghost invariant = { λ p. IsSome p.writer × IfSome p.writer (λ writer. (known_at writer.desk.place ≡ knowing (name_of p.front.book)) × (writer.desk.shown.value.front.book ≡ p.front.book) × (writer.desk.shown.value.front.log ≡ p.front.log) × (drop writer.behind writer.log.items ≡ [])) × (p.head ≡ head_of p.front.book) × (p.entries ≡ length p.front.log) × IfSome p.staged (λ version. (arc_value version).swept ≤ (arc_value version).at) };
 }
 
 impl Publisher {
@@ -127,16 +127,18 @@ impl Publisher {
 }
 
 impl Board for Publisher {
+    ghost use Rattle.std.specs.Prelude.{Some, is_some};
+
     ghost name = { λ p. p.name };
 
     ghost told = { λ p. Some p.told };
 
-    ghost staged = { λ p. p.staged };
+    ghost has_staged = { λ p. is_some p.staged };
+
+    ghost staged = { λ p. Some p.staged };
 
     /// It takes no memory, so it never answers Starved.
-    fn stage(&mut self, version: Arc<Directory>) -> Result<(), Starved>
-        requires free { self.old.staged ≡ None }
-    {
+    fn stage(&mut self, version: Arc<Directory>) -> Result<(), Starved> {
         self.staged = Some(version);
         Ok(())
     }

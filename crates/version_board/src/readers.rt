@@ -5,16 +5,16 @@ ghost use Rattle.version_board.specs.Names.{name_of, knowing};
 
 use crate::book::Front;
 use crate::published::Published;
-use atomic_table::{Join, Split};
 use crossbeam_utils::rule::{Outcome, Protocol};
 use left_right::reader::Reader;
+use std::collections::LinkedList;
 
 /// What an end of a board knows of the board's name. No value of it is made.
 pub struct Known {
     /// Whether it knows it.
     pub known: bool,
     /// The name.
-    pub name: (u64, u64, u64),
+    pub name: LinkedList<u64>,
 }
 
 /// The rule of what is shown: who knows a name knows that of the board. No value of it is made.

@@ -1,7 +1,8 @@
 //! STAND-IN until directory_core stands.
-ghost use Rattle.std.specs.Prelude.{◌≡◌, ◌≤◌, ◌∷◌, ◌++◌, [], List, Option, None, Some, IfSome, IfOk, IfErr, ℕ};
+ghost use Rattle.std.specs.Prelude.{◌≡◌, ◌≤◌, List, Option, None, Some, IfSome, OnOk, OnErr, ℕ, Bool, false};
 ghost use Rattle.std.specs.Arc.{arc_value};
-ghost use Rattle.history_model.specs.Versions.{Version, VersionStandsFor};
+ghost use Rattle.history_model.specs.Versions.{Version};
+ghost use Rattle.version_board.specs.Boards.{HasOneMore};
 ghost use Rattle.history_model.specs.declared.entries.Entry.{Entry};
 
 use rd_base::{Moment, Record, Starved};
@@ -38,17 +39,23 @@ impl Directory {
 
 /// Where versions are published.
 pub trait Board {
-    ghost name: { Self → ℕ × ℕ × ℕ };
+    ghost name: { Self → List ℕ };
 
     ghost told: { Self → Option (List Entry) };
 
-    ghost staged: { Self → Option Version };
+    ghost has_staged: { Self → Bool };
+
+    ghost staged: { Self → Option (Option Version) };
 
     /// Stages.
     fn stage(&mut self, version: Arc<Directory>) -> Result<(), Starved>
-        requires free { staged self.old ≡ None }
+        requires free { has_staged self.old ≡ false }
         requires swept { (arc_value version).swept ≤ (arc_value version).at }
-        requires next { IfSome (told self.old) (λ entries. (entry : Entry) × VersionStandsFor 0 (entries ++ entry ∷ []) (arc_value version)) }
+        requires next { IfSome (told self.old) (λ history. HasOneMore history (arc_value version)) }
         ensures name { name self.new ≡ name self.old }
-        ensures told { told self.new ≡ told self.old };
+        ensures told { told self.new ≡ told self.old }
+        ensures staged { OnOk result (IfSome (staged self.old) (λ before. staged self.new ≡ Some (Some (arc_value version)))) }
+        ensures untold { staged self.old ≡ None → staged self.new ≡ None }
+        ensures same { OnErr result (staged self.new ≡ staged self.old) }
+        ensures free { OnErr result (has_staged self.new ≡ false) };
 }
