@@ -1,5 +1,6 @@
 //! The turn lock: a take and a give beside a mutex of std, of one worker alone and of four at once.
 ghost use Rattle.std.specs.Prelude.{◌≡◌, ℕ, ◌+◌, ◌%◌, ◌^◌, true, false, length, All};
+ghost use Rattle.turn_lock.specs.Shown.{id_of, lock_of, is_holding, seen_of};
 
 use crate::tables::{Beside, ROUNDS, Trouble, begin};
 use std::marker::Brand;
@@ -43,21 +44,21 @@ impl Replays for Counter {
 
 /// Gives the counter back, one step further.
 fn give_back(lock: &TurnLock<Counter>, pass: &mut Pass<Counter>, counter: Counter)
-    requires lock { pass.old.seat.table_id ≡ lock.now.table.shared.table_id }
-    requires holding { pass.old.seat.me.0.holding ≡ true }
-    requires count { counter.count ≡ (length pass.old.seat.me.0.seen + 1) % 2 ^ 64 }
-    ensures lock { pass.new.seat.table_id ≡ pass.old.seat.table_id }
-    ensures idle { pass.new.seat.me.0.holding ≡ false }
+    requires lock { lock_of pass.old ≡ id_of lock.now }
+    requires holding { is_holding pass.old ≡ true }
+    requires count { counter.count ≡ (length (seen_of pass.old) + 1) % 2 ^ 64 }
+    ensures lock { lock_of pass.new ≡ lock_of pass.old }
+    ensures idle { is_holding pass.new ≡ false }
 {
     lock.give::<Brand>(pass, counter);
 }
 
 /// Takes the turn so many times, and gives it back one step further.
 fn turns<R: Wait>(rt: &R, lock: &TurnLock<Counter>, pass: &mut Pass<Counter>)
-    requires lock { pass.old.seat.table_id ≡ lock.now.table.shared.table_id }
-    requires idle { pass.old.seat.me.0.holding ≡ false }
-    ensures lock { pass.new.seat.table_id ≡ pass.old.seat.table_id }
-    ensures idle { pass.new.seat.me.0.holding ≡ false }
+    requires lock { lock_of pass.old ≡ id_of lock.now }
+    requires idle { is_holding pass.old ≡ false }
+    ensures lock { lock_of pass.new ≡ lock_of pass.old }
+    ensures idle { is_holding pass.new ≡ false }
 {
     'steps: for _ in 0..STEPS {
         let mut counter = lock.take(rt, pass);
@@ -80,10 +81,10 @@ fn turns_at_once<R: Threads + Wait + Sync>(
     lock: &TurnLock<Counter>,
     passes: &mut [Pass<Counter>],
 )
-    requires lock { All (λ pass. pass.seat.table_id ≡ lock.now.table.shared.table_id) passes.old }
-    requires idle { All (λ pass. pass.seat.me.0.holding ≡ false) passes.old }
-    ensures lock { All (λ pass. pass.seat.table_id ≡ lock.now.table.shared.table_id) passes.new }
-    ensures idle { All (λ pass. pass.seat.me.0.holding ≡ false) passes.new }
+    requires lock { All (λ pass. lock_of pass ≡ id_of lock.now) passes.old }
+    requires idle { All (λ pass. is_holding pass ≡ false) passes.old }
+    ensures lock { All (λ pass. lock_of pass ≡ id_of lock.now) passes.new }
+    ensures idle { All (λ pass. is_holding pass ≡ false) passes.new }
 {
     thread::for_each_mut(
         rt,

@@ -59,6 +59,7 @@ impl Looker {
     /// The version that was published last, or Starved where its owners are too many to count one more, or where the board has ended. It waits for nobody.
     ///
     /// The version has all entries that the looker had seen, and from then on the looker has seen all of its entries.
+    #[tactic(auto, using(crate::proofs::Fronts::shorter_first))]
     pub fn look(&mut self) -> Result<Arc<Directory>, Starved>
         ensures name { self.new.name ≡ self.old.name }
         ensures seen { IsPrefix self.old.seen self.new.seen }

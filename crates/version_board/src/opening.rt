@@ -14,21 +14,10 @@ use crate::lookers::Lookers;
 use crate::published::Published;
 use crate::publisher::Publisher;
 use crate::stand_in::Directory;
-use crate::writers::{BoardWriter, reader, show_the_first};
-use left_right::writer::Writer;
+use crate::writers::{BoardWriter, open_writer, reader};
 use rd_base::Starved;
 use std::alloc::Global;
 use std::sync::{Arc, Wait};
-
-/// A writer that shows the first version.
-fn writer_of(alloc: Global, first: Published, lookers: u32) -> Result<BoardWriter, Starved>
-    requires lookers { (1 ≤ lookers) × (lookers ≤ 16) }
-    ensures shown { IfOk result (λ writer. content_of writer.desk.shown.value ≡ content_of first) }
-    ensures none { IfOk result (λ writer. drop writer.behind writer.log.items ≡ []) }
-{
-    let second = first.share()?;
-    Ok(Writer::new(alloc, first, second, lookers as usize)?)
-}
 
 /// So many lookers that have seen nothing, for the writer's board.
 fn lookers_of(
@@ -74,17 +63,11 @@ pub fn board<R: Wait>(
         version: first,
         front: front.again(),
     };
-    let next = first.share()?;
-    let mut writer = writer_of(alloc, first, lookers)?;
-    if writer.append(next).is_err() {
-        let _ = writer.take(rt);
-        return Err(Starved);
-    }
-    let mut writer = show_the_first(rt, writer);
+    let mut writer = open_writer(alloc, rt, first, lookers)?;
     match lookers_of(alloc, &mut writer, &front, lookers) {
         Ok(made) => Ok((Publisher::of(writer, head, front), Lookers::of(made))),
         Err(e) => {
-            let _ = writer.take(rt);
+            let _last = writer.take(rt);
             Err(e)
         }
     }

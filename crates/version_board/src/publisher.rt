@@ -11,7 +11,7 @@ use crate::book::{Front, Head, enter};
 use crate::entering::Entering;
 use crate::published::Published;
 use crate::stand_in::{Board, Directory};
-use crate::writers::{BoardWriter, append, show};
+use crate::writers::{BoardWriter, show};
 use rd_base::Starved;
 use std::marker::Model;
 use std::mem;
@@ -94,21 +94,15 @@ impl Publisher {
             unreachable!()
         };
         let held = mem::replace(&mut self.writer, None);
-        let Some(mut writer) = held else {
-            unreachable!()
-        };
+        let Some(writer) = held else { unreachable!() };
         let entries = version.entries();
         self.front = enter::<E, R>(rt, &self.head, &self.front, self.entries, entries);
         self.entries = entries;
-        append(
-            rt,
-            &mut writer,
-            Published {
-                version,
-                front: self.front.again(),
-            },
-        );
-        let out = mem::replace(&mut self.writer, Some(show(rt, writer)));
+        let next = Published {
+            version,
+            front: self.front.again(),
+        };
+        let out = mem::replace(&mut self.writer, Some(show(rt, writer, next)));
         let None = out else { unreachable!() };
     }
 

@@ -22,7 +22,7 @@ tell-note-requires c x views h at seat v e k =
     let id = c.args.writer.now.desk.place.id in
     ⊎_elim
     (λ t. h seat v (subst (λ (xs : List Known). get_elem? xs seat ≡ some v) (set_again views id me at) t) k)
-    (λ (t : me ≡ v). sym t ∙ h id me at c.requires)
+    (λ (t : me ≡ v). sym t ∙ h id me at c.requires.known)
     (at_snoc (set views id me) me v seat e)
 
 pub learn-requires-clause-rule : goal.learn-requires-clause-rule
@@ -30,7 +30,7 @@ learn-requires-clause-rule c x views h at apart there seat v e k =
     let note = c.tell-note.result in
     let nv = view note in
     let id = c.in_ok-reader.reader.place.id in
-    let known : nv.known ≡ true = ap (λ (u : Known). u.known) c.tell-note.ensures.given.1 ∙ c.requires in
+    let known : nv.known ≡ true = ap (λ (u : Known). u.known) c.tell-note.ensures.given.1 ∙ c.requires.known in
     let here : nv ≡ knowing (name_of x.front.book) = ⊎_elim
     (λ (t : (note.id ≡ id) × (nv ≡ nv)). absurd (apart t.0))
     (λ (t : (note.id ≢ id) × (get_elem? views note.id ≡ some nv)). h note.id nv t.1 known)
