@@ -1,3 +1,4 @@
 pub mod Fronts
 pub mod Steps
 pub mod Tries
+pub mod Contents

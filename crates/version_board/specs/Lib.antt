@@ -3,3 +3,4 @@ pub mod Names
 pub mod Contents
 pub mod Ends
 pub mod Boards
+pub mod Samples

@@ -1,5 +1,5 @@
 //! A looker: it reads what is shown, and waits for nobody.
-ghost use Rattle.std.specs.Prelude.{◌≡◌, ◌≤◌, List, [], IfOk, IfErr};
+ghost use Rattle.std.specs.Prelude.{◌≡◌, ◌≤◌, List, [], true, IfOk, IfErr};
 ghost use Rattle.std.specs.Arc.{arc_value};
 ghost use mathlib.Core.List.{IsPrefix};
 ghost use Rattle.left_right.specs.Sides.{view};
@@ -101,5 +101,21 @@ impl Looker {
             self.front = told.again();
             self.entries = entries;
         }
+    }
+}
+
+#[cfg(test)]
+impl Looker {
+    /// Its reader.
+    pub(crate) fn into_reader(self) -> BoardReader
+        ensures { (view result.place).known ≡ true }
+    {
+        let Looker {
+            reader: held,
+            front: _front,
+            entries: _,
+        } = self;
+        let Some(reader) = held else { unreachable!() };
+        reader
     }
 }

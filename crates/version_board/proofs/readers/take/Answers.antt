@@ -4,7 +4,7 @@ use lib.ListN.{get_elem?}
 use Rattle.atomic_table.proofs.Lists.{at_set}
 use Rattle.left_right.specs.Sides.{view}
 use Rattle.version_board.specs.Names.{name_of, knowing}
-use Rattle.version_board.proofs.readers.read.Goals as goal
+use Rattle.version_board.proofs.readers.take.Goals as goal
 
 pub enter_as-requires : goal.enter_as-requires
 enter_as-requires c x views h at =
