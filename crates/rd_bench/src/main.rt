@@ -9,7 +9,9 @@ mod datagrams;
 mod exchanges;
 mod leases;
 mod listings;
+mod looks;
 mod registrations;
+mod sources;
 mod tables;
 mod turns;
 
@@ -25,7 +27,8 @@ fn measured<R: Threads + Wait + Net + Sync>(rt: &HostRuntime, threads: &R) -> Re
     registrations::measured(rt)?;
     listings::measured(rt)?;
     turns::measured(rt, threads)?;
-    datagrams::measured(rt, threads)
+    datagrams::measured(rt, threads)?;
+    looks::measured(rt, threads)
 }
 
 fn main(rt: HostRuntime) {

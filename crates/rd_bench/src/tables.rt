@@ -3,7 +3,7 @@
 use rd_base::Starved;
 use std::alloc::{AllocError, AllocFailed, Global};
 use std::io;
-use std::time::Instant;
+use std::time::{Duration, Instant};
 
 /// How often each call is measured at each size.
 pub const ROUNDS: u64 = 5;
@@ -63,7 +63,11 @@ impl Rounds {
 
     /// A round that began at `start` ends now; it made this many calls.
     pub fn end(&mut self, rt: &HostRuntime, start: Instant, calls: u64) -> Result<(), Trouble> {
-        let time = start.elapsed(rt)?;
+        self.add(start.elapsed(rt)?, calls)
+    }
+
+    /// A round took this time; it made this many calls.
+    pub fn add(&mut self, time: Duration, calls: u64) -> Result<(), Trouble> {
         let nanoseconds = u64::try_from(time.as_nanos()).unwrap_or(u64::MAX);
         self.times
             .push(nanoseconds.checked_div(calls).unwrap_or(0))?;

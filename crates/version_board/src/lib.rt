@@ -11,7 +11,6 @@ mod opening;
 mod published;
 mod publisher;
 mod readers;
-mod stand_in;
 mod writers;
 
 pub use book::{BookRule, Front};
@@ -20,4 +19,8 @@ pub use looker::Looker;
 pub use lookers::Lookers;
 pub use opening::board;
 pub use publisher::Publisher;
-pub use stand_in::{Board, Directory};
+
+#[cfg(test)]
+mod source;
+#[cfg(test)]
+mod tests;

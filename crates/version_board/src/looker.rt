@@ -12,7 +12,7 @@ ghost use Rattle.version_board.specs.Ends.{new_looker};
 use crate::book::{Front, compare};
 use crate::publisher::Publisher;
 use crate::readers::{BoardReader, read};
-use crate::stand_in::Directory;
+use directory_core::Directory;
 use rd_base::Starved;
 use std::marker::Model;
 use std::mem;
@@ -74,6 +74,7 @@ impl Looker {
         let Some(shown) = shown else {
             return Err(Starved);
         };
+        // What is shown is never older than what was shown before, though no clause of its readers says so.
         let entries = shown.version.entries();
         if entries < self.entries {
             return Err(Starved);

@@ -4,7 +4,7 @@ ghost use Rattle.std.specs.Arc.{arc_value};
 ghost use Rattle.history_model.specs.Versions.{VersionStandsFor};
 
 use crate::book::Front;
-use crate::stand_in::Directory;
+use directory_core::Directory;
 use history_model::Entry;
 use left_right::Absorb;
 use std::alloc::AllocError;

@@ -1,7 +1,0 @@
-use Rattle.std.specs.Prelude.{List, [], ◌∷◌, ◌++◌}
-use Rattle.history_model.specs.declared.entries.Entry.{Entry}
-use Rattle.history_model.specs.Versions.{Version, VersionStandsFor}
-
-pub record HasOneMore (history : List Entry) (version : Version) : Type 0 where
-  pub entry : Entry
-  pub stands : VersionStandsFor 0 (history ++ entry ∷ []) version
