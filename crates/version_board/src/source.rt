@@ -57,7 +57,6 @@ fn draft_of(alloc: Global) -> Result<Draft, Fail>
 }
 
 /// The version in which the endpoint registers at a moment.
-#[tactic(auto, using(crate::proofs::Sampled::sample_registers))]
 fn registered(alloc: Global, last: &Directory, now: Moment) -> Result<Directory, Fail>
     requires at { last.now.at ≤ now.0 }
     requires swept { last.now.swept ≤ now.0 }
@@ -75,6 +74,7 @@ fn publish_at<E: Entering, R: Wait>(rt: &R, publisher: &mut Publisher, now: Mome
     requires entry { E.entered ≡ sample_entry now.0 }
     requires staged { IsSome publisher.old.staged }
     requires stands { IfSome publisher.old.staged (VersionStandsFor 0 (publisher.old.told ++ sample_entry now.0 ∷ [])) }
+    ensures name { publisher.new.name ≡ publisher.old.name }
     ensures told { publisher.new.told ≡ publisher.old.told ++ sample_entry now.0 ∷ [] }
     ensures staged { publisher.new.staged ≡ None }
 {

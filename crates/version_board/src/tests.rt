@@ -1,4 +1,7 @@
 //! One publisher that publishes thousands of versions, lookers that look meanwhile, and the ends of a board.
+ghost use Rattle.std.specs.Prelude.{◌≡◌, true, None};
+ghost use Rattle.left_right.specs.Sides.{view};
+
 use crate::readers::{BoardReader, BoardReading, take};
 use crate::source::Source;
 use crate::{Looker, Lookers};
@@ -7,8 +10,8 @@ use std::alloc::Global;
 use std::sync::Wait;
 use std::sync::atomic::{AtomicU64, Ordering};
 use std::test::Fail;
-use std::thread;
 use std::thread::{Threads, join};
+use std::{mem, thread};
 
 /// How many versions are published.
 const PUBLISHINGS: u64 = 10_000;
@@ -47,6 +50,7 @@ impl Watch {
             if is_last {
                 return;
             }
+            thread::yield_now();
         }
         self.is_good = false;
     }
@@ -73,14 +77,15 @@ fn publish<R: Wait>(alloc: Global, rt: &R, source: &mut Source, count: u64) -> R
     Ok(())
 }
 
-// Publishes all versions, and then says so.
+// Publishes so many versions, and then says so.
 fn publish_all<R: Wait>(
     alloc: Global,
     rt: &R,
     source: &mut Source,
+    count: u64,
     is_done: &AtomicU64,
 ) -> Result<(), Fail> {
-    let published = publish(alloc, rt, source, PUBLISHINGS);
+    let published = publish(alloc, rt, source, count);
     is_done.store(1, Ordering::SeqCst);
     published
 }
@@ -98,7 +103,7 @@ fn watched<R: Threads + Wait + Sync>(
     let watching = watches.as_mut_slice();
     let (published, ()) = join(
         rt,
-        || publish_all(alloc, rt, source, done),
+        || publish_all(alloc, rt, source, PUBLISHINGS, done),
         || thread::for_each_mut(rt, watching, 4, &|_, watch: &mut Watch| watch.watch(done)),
     );
     published?;
@@ -130,41 +135,81 @@ fn look_for_entry(looker: &mut Looker) -> bool {
     false
 }
 
-// While the first reader holds the empty version, the second publishing waits, and a look shows the first one.
+// The reading ends, where it has not ended yet.
+fn leave(held: &mut Option<BoardReading>)
+    ensures { held.new ≡ None }
+{
+    let reading = mem::replace(held, None);
+    match reading {
+        Some(reading) => drop(reading.leave()),
+        None => {}
+    }
+}
+
+// Looks until there is an entry, and then ends the reading. Whether all was not published yet by then.
+fn look_and_leave(looker: &mut Looker, is_done: &AtomicU64, held: &mut Option<BoardReading>) -> bool
+    ensures { held.new ≡ None }
+{
+    let is_shown = look_for_entry(looker);
+    let is_waiting = is_done.load(Ordering::SeqCst) == 0;
+    leave(held);
+    is_shown && is_waiting
+}
+
+// While a reader holds the empty version, the second publishing waits, and a look shows the first one.
 fn looked_meanwhile<R: Threads + Wait + Sync>(
     alloc: Global,
     rt: &R,
     source: &mut Source,
-    held: BoardReading,
+    held: &mut Option<BoardReading>,
     looker: &mut Looker,
 ) -> Result<bool, Fail> {
-    let count = AtomicU64::new(0);
+    let is_done = AtomicU64::new(0);
+    let done = &is_done;
     let (published, is_good) = join(
         rt,
-        || {
-            let published = publish(alloc, rt, source, 2);
-            count.store(2, Ordering::SeqCst);
-            published
-        },
-        || {
-            let is_shown = look_for_entry(looker);
-            let is_waiting = count.load(Ordering::SeqCst) == 0;
-            drop(held.leave());
-            is_shown && is_waiting
-        },
+        || publish_all(alloc, rt, source, 2, done),
+        || look_and_leave(looker, done, held),
     );
     published?;
     Ok(is_good)
+}
+
+// The same with a reading of this reader, which is ended.
+fn looked_beside<R: Threads + Wait + Sync>(
+    alloc: Global,
+    rt: &R,
+    source: &mut Source,
+    reader: BoardReader,
+    looker: &mut Looker,
+) -> Result<bool, Fail>
+    requires known { (view reader.place).known ≡ true }
+{
+    match take(reader) {
+        Ok(reading) => {
+            let mut held = Some(reading);
+            let outcome = looked_meanwhile(alloc, rt, source, &mut held, looker);
+            leave(&mut held);
+            let None = held else { unreachable!() };
+            outcome
+        }
+        Err(_reader) => Err("the empty version is shown".into()),
+    }
 }
 
 #[test]
 fn a_look_while_a_publish_waits(rt: HostRuntime) -> Result<(), Fail> {
     let (mut source, mut lookers) = Source::open(rt.alloc(), &rt, 2)?;
     let outcome = match (lookers.take_first(), lookers.take_first()) {
-        (Some(first), Some(mut second)) => match take(first.into_reader()) {
-            Ok(held) => looked_meanwhile(rt.alloc(), &rt, &mut source, held, &mut second),
-            Err(_reader) => Err("the empty version is shown".into()),
-        },
+        (Some(first), Some(mut second)) => {
+            looked_beside(
+                rt.alloc(),
+                &rt,
+                &mut source,
+                first.into_reader(),
+                &mut second,
+            )
+        }
         _ => Err("there are two lookers".into()),
     };
     source.end(&rt);
@@ -182,7 +227,7 @@ fn met<R: Wait>(
     requires name { looker.old.name ≡ source.old.publisher.name }
 {
     let mut entries = 0;
-    for _ in 0..3 {
+    'rounds: for _ in 0..3 {
         source.publish_next(alloc, rt)?;
         source.meet(looker);
         entries = looker.look()?.entries();
