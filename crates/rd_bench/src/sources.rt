@@ -7,9 +7,9 @@ ghost use Rattle.registration.specs.Drafts.{IsDraft, drafted};
 ghost use Rattle.version_board.specs.Samples.{sample_peer, sample_params, sample_entry};
 
 use crate::tables::Trouble;
-use directory_core::{Board, Directory, Refusal};
+use directory_core::{Board, Directory};
 use rd_base::{Host, Moment, Name, Pairs, Peer, RegParams, Starved, Text};
-use registration::{Draft, DraftFault, build};
+use registration::{Draft, build};
 use std::alloc::Global;
 use std::marker::Brand;
 use std::sync::{Arc, Wait};
@@ -46,16 +46,13 @@ fn params_of(alloc: Global) -> Result<RegParams, Starved>
 }
 
 /// The draft of the endpoint.
+#[tactic(auto, using(version_board::proofs::Sampled::sample_allowed, version_board::proofs::Sampled::sample_made))]
 fn draft_of(alloc: Global) -> Result<Draft, Trouble>
     ensures draft { IfOk result IsDraft }
     ensures made { IfOk result (λ draft. draft ≡ drafted sample_peer sample_params []) }
 {
     let params = params_of(alloc)?;
-    match build(alloc, params, PEER, b"") {
-        Ok(draft) => Ok(draft),
-        Err(DraftFault::Starved) => Err(Trouble::Starved),
-        Err(_) => Err(Trouble::Outside),
-    }
+    Ok(build(alloc, params, PEER, b"")?)
 }
 
 /// The version in which the endpoint registers at a moment.
@@ -67,11 +64,8 @@ fn registered(alloc: Global, last: &Directory, now: Moment) -> Result<Directory,
     ensures swept { IfOk result (λ version. version.swept ≡ last.now.swept) }
 {
     let draft = draft_of(alloc)?;
-    match last.register(now, draft) {
-        Ok((version, _number)) => Ok(version),
-        Err(Refusal::Starved) => Err(Trouble::Starved),
-        Err(_) => Err(Trouble::Outside),
-    }
+    let (version, _number) = last.register(now, draft)?;
+    Ok(version)
 }
 
 /// The version after this one.

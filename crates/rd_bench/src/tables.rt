@@ -1,6 +1,8 @@
 //! The table that is printed: rounds that are timed, their middle one, and a line for each call.
 
+use directory_core::Refusal;
 use rd_base::Starved;
+use registration::DraftFault;
 use std::alloc::{AllocError, AllocFailed, Global};
 use std::io;
 use std::time::{Duration, Instant};
@@ -13,7 +15,7 @@ pub const ROUNDS: u64 = 5;
 pub enum Trouble {
     /// Out of memory.
     Starved,
-    /// The clock could not be asked, or a stream could not be written.
+    /// The clock could not be asked, a stream could not be written, or a call refused what it was given.
     Outside,
 }
 
@@ -32,6 +34,24 @@ impl From<AllocError> for Trouble {
 impl<T: Drop> From<AllocFailed<T>> for Trouble {
     fn from(_: AllocFailed<T>) -> Trouble {
         Trouble::Starved
+    }
+}
+
+impl From<DraftFault> for Trouble {
+    fn from(fault: DraftFault) -> Trouble {
+        match fault {
+            DraftFault::Starved => Trouble::Starved,
+            _ => Trouble::Outside,
+        }
+    }
+}
+
+impl From<Refusal> for Trouble {
+    fn from(refusal: Refusal) -> Trouble {
+        match refusal {
+            Refusal::Starved => Trouble::Starved,
+            _ => Trouble::Outside,
+        }
     }
 }
 
