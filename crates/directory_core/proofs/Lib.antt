@@ -1,0 +1,5 @@
+pub mod InOrderLaws
+pub mod RecordMapLaws
+pub mod SlotLaws
+pub mod CountLaws
+pub mod LeaseLaws

@@ -1,0 +1,22 @@
+//! Versions of the directory: each stands for a history of changes, and never changes (RFC 9176 sections 5 and 6).
+#![tactic(auto)]
+
+mod boards;
+mod counts;
+mod directory;
+mod kept;
+mod lapsing;
+mod lookup;
+mod names;
+mod reads;
+mod records;
+mod refusals;
+mod register;
+mod remove;
+mod sweep;
+mod update;
+
+pub use boards::{Board, NoBoard};
+pub use directory::Directory;
+pub use lapsing::LapsingIter;
+pub use refusals::Refusal;
