@@ -1,12 +1,13 @@
 -- How many records are live, and what they weigh, by what has lapsed.
-use Rattle.std.proofs.Common.{◌≡◌, ℕ, ◌+◌, ◌-◌, ◌≤◌, nat_lt, nat_le, Bool, true, false, cond, List, [], ◌∷◌, map, filter, length, sum_by, Option, Some, None, refl, sym, ap, ap₂, ◌∙◌, arith, ltb-true}
+use Rattle.std.proofs.Common.{◌≡◌, ℕ, ◌+◌, ◌-◌, ◌<◌, ◌≤◌, max, ◌&&◌, nat_lt, nat_le, Bool, true, false, cond, List, [], ◌∷◌, map, filter, length, sum_by, Option, Some, None, refl, sym, ap, ap₂, ◌∙◌, arith, ltb-true}
 use Rattle.std.specs.List.{AllByRecursion}
 use Rattle.std.proofs.lemmas.Bool.{ltb-false, leb-true, leb-false}
 use Rattle.std.proofs.lemmas.List.Sums.{sum_by-cons}
 use Rattle.rd_base.specs.declared.records.Record.{Record}
 use Rattle.rd_base.proofs.lemmas.Pairs.{PairsByRecursion}
 use Rattle.record_model.specs.ListingLines.{weight}
-use Rattle.history_model.specs.Leases.{lapse, is_live_at, live_among}
+use Rattle.history_model.specs.Leases.{lapse, is_live_at, live_among, lapsing_among, lapsed_between}
+use Rattle.history_model.specs.Refusals.{text_of}
 use Rattle.history_model.specs.Replay.{numbered}
 use Rattle.history_model.proofs.NumberLaws.{IsBelow}
 use Rattle.lease_queue.specs.Leases.{lapsed_at}
@@ -87,13 +88,6 @@ left_of : (f : Record → ℕ) (from now : ℕ) (rs : List Record) → from ≤ 
 left_of f from now [] order = refl
 left_of f from now (r ∷ rs) order = by (is_live_at from r) (nat_le (lapse r) now) (is_live_at now r) refl refl refl (left_of f from now rs order)
   where
-    g : Record → ℕ
-    g x = cond (nat_le (lapse x) now) (cond (is_live_at from x) (f x) 0) 0
-
-    g_is : g r ≡ cond (nat_le (lapse r) now) (cond (is_live_at from r) (f r) 0) 0
-    unfolding g
-    g_is = refl
-
     clash : (a b c : ℕ) → nat_lt a c ≡ false → nat_lt b c ≡ true → a ≤ b → ⊥
     clash a b c p q order = let low = ltb-false _ _ p in let high = ltb-true _ _ q in omega arith
 
@@ -150,3 +144,35 @@ counts-lapsed from now rs order up =
     let after = ones (live_among now rs) in
     lapses_lose from rs (counts_of (live_among from rs)) ns
     ∙ ap₂ counts (omega (arith, live_lost, live, before, after)) (omega (arith, text_lost, text))
+
+-- no more are live later
+pub fewer_live : (from now : ℕ) (rs : List Record) → from ≤ now → length (live_among now rs) ≤ length (live_among from rs)
+fewer_live from now rs order =
+    let live = left_of (λ (r : Record). 1) from now rs order in
+    let before = ones (live_among from rs) in
+    let after = ones (live_among now rs) in
+    omega (arith, live, before, after)
+
+pub less_text : (from now : ℕ) (rs : List Record) → from ≤ now → text_of (live_among now rs) ≤ text_of (live_among from rs)
+less_text from now rs order = let text = left_of weight from now rs order in omega (arith, text)
+
+-- of records that lapse after a sweep, so many lapse between a moment and a later one
+pub lapsed_counted : (at swept now : ℕ) (rs : List Record) → at ≤ now → swept ≤ now → AllByRecursion (λ r. swept < lapse r) rs
+    → length (live_among (max at swept) rs) ≡ lapsed_between at now rs + length (live_among now rs)
+lapsed_counted at swept now [] a b unswept = refl
+lapsed_counted at swept now (r ∷ rs) a b unswept = by (is_live_at (max at swept) r) (nat_lt at (lapse r)) (nat_le (lapse r) now) (is_live_at now r) refl refl refl refl (lapsed_counted at swept now rs a b unswept.1)
+  where
+    above : swept < lapse r
+    above = unswept.0
+
+    by : (l f e n : Bool) → is_live_at (max at swept) r ≡ l → nat_lt at (lapse r) ≡ f → nat_le (lapse r) now ≡ e → is_live_at now r ≡ n
+        → length (live_among (max at swept) rs) ≡ lapsed_between at now rs + length (live_among now rs)
+        → length (cond l (r ∷ live_among (max at swept) rs) (live_among (max at swept) rs)) ≡ length (cond (f && e) (r ∷ lapsing_among at now rs) (lapsing_among at now rs)) + length (cond n (r ∷ live_among now rs) (live_among now rs))
+    by l f true true el ef ee en more = let low = leb-true _ _ ee in let high : now < lapse r = ltb-true _ _ en in absurd (omega arith)
+    by l f false false el ef ee en more = let low = leb-false _ _ ee in let high = ltb-false _ _ en in absurd (omega arith)
+    by true true true false el ef ee en more = omega (arith, more)
+    by true true false true el ef ee en more = omega (arith, more)
+    by true false e n el ef ee en more = let low = ltb-false _ _ ef in let high : max at swept < lapse r = ltb-true _ _ el in absurd (omega arith)
+    by false true e n el ef ee en more = let low = ltb-false _ _ el in let high : at < lapse r = ltb-true _ _ ef in let over = above in absurd (omega arith)
+    by false false true false el ef ee en more = omega (arith, more)
+    by false false false true el ef ee en more = let low = ltb-false _ _ ef in let high : now < lapse r = ltb-true _ _ en in absurd (omega arith)

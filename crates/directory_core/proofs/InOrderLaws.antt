@@ -29,7 +29,7 @@ module _ (key : Record → ℕ) where
   abbrev before : Record → Record → Bool
   before r other = stands_before key r other
 
-  before_trans : (a b c : Record) → before a b ≡ true → before b c ≡ true → before a c ≡ true
+  pub before_trans : (a b c : Record) → before a b ≡ true → before b c ≡ true → before a c ≡ true
   before_trans a b c p q = trans_numbers (key a) a.number (key b) b.number (key c) c.number p q
 
   pub before_back : (a b : Record) → before a b ≡ true → before b a ≡ false
@@ -125,7 +125,7 @@ module _ (key : Record → ℕ) where
   in_order_same (r ∷ rs) up = ap (λ xs. placed key r xs) (in_order_same rs up.1) ∙ placed_first r rs up.0
 
   -- two records are placed in either order
-  placed_swapped : (a b : Record) (xs : List Record) → DifferFrom a b → placed key a (placed key b xs) ≡ placed key b (placed key a xs)
+  pub placed_swapped : (a b : Record) (xs : List Record) → DifferFrom a b → placed key a (placed key b xs) ≡ placed key b (placed key a xs)
   unfolding placed
   placed_swapped a b [] differ = by (before a b) (before b a) refl refl
     where

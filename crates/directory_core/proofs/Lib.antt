@@ -1,5 +1,8 @@
 pub mod InOrderLaws
 pub mod RecordMapLaws
 pub mod SlotLaws
-pub mod CountLaws
 pub mod LeaseLaws
+pub mod CountLaws
+pub mod ChangeLaws
+pub mod LapsingLaws
+pub mod ReadLaws

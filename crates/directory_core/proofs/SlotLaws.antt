@@ -237,3 +237,18 @@ first-slots rs name moment up =
 
     same : (r : Record) → is_same_name r.name name ≡ true → (key r == hash_of name) ≡ true
     same r e = numbers (key r) (hash_of name) (ap hash_of ((is_same_name-Decides r.name name).0 e))
+
+-- ---- the first of numbers
+
+pub first_here : (records : List Record) (name : Name) (moment n : ℕ) (numbers : List ℕ) (r : Record) → Some r ≡ if_live_named name moment (numbered n records) → first_live_named records name moment (n ∷ numbers) ≡ Some r
+unfolding first_live_named
+first_here records name moment n numbers r found = rw (← found) refl
+
+pub first_later : (records : List Record) (name : Name) (moment n : ℕ) (numbers : List ℕ) → None ≡ if_live_named name moment (numbered n records)
+    → first_live_named records name moment (n ∷ numbers) ≡ first_live_named records name moment numbers
+unfolding first_live_named
+first_later records name moment n numbers none = rw (← none) refl
+
+pub first_none : (records : List Record) (name : Name) (moment : ℕ) → first_live_named records name moment [] ≡ None
+unfolding first_live_named
+first_none records name moment = refl

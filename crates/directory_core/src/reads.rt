@@ -49,9 +49,8 @@ fn first_of_name<'a, L: Ledger>(
 {
     let mut steps = Steps::<L>::new(blank);
     'numbers: while let Some(number) = numbers.step(&mut steps) {
-        let found = live_of_name(records.get(number), name, now);
-        if found.is_some() {
-            return found;
+        if let Some(kept) = live_of_name(records.get(number), name, now) {
+            return Some(kept);
         }
     }
     None
