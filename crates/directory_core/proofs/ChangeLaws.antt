@@ -1,5 +1,5 @@
 -- Lists of records of which one is made anew, taken out or put at the end: what is in order, what is live, and what they weigh.
-use Rattle.std.proofs.Common.{◌≡◌, ℕ, ◌+◌, ◌<◌, ◌==◌, ◌&&◌, nat_lt, Bool, true, false, not, cond, List, [], ◌∷◌, ◌++◌, map, filter, find, length, sum_by, Option, Some, None, refl, sym, ap, ◌∙◌, subst, append-nil, arith, eqb-true, ne_eqb}
+use Rattle.std.proofs.Common.{◌≡◌, ℕ, ◌+◌, ◌<◌, ◌==◌, ◌&&◌, ◌||◌, nat_lt, Bool, true, false, not, cond, List, [], ◌∷◌, ◌++◌, map, filter, find, length, sum_by, Option, Some, None, refl, sym, ap, ◌∙◌, subst, append-nil, arith, eqb-true, ne_eqb}
 use Rattle.std.specs.List.{AllByRecursion}
 use Rattle.std.proofs.lemmas.Bool.{true≢false}
 use Rattle.std.proofs.lemmas.Bool.Decides.{nat_tests}
@@ -10,17 +10,11 @@ use Rattle.rd_base.proofs.lemmas.Filters.{filter_all}
 use Rattle.rd_base.proofs.lemmas.Pairs.{PairsByRecursion, pairs_filter}
 use Rattle.history_model.specs.Replay.{is_numbered, numbered, with_changed}
 use Rattle.history_model.proofs.NumberLaws.{IsBelow}
+use Rattle.directory_core.specs.AfterEntries.{renewed, without}
 use Rattle.directory_core.specs.LapseOrder.{stands_before, placed, in_order_of}
 use Rattle.directory_core.specs.NumberOrder.{with_record}
 use Rattle.directory_core.proofs.InOrderLaws.{DifferFrom, placed_swapped, in_order_middle, each_in_order}
 use Rattle.directory_core.proofs.SlotLaws.{below_differ}
-
--- one record in place of that of its number
-abbrev pub renewed : Record → List Record → List Record
-renewed r records = with_changed r.number (λ _. r) records
-
-abbrev pub without : ℕ → List Record → List Record
-without number records = filter (λ r. not (is_numbered number r)) records
 
 -- ---- the record of a number
 
@@ -113,6 +107,9 @@ with_record-last r (x ∷ xs) below =
 
 -- ---- in order
 
+same_before : (a c m o b d n p : ℕ) → a ≡ c → m ≡ o → b ≡ d → n ≡ p → (nat_lt a b || ((a == b) && nat_lt m n)) ≡ (nat_lt c d || ((c == d) && nat_lt o p))
+same_before a c m o b d n p e f g h = cc
+
 module _ (key : Record → ℕ) where
   -- a record made anew is placed anew
   pub order_renewed : (r old : Record) (rs : List Record) → PairsByRecursion IsBelow rs → numbered r.number rs ≡ Some old → in_order_of key (renewed r rs) ≡ placed key r (in_order_of key (without r.number rs))
@@ -131,7 +128,7 @@ module _ (key : Record → ℕ) where
 
   -- what keeps its number and its place stays where it is
   pub order_kept : (f : Record → Record) (rs : List Record) → AllByRecursion (λ r. (key (f r) ≡ key r) × ((f r).number ≡ r.number)) rs → in_order_of key (map f rs) ≡ map f (in_order_of key rs)
-  unfolding in_order_of
+  unfolding in_order_of placed
   order_kept f [] kept = refl
   order_kept f (r ∷ rs) kept =
       ap (λ ys. placed key (f r) ys) (order_kept f rs kept.1)
@@ -139,15 +136,15 @@ module _ (key : Record → ℕ) where
     where
       placed_kept : (r : Record) (xs : List Record) → (key (f r) ≡ key r) × ((f r).number ≡ r.number) → AllByRecursion (λ r. (key (f r) ≡ key r) × ((f r).number ≡ r.number)) xs
           → placed key (f r) (map f xs) ≡ map f (placed key r xs)
-      unfolding placed
       placed_kept r [] one all = refl
       placed_kept r (x ∷ xs) one all =
-          let a = one.0 in let b = one.1 in let c = all.0.0 in let d = all.0.1 in
-          rw (a, b, c, d) (by (stands_before key r x) (placed_kept r xs one all.1))
+          by (stands_before key (f r) (f x)) (stands_before key r x) (same_before (key (f r)) (key r) (f r).number r.number (key (f x)) (key x) (f x).number x.number one.0 one.1 all.0.0 all.0.1) (placed_kept r xs one all.1)
         where
-          by : (b : Bool) → placed key (f r) (map f xs) ≡ map f (placed key r xs) → cond b (f r ∷ f x ∷ map f xs) (f x ∷ placed key (f r) (map f xs)) ≡ map f (cond b (r ∷ x ∷ xs) (x ∷ placed key r xs))
-          by true more = refl
-          by false more = ap (λ rest. f x ∷ rest) more
+          by : (a b : Bool) → a ≡ b → placed key (f r) (map f xs) ≡ map f (placed key r xs) → cond a (f r ∷ f x ∷ map f xs) (f x ∷ placed key (f r) (map f xs)) ≡ map f (cond b (r ∷ x ∷ xs) (x ∷ placed key r xs))
+          by true true e more = refl
+          by true false e more = absurd (true≢false e)
+          by false true e more = absurd (true≢false (sym e))
+          by false false e more = ap (λ rest. f x ∷ rest) more
 
   -- a record behind all is placed
   pub order_last : (rs : List Record) (r : Record) → AllByRecursion (DifferFrom r) rs → in_order_of key (rs ++ r ∷ []) ≡ placed key r (in_order_of key rs)

@@ -14,7 +14,10 @@ use Rattle.lease_queue.specs.Leases.{lapsed_at}
 use Rattle.directory_core.specs.declared.counts.Counts.{Counts}
 use Rattle.directory_core.specs.LapseOrder.{in_order_of_lapse}
 use Rattle.directory_core.specs.LiveCounts.{counts_of, without_lapse, without_lapses}
-use Rattle.directory_core.specs.Shown.{leases_of}
+use Rattle.history_model.specs.Versions.{Version}
+use Rattle.lease_queue.specs.declared.leases.Lease.{Lease}
+use Rattle.directory_core.specs.declared.names.NameSlot.{NameSlot}
+use Rattle.directory_core.specs.Shown.{counted_at, IsKept, leases_of}
 use Rattle.directory_core.proofs.InOrderLaws.{each_in_order, sum_in_order}
 use Rattle.directory_core.proofs.SlotLaws.{all_numbered}
 use Rattle.directory_core.proofs.LeaseLaws.{lapsed-leases}
@@ -176,3 +179,14 @@ lapsed_counted at swept now (r ∷ rs) a b unswept = by (is_live_at (max at swep
     by false true e n el ef ee en more = let low = ltb-false _ _ el in let high : at < lapse r = ltb-true _ _ ef in let over = above in absurd (omega arith)
     by false false true false el ef ee en more = omega (arith, more)
     by false false false true el ef ee en more = let low = ltb-false _ _ ef in let high : now < lapse r = ltb-true _ _ en in absurd (omega arith)
+
+-- the counts of a version at a moment, as they are taken
+pub counts-of_version : (v : Version) (records : List Record) (names : List NameSlot) (leases : List Lease) (count sum from now : ℕ) (lapsed : List ℕ) → IsKept v names leases count sum → v.at ≤ now → v.swept ≤ now
+    → records ≡ v.records → from ≡ counted_at v → lapsed ≡ lapsed_at now leases → (result : Counts) → result ≡ without_lapses from records (counts count sum) lapsed → result ≡ counts_of (live_among now v.records)
+counts-of_version v records names leases count sum from now lapsed k a b same at gone result is =
+    let before : counts count sum ≡ counts_of (live_among (counted_at v) v.records) = ap₂ counts k.live k.text in
+    is ∙ ap (λ m. without_lapses m records (counts count sum) lapsed) at
+    ∙ ap (λ rs. without_lapses (counted_at v) rs (counts count sum) lapsed) same
+    ∙ ap (λ c. without_lapses (counted_at v) v.records c lapsed) before
+    ∙ ap (λ ns. without_lapses (counted_at v) v.records (counts_of (live_among (counted_at v) v.records)) ns) (gone ∙ ap (lapsed_at now) k.leased)
+    ∙ counts-lapsed (counted_at v) now v.records (omega arith) k.rising

@@ -118,6 +118,21 @@ module _ (key : Record → ℕ) where
   in_order-IsOrdered [] differ = tt
   in_order-IsOrdered (r ∷ rs) differ = placed-IsOrdered r (in_order_of key rs) (each_in_order (DifferFrom r) rs differ.0) (in_order-IsOrdered rs differ.1)
 
+  differ_placed : (r : Record) (xs : List Record) → AllByRecursion (DifferFrom r) xs → PairsByRecursion DifferFrom xs → PairsByRecursion DifferFrom (placed key r xs)
+  unfolding placed
+  differ_placed r [] differ up = (tt, tt)
+  differ_placed r (x ∷ xs) differ up = by (before r x) (differ_placed r xs differ.1 up.1)
+    where
+      by : (b : Bool) → PairsByRecursion DifferFrom (placed key r xs) → PairsByRecursion DifferFrom (cond b (r ∷ x ∷ xs) (x ∷ placed key r xs))
+      by true more = (differ, up)
+      by false more = (each_placed (DifferFrom x) r xs (λ same. differ.0 (sym same)) up.0, more)
+
+  -- records in order have different numbers, where they have
+  pub differ_in_order : (rs : List Record) → PairsByRecursion DifferFrom rs → PairsByRecursion DifferFrom (in_order_of key rs)
+  unfolding in_order_of
+  differ_in_order [] up = tt
+  differ_in_order (r ∷ rs) up = differ_placed r (in_order_of key rs) (each_in_order (DifferFrom r) rs up.0) (differ_in_order rs up.1)
+
   -- what is in order stays
   pub in_order_same : (rs : List Record) → IsOrdered rs → in_order_of key rs ≡ rs
   unfolding in_order_of

@@ -52,3 +52,16 @@ lapsing-leases from to rs up =
 -- An end theorem: nothing here cites it.
 pub any_lapsing : (test : Record → Bool) (records : List Record) → list_any test (in_order_of_lapse records) ≡ list_any test records
 any_lapsing test records = any_in_order lapse test records
+
+-- the record of a number lapses later, or not, or is not there
+pub lapses_here : (from : ℕ) (records : List Record) (n : ℕ) (numbers : List ℕ) (r : Record) → numbered n records ≡ Some r → nat_lt from (lapse r) ≡ true → lapsing_left from records (n ∷ numbers) ≡ r ∷ lapsing_left from records numbers
+unfolding lapsing_left
+lapses_here from records n numbers r found later = rw (found, later) refl
+
+pub lapses_not : (from : ℕ) (records : List Record) (n : ℕ) (numbers : List ℕ) (r : Record) → numbered n records ≡ Some r → nat_lt from (lapse r) ≡ false → lapsing_left from records (n ∷ numbers) ≡ lapsing_left from records numbers
+unfolding lapsing_left
+lapses_not from records n numbers r found later = rw (found, later) refl
+
+pub lapses_none : (from : ℕ) (records : List Record) (n : ℕ) (numbers : List ℕ) → numbered n records ≡ None → lapsing_left from records (n ∷ numbers) ≡ lapsing_left from records numbers
+unfolding lapsing_left
+lapses_none from records n numbers found = rw found refl

@@ -6,3 +6,5 @@ pub mod CountLaws
 pub mod ChangeLaws
 pub mod LapsingLaws
 pub mod ReadLaws
+pub mod KeptLaws
+pub mod EmptyLaws

@@ -8,3 +8,4 @@ pub mod Shown
 pub mod Boards
 pub mod Bounds
 pub mod Lapsing
+pub mod AfterEntries

@@ -13,6 +13,8 @@ mod records;
 mod refusals;
 mod register;
 mod remove;
+mod renewed;
+mod room;
 mod sweep;
 mod update;
 

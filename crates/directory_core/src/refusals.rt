@@ -1,5 +1,7 @@
 //! Why a version refuses a change.
 
+use rd_base::Starved;
+
 /// Why a change is refused. What comes first in this order is answered; running out of memory may come instead of each.
 #[derive(Clone, Copy, Debug, PartialEq, Eq)]
 pub enum Refusal {
@@ -14,4 +16,16 @@ pub enum Refusal {
     FullEntries,
     /// Out of memory.
     Starved,
+}
+
+impl From<Starved> for Refusal {
+    ghost use Rattle.std.specs.Prelude.{◌≡◌};
+    ghost use Rattle.directory_core.specs.declared.refusals.Refusal.TheVariants as answer;
+
+    ghost from_gives = { λ _ e. e ≡ answer.Starved };
+
+    /// Out of memory.
+    fn from(_: Starved) -> Refusal {
+        Refusal::Starved
+    }
 }
