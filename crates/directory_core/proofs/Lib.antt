@@ -8,3 +8,7 @@ pub mod LapsingLaws
 pub mod ReadLaws
 pub mod KeptLaws
 pub mod EmptyLaws
+pub mod EntryLaws
+pub mod RenewLaws
+pub mod FitLaws
+pub mod AnswerLaws

@@ -1,5 +1,6 @@
 -- What a version answers of single records.
 use Rattle.std.proofs.Common.{◌≡◌, ℕ, ◌+◌, ◌-◌, ◌<◌, ◌≤◌, Bool, true, false, cond, List, [], ◌∷◌, filter, length, Option, Some, None, refl, sym, ap, ◌∙◌, arith}
+use Rattle.std.specs.Prelude.{IfSome}
 use Rattle.std.proofs.lemmas.Bool.{true≢false}
 use Rattle.rd_base.specs.declared.records.Name.{Name}
 use Rattle.rd_base.specs.declared.records.Record.{Record}
@@ -56,3 +57,8 @@ lapsed-counted v names leases count sum now k a b = k.live ∙ lapsed_counted v.
 pub tag-counted : (v : Version) (names : List NameSlot) (leases : List Lease) (count sum now live : ℕ) → IsKept v names leases count sum → v.at ≤ now → v.swept ≤ now → live ≡ length (live_among now v.records)
     → v.swept_live + (count - live) ≡ v.swept_live + lapsed_between v.at now v.records
 tag-counted v names leases count sum now live k a b is = let all = lapsed-counted v names leases count sum now k a b in omega (arith, all, is)
+
+-- of nothing everything is so
+pub none_so : {X : Type 0} (o : Option X) (P : X → Type 0) → o ≡ None → IfSome o P
+none_so None P e = tt
+none_so (Some x) P e = absurd cc

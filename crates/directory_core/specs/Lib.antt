@@ -9,3 +9,4 @@ pub mod Boards
 pub mod Bounds
 pub mod Lapsing
 pub mod AfterEntries
+pub mod EntryAnswers

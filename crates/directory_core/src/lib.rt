@@ -17,6 +17,7 @@ mod renewed;
 mod room;
 mod sweep;
 mod update;
+mod updated_drafts;
 
 pub use boards::{Board, NoBoard};
 pub use directory::Directory;

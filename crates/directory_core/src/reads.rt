@@ -1,8 +1,8 @@
 //! What a version answers of single registrations, of how many are live, and its entity tag (RFC 9176 sections 5 and 6).
-ghost use Rattle.std.specs.Prelude.{◌≡◌, ◌+◌, ◌<◌, ◌≤◌, ◌^◌, ℕ, List, length, find};
+ghost use Rattle.std.specs.Prelude.{◌≡◌, ◌+◌, ◌<◌, ◌≤◌, ◌^◌, true, ℕ, List, length, find, Some, IfSome};
 ghost use Rattle.std.specs.Option.{option_copied};
 ghost use Rattle.history_model.specs.declared.entries.Entry.{Entry};
-ghost use Rattle.history_model.specs.Leases.{live_among, lapsed_between};
+ghost use Rattle.history_model.specs.Leases.{is_live_at, live_among, lapsed_between};
 ghost use Rattle.history_model.specs.Listing.{tag_octets, tag_from};
 ghost use Rattle.history_model.specs.Live.{live};
 ghost use Rattle.history_model.specs.Replay.{is_live_named, number_named, numbered};
@@ -100,7 +100,10 @@ impl Directory {
 
     /// The live record of this number.
     pub(crate) fn live_numbered(&self, number: u64, now: Moment) -> Option<&Kept>
-        ensures { option_copied result ≡ numbered number (live_among now.0 self.now.records) }
+        ensures value { option_copied result ≡ numbered number (live_among now.0 self.now.records) }
+        ensures stored { IfSome result (λ kept. numbered kept.now.number self.now.records ≡ Some kept.now) }
+        ensures live { IfSome result (λ kept. is_live_at now.0 kept.now ≡ true) }
+        ensures sound { IfSome result (λ kept. shown.IsStored self.now kept.now) }
     {
         let kept = self.records.get(number)?;
         if !kept.is_live_at(now) {
@@ -111,7 +114,10 @@ impl Directory {
 
     /// The live record of this name.
     pub(crate) fn live_named(&self, name: &Name, now: Moment) -> Option<&Kept>
-        ensures { option_copied result ≡ find (is_live_named name.now now.0) self.now.records }
+        ensures value { option_copied result ≡ find (is_live_named name.now now.0) self.now.records }
+        ensures stored { IfSome result (λ kept. numbered kept.now.number self.now.records ≡ Some kept.now) }
+        ensures live { IfSome result (λ kept. is_live_at now.0 kept.now ≡ true) }
+        ensures named { IfSome result (λ kept. kept.now.name ≡ name.now) }
     {
         first_of_name::<Brand>(
             Blank::new(1),

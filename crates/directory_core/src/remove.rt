@@ -26,6 +26,10 @@ impl Directory {
         ensures refused { (first : ℕ) (history : List Entry) (entry : Entry) → VersionStandsFor first history self.now → IsRemovalOf now number entry → IfErr result (IsRefusalOf first history entry) }
         ensures swept { IfOk result (λ version. version.swept ≡ self.now.swept) }
     {
-        Err(Refusal::Starved)
+        let _ = &self.alloc;
+        let Some(old) = self.live_numbered(number, now) else {
+            return Err(Refusal::Gone(number));
+        };
+        self.without(now, self.counts_at(now), old)
     }
 }

@@ -7,6 +7,7 @@ ghost use Rattle.record_model.specs.AllowedParameters.{IsAllowedChange};
 ghost use Rattle.directory_core.specs.Answers.{IsRefusalOf};
 ghost use Rattle.directory_core.specs.Changes.{IsUpdateOf};
 
+use crate::updated_drafts::updated_draft;
 use crate::{Directory, Refusal};
 use rd_base::{Moment, Peer, UpdateParams};
 
@@ -37,6 +38,11 @@ impl Directory {
         ensures refused { (first : ℕ) (history : List Entry) (entry : Entry) → VersionStandsFor first history self.now → IsUpdateOf now number change peer entry → IfErr result (IsRefusalOf first history entry) }
         ensures swept { IfOk result (λ version. version.swept ≡ self.now.swept) }
     {
-        Err(Refusal::Starved)
+        let _ = &self.alloc;
+        let Some(old) = self.live_numbered(number, now) else {
+            return Err(Refusal::Gone(number));
+        };
+        let draft = updated_draft(self.alloc, old.as_record(), change, peer)?;
+        self.renewed(now, self.counts_at(now), old, draft)
     }
 }
