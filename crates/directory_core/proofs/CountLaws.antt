@@ -122,7 +122,7 @@ left_of f from now (r ∷ rs) order = by (is_live_at from r) (nat_le (lapse r) n
         let here : cond (nat_le (lapse r) now) (cond (is_live_at from r) (f r) 0) 0 ≡ 0 = rw (ee, el) refl in
         omega (arith, two, here, more)
 
-ones : (rs : List Record) → sum_by (λ (r : Record). 1) rs ≡ length rs
+pub ones : (rs : List Record) → sum_by (λ (r : Record). 1) rs ≡ length rs
 ones [] = refl
 ones (r ∷ rs) = let one = sum_by-cons (λ (x : Record). 1) r rs in let more = ones rs in omega (arith, one, more)
 

@@ -29,7 +29,7 @@ unfolding lapsing_left
 lapsing_found from records [] found = refl
 lapsing_found from records (x ∷ xs) found = rw found.0 (ap (λ rest. cond (nat_lt from (lapse x)) (x ∷ rest) rest) (lapsing_found from records xs found.1))
 
-filter_twice : (p q : Record → Bool) (xs : List Record) → filter p (filter q xs) ≡ filter (λ r. p r && q r) xs
+pub filter_twice : (p q : Record → Bool) (xs : List Record) → filter p (filter q xs) ≡ filter (λ r. p r && q r) xs
 filter_twice p q [] = refl
 filter_twice p q (x ∷ xs) = by (p x) (q x) refl (filter_twice p q xs)
   where

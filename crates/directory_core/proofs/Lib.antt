@@ -12,3 +12,4 @@ pub mod EntryLaws
 pub mod RenewLaws
 pub mod FitLaws
 pub mod AnswerLaws
+pub mod SweptLaws

@@ -10,3 +10,4 @@ pub mod Bounds
 pub mod Lapsing
 pub mod AfterEntries
 pub mod EntryAnswers
+pub mod Swept

@@ -101,6 +101,7 @@ impl Directory {
     /// The live record of this number.
     pub(crate) fn live_numbered(&self, number: u64, now: Moment) -> Option<&Kept>
         ensures value { option_copied result ≡ numbered number (live_among now.0 self.now.records) }
+        ensures there { IfSome result (λ kept. numbered number self.now.records ≡ Some kept.now) }
         ensures stored { IfSome result (λ kept. numbered kept.now.number self.now.records ≡ Some kept.now) }
         ensures live { IfSome result (λ kept. is_live_at now.0 kept.now ≡ true) }
         ensures sound { IfSome result (λ kept. shown.IsStored self.now kept.now) }

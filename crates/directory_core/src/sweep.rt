@@ -1,12 +1,55 @@
 //! Sweeps: what has lapsed is dropped.
 ghost use Rattle.std.specs.Prelude.{◌≡◌, ◌+◌, ◌≤◌, ℕ, List, length, filter, nat_le, IfOk};
+ghost use Rattle.rd_base.proofs.lemmas.Pairs.{PairsByRecursion};
 ghost use Rattle.history_model.specs.declared.entries.Entry.{Entry};
 ghost use Rattle.history_model.specs.Leases.{lapse, live_among};
 ghost use Rattle.history_model.specs.Versions.{VersionStandsFor};
+ghost use Rattle.history_model.proofs.NumberLaws.{IsBelow};
+ghost use Rattle.directory_core.specs.AfterEntries.{without};
+ghost use Rattle.directory_core.specs.NameSlots.{slots_of};
+ghost use Rattle.directory_core.specs.Swept.{without_all};
 
 use crate::Directory;
+use crate::names::Names;
+use crate::records::Records;
+use lease_queue::Swept;
 use rd_base::{Moment, Starved, Steps};
 use std::sync::ledger::Ledger;
+
+/// The names of records without that of the record of this number.
+fn names_without(records: &Records, names: &Names, number: u64) -> Result<Names, Starved>
+    requires rising { PairsByRecursion IsBelow records.now }
+    requires named { names.now ≡ slots_of records.now }
+    ensures { IfOk result (λ left. left ≡ slots_of (without number records.now)) }
+{
+    match records.get(number) {
+        Some(kept) => names.take(&kept.as_record().name, number),
+        None => names.share(),
+    }
+}
+
+/// The records without those of these numbers, and their names.
+fn without_numbers(
+    records: &Records,
+    names: &Names,
+    numbers: &[u64],
+) -> Result<(Records, Names), Starved>
+    requires rising { PairsByRecursion IsBelow records.now }
+    requires named { names.now ≡ slots_of records.now }
+    ensures records { IfOk result (λ left. left.0 ≡ without_all numbers.now records.now) }
+    ensures rising { IfOk result (λ left. PairsByRecursion IsBelow left.0) }
+    ensures named { IfOk result (λ left. left.1 ≡ slots_of left.0) }
+{
+    let mut records = records.share()?;
+    let mut names = names.share()?;
+    let mut left = numbers;
+    'numbers: while let Some((number, more)) = left.split_first() {
+        names = names_without(&records, &names, *number)?;
+        records = records.take(*number)?;
+        left = more;
+    }
+    Ok((records, names))
+}
 
 impl Directory {
     /// The version without the records that have lapsed at this moment, which is not before the last entry and not before
@@ -26,6 +69,24 @@ impl Directory {
         ensures swept { IfOk result (λ version. version.swept ≡ now.0) }
         ensures counted { steps.new ≤ steps.old + (length (filter (λ r. nat_le (lapse r) now.0) self.now.records) + 1) }
     {
-        Err(Starved)
+        let swept = self.leases.sweep(now, steps);
+        let Ok(Swept { queue, numbers }) = swept else {
+            return Err(Starved);
+        };
+        let counts = self.counts_at(now);
+        let (records, names) = without_numbers(&self.records, &self.names, numbers.as_slice())?;
+        Ok(Directory {
+            records,
+            names,
+            leases: queue,
+            live: counts.live,
+            text: counts.text,
+            entries: self.entries,
+            at: self.at,
+            last_number: self.last_number,
+            swept_live: self.swept_live + (self.live - counts.live),
+            swept: now,
+            alloc: self.alloc,
+        })
     }
 }

@@ -55,3 +55,11 @@ returns-clause-sound c =
     let same : c.self.inside.records ≡ c.args.self.now.records = ap (λ (v : Version). v.records) c.self.view_is in
     let found : numbered c.args.number c.args.self.now.records ≡ Some c.in_ok-kept.kept.now = ap (numbered c.args.number) (sym same) ∙ sym c.in_ok-kept.ensures in
     known_of (IsStored v) c.args.number c.in_ok-kept.kept.now v.records kept.stored found
+
+pub returns-in_err-kept-clause-there : goal.returns-in_err-kept-clause-there
+returns-in_err-kept-clause-there c = none_so c.from_residual.result (λ kept. numbered c.args.number c.args.self.now.records ≡ Some kept.now) c.from_residual.ensures
+
+pub returns-clause-there : goal.returns-clause-there
+returns-clause-there c =
+    let same : c.self.inside.records ≡ c.args.self.now.records = ap (λ (v : Version). v.records) c.self.view_is in
+    ap (numbered c.args.number) (sym same) ∙ sym c.in_ok-kept.ensures
