@@ -143,10 +143,10 @@ module _ (v : Version) (names : List NameSlot) (leases : List Lease) (count sum 
         rising = rising;
         stored = each_map (IsStored w) change v.records (each_weaker (IsStored v) (λ x. IsStored w (change x)) (λ x s. stored_change w r x new_stored (stored_on v w x (omega arith) after_at refl s)) v.records k.stored);
         named = k.named ∙ sym (ap (map slot_of) (order_kept key change v.records (each_weaker (λ x. x.number ≡ r.number → x ≡ old) (λ x. (key (change x) ≡ key x) × ((change x).number ≡ x.number)) (λ x is. same_place r old x named is) v.records only))
-          ∙ slots_changed r old (in_order_of key v.records) named its (each_in_order key (λ x. x.number ≡ r.number → x ≡ old) v.records only));
+            ∙ slots_changed r old (in_order_of key v.records) named its (each_in_order key (λ x. x.number ≡ r.number → x ≡ old) v.records only));
         leased = ap (λ queue. with_lease queue (lease_of r)) (leases_without r.number old found)
-          ∙ with_lease-placed r (in_order_of_lapse (without r.number v.records)) (differ_without r lapse) (in_order-IsOrdered lapse (without r.number v.records) (pairs_filter DifferFrom (λ x. not (is_numbered r.number x)) v.records differ))
-          ∙ ap (map lease_of) (sym (order_renewed lapse r old v.records k.rising found));
+            ∙ with_lease-placed r (in_order_of_lapse (without r.number v.records)) (differ_without r lapse) (in_order-IsOrdered lapse (without r.number v.records) (pairs_filter DifferFrom (λ x. not (is_numbered r.number x)) v.records differ))
+            ∙ ap (map lease_of) (sym (order_renewed lapse r old v.records k.rising found));
         live = sym (ap length counted ∙ same_length);
         text = weighs ∙ ap text_of (sym counted);
         few = omega (arith, few);
@@ -202,11 +202,11 @@ module _ (v : Version) (names : List NameSlot) (leases : List Lease) (count sum 
       record {
         rising = pairs_push IsBelow v.records r k.rising below;
         stored = each_push (IsStored w) v.records r (each_weaker (IsStored v) (IsStored w) (λ x s. stored_on v w x (omega arith) after_at refl s) v.records k.stored)
-          (made_stored w r made after_sweep (omega (arith, next)) (omega (arith, next)));
+            (made_stored w r made after_sweep (omega (arith, next)) (omega (arith, next)));
         named = ap (λ slots. with_slot (slot_of r) slots) k.named ∙ with_slot-placed r (in_order_of key v.records) (each_in_order key (DifferFrom r) v.records others) ∙ ap (map slot_of) (sym (order_last key v.records r others));
         leased = ap (λ queue. with_lease queue (lease_of r)) k.leased
-          ∙ with_lease-placed r (in_order_of_lapse v.records) (each_in_order lapse (DifferFrom r) v.records others) (in_order-IsOrdered lapse v.records differ)
-          ∙ ap (map lease_of) (sym (order_last lapse v.records r others));
+            ∙ with_lease-placed r (in_order_of_lapse v.records) (each_in_order lapse (DifferFrom r) v.records others) (in_order-IsOrdered lapse v.records differ)
+            ∙ ap (map lease_of) (sym (order_last lapse v.records r others));
         live = sym (ap length counted ∙ more);
         text = weighs ∙ ap text_of (sym counted);
         few = omega arith;

@@ -72,8 +72,11 @@ with_lease-placed r [] differ up = refl
 with_lease-placed r (x ∷ xs) differ up = by (stands_before lapse r x) refl (with_lease-placed r xs differ.1 up.1)
   where
     later_all : stands_before lapse r x ≡ true → AllByRecursion (λ y. is_before (lease_of r) y ≡ true) (map lease_of (x ∷ xs))
-    later_all e = (e, each_map (λ l. is_before (lease_of r) l ≡ true) lease_of xs (each_weaker (λ y. stands_before lapse x y ≡ true) (λ y. is_before (lease_of r) (lease_of y) ≡ true)
-        (λ y h. before_trans (lease_of r) (lease_of x) (lease_of y) e h) xs up.0))
+    later_all e = (
+      e,
+      each_map (λ l. is_before (lease_of r) l ≡ true) lease_of xs (each_weaker (λ y. stands_before lapse x y ≡ true) (λ y. is_before (lease_of r) (lease_of y) ≡ true)
+          (λ y h. before_trans (lease_of r) (lease_of x) (lease_of y) e h) xs up.0),
+    )
 
     by : (b : Bool) → stands_before lapse r x ≡ b → with_lease (map lease_of xs) (lease_of r) ≡ map lease_of (placed lapse r xs)
         → with_lease (lease_of x ∷ map lease_of xs) (lease_of r) ≡ map lease_of (cond b (r ∷ x ∷ xs) (x ∷ placed lapse r xs))

@@ -75,7 +75,7 @@ unfolding IsAscending
 rising-ascending [] under up = tt
 rising-ascending (e ∷ es) under up = (
   each_map (IsBelow e.1) (λ x. x.1) es (each_both (λ x. x.0 ≡ x.1.number) (λ x. nat_cmp e.0 x.0 ≡ Less) (λ x. IsBelow e.1 x.1)
-  (λ x same less. let mine = under.0 in let low = less_number e.0 x.0 less in omega arith) es under.1 up.0),
+      (λ x same less. let mine = under.0 in let low = less_number e.0 x.0 less in omega arith) es under.1 up.0),
   rising-ascending es under.1 up.1,
 )
 

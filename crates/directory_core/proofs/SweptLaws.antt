@@ -1,5 +1,6 @@
 -- What is left after a sweep.
-use Rattle.std.proofs.Common.{◌≡◌, ℕ, ◌+◌, ◌-◌, ◌<◌, ◌≤◌, ◌==◌, ◌&&◌, ◌||◌, max, nat_lt, nat_le, Bool, true, false, not, cond, List, [], ◌∷◌, map, filter, length, Option, Some, None, refl, sym, ap, ap₂, ◌∙◌, subst, arith, eqb-true, ltb-true, ne_eqb}
+use Rattle.std.proofs.Common.{◌≡◌, ℕ, ◌+◌, ◌-◌, ◌<◌, ◌≤◌, ◌==◌, ◌&&◌, ◌||◌, max, nat_lt, nat_le, Bool, true, false, not, cond, List, [], ◌∷◌, map, filter, length, Option, Some, None, Result, Ok, Err, refl, sym, ap, ap₂, ◌∙◌, subst, arith, eqb-true, ltb-true, ne_eqb}
+use Rattle.std.specs.Prelude.{IfOk}
 use Rattle.std.specs.List.{AllByRecursion, list_any}
 use Rattle.std.proofs.lemmas.Bool.{true≢false}
 use Rattle.std.proofs.lemmas.Bool.Decides.{nat_tests}
@@ -190,8 +191,8 @@ kept_swept v names leases count sum now counted k after_at after_swept counts re
     record {
       rising = up;
       stored = subst (AllByRecursion (IsStored w)) (sym left) (each_both (IsStored v) (λ r. is_live_at now r ≡ true) (IsStored w)
-      (λ r s passes. record { numbered = s.numbered; granted = s.granted; unswept = ltb-true _ _ passes; lasting = s.lasting; references = s.references; base = s.base })
-      (live_among now v.records) (each_filter (IsStored v) (is_live_at now) v.records k.stored) (each_passes (is_live_at now) v.records));
+          (λ r s passes. record { numbered = s.numbered; granted = s.granted; unswept = ltb-true _ _ passes; lasting = s.lasting; references = s.references; base = s.base })
+          (live_among now v.records) (each_filter (IsStored v) (is_live_at now) v.records k.stored) (each_passes (is_live_at now) v.records));
       named = named;
       leased = unlapsed ∙ ap (unlapsed_at now) k.leased ∙ unlapsed-leases_of now v.records k.rising ∙ ap leases_of (sym left);
       live = live ∙ sym (ap length again);
@@ -210,3 +211,8 @@ pub shown_swept : (v : Version) (names : List NameSlot) (leases : List Lease) (c
     → (records : List Record) → records ≡ live_among now v.records → after_sweep v now records (v.swept_live + (count - counted.live)) ≡ swept_to now v
 shown_swept v names leases count sum now counted k after_at after_swept counts records left =
     ap₂ (after_sweep v now) left (tag-counted v names leases count sum now counted.live k after_at after_swept (ap (λ (x : Counts). x.live) counts))
+
+-- what is so of a value, is so of what is equal to it
+pub ok_so : {E : Type 0} (r : Result (List NameSlot) E) (P : List NameSlot → Type 0) (value : List NameSlot) → IfOk r (λ x. x ≡ value) → P value → IfOk r P
+ok_so (Ok x) P value same p = subst P (sym same) p
+ok_so (Err e) P value same p = tt

@@ -33,12 +33,7 @@ fn with_number(
 
 impl Directory {
     /// The version with a registration of a name that is new.
-    fn register_new(
-        &self,
-        now: Moment,
-        counts: Counts,
-        draft: Draft,
-    ) -> Result<Directory, Refusal>
+    fn register_new(&self, now: Moment, counts: Counts, draft: Draft) -> Result<Directory, Refusal>
         requires after_at { self.now.at ≤ now.0 }
         requires after_sweep { self.now.swept ≤ now.0 }
         requires moment { now.0 ≤ 10 ^ 15 }

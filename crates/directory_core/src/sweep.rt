@@ -56,11 +56,7 @@ impl Directory {
     /// the last sweep. From this moment on it has the same live registrations, and the same entity tags: it stands for the
     /// same history. It counts a step for each lease that has lapsed and was kept, and at most one more. This version is as
     /// before. `Starved`: out of memory.
-    pub fn sweep<L: Ledger>(
-        &self,
-        now: Moment,
-        steps: &mut Steps<L>,
-    ) -> Result<Directory, Starved>
+    pub fn sweep<L: Ledger>(&self, now: Moment, steps: &mut Steps<L>) -> Result<Directory, Starved>
         requires after_at { self.now.at ≤ now.0 }
         requires after_sweep { self.now.swept ≤ now.0 }
         ensures stands { (first : ℕ) (history : List Entry) → VersionStandsFor first history self.now → IfOk result (VersionStandsFor first history) }

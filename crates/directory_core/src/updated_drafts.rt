@@ -25,12 +25,7 @@ fn base_of_peer(alloc: Global, peer: Peer) -> Result<Text, Starved>
 }
 
 /// The base after an update: the one that is given; else one that was given stays, and another becomes that of the peer.
-fn base_after(
-    alloc: Global,
-    given: Option<Text>,
-    old: &Record,
-    peer: Peer,
-) -> Result<Text, Starved>
+fn base_after(alloc: Global, given: Option<Text>, old: &Record, peer: Peer) -> Result<Text, Starved>
     requires given { IfSome given (λ base. is_base base ≡ true) }
     requires old { is_base old.now.base ≡ true }
     ensures value { IfOk result (λ base. base ≡ bases.updated_base given old.now.base_given old.now.base peer) }
