@@ -1,5 +1,5 @@
 -- What rows say of entries: which there are, that they ascend, and whom a pattern finds.
-use Rattle.std.proofs.Common.{◌≡◌, ℕ, Bool, true, false, cond, ◌&&◌, ◌||◌, List, [], ◌∷◌, ◌++◌, Option, Some, None, map, filter, nat_eq, nat_cmp, bytes_eq, refl, sym, ap, ◌∙◌, subst, not}
+use Rattle.std.proofs.Common.{◌≡◌, ℕ, ◌+◌, ◌<◌, length, take, slice_index_or, Bool, true, false, cond, ◌&&◌, ◌||◌, List, [], ◌∷◌, ◌++◌, Option, Some, None, map, filter, nat_eq, nat_cmp, bytes_eq, refl, sym, ap, ◌∙◌, subst, not}
 use Rattle.std.specs.declared.cmp.Ordering.{Ordering}
 use Rattle.std.specs.declared.cmp.Ordering.TheVariants.{Less, Equal, Greater}
 use Rattle.std.specs.Ordering.{is_eq, is_lt, ordering_then, match_ordering}
@@ -9,15 +9,16 @@ use Rattle.std.specs.List.{list_any, flat_map, AllByRecursion}
 use Rattle.std.specs.Map.{lookup, remove_entry}
 use Rattle.std.specs.BTreeMap.{insert_entry, is_at}
 use Rattle.std.proofs.lemmas.Cmp.{nat_list_cmp_total, then_total, on_total}
-use Rattle.std.proofs.lemmas.List.Folds.{list_any-append}
+use Rattle.std.proofs.lemmas.List.Folds.{list_any-append, list_any_more}
 use Rattle.std.proofs.lemmas.Map.{lookup-none}
 use Rattle.std.proofs.lemmas.Map.Text.{is_eq-slice_cmp}
 use Rattle.std.proofs.lemmas.Bool.{false≢true}
 use Rattle.rd_base.proofs.lemmas.Each.{each_weaker, each_append}
+use Rattle.rd_base.specs.declared.attributes.Pair.{Pair}
 use Rattle.chunk_map.specs.Sorted as sorted
-use Rattle.attribute_index.specs.Entries.{Entry, IsAscending, entry_cmp, has_entry, has_number, is_same, is_carrier, carriers_of}
-use Rattle.attribute_index.specs.Rows.{Row, AreRows, IsRow, NumbersAscend, value_cmp, entries_in, entries_of_rows, number_in, is_wanted, wanted_numbers}
-use Rattle.attribute_index.proofs.Lookups.{none_behind, lookup-insert_entry, lookup-remove_entry}
+use Rattle.attribute_index.specs.Entries.{Entry, IsAscending, entries_of, values_of, entry_cmp, has_entry, has_number, is_same, is_carrier, carriers_of}
+use Rattle.attribute_index.specs.Rows.{Row, AreRows, IsRow, NumbersAscend, value_cmp, entries_in, entries_of_rows, entries_under, number_in, is_wanted, wanted_numbers}
+use Rattle.attribute_index.proofs.Lookups.{none_behind, lookup_alike, lookup-absent, lookup-insert_entry, lookup-remove_entry}
 
 -- the order of values is total
 pub value_total : IsTotalOrder value_cmp
@@ -90,15 +91,7 @@ and_same false b c = refl
 
 -- the number of a value is found at each equal value
 found_alike : (q k : List ℕ × List ℕ) (rows : List Row) (n : ℕ) → is_at (value_cmp q) k ≡ true → number_in (lookup (is_at (value_cmp q)) rows) n ≡ number_in (lookup (is_at (value_cmp k)) rows) n
-found_alike q k [] n same = refl
-found_alike q k (row ∷ rows) n same =
-    ap (λ r. number_in (cond (is_eq r) (Some row.1) (lookup (is_at (value_cmp q)) rows)) n) (value_total.congr q k row.0 ((Equal-is (value_cmp q k)).0 same))
-    ∙ by (is_at (value_cmp k) row.0) (found_alike q k rows n same)
-  where
-    by : (t : Bool) → number_in (lookup (is_at (value_cmp q)) rows) n ≡ number_in (lookup (is_at (value_cmp k)) rows) n
-        → number_in (cond t (Some row.1) (lookup (is_at (value_cmp q)) rows)) n ≡ number_in (cond t (Some row.1) (lookup (is_at (value_cmp k)) rows)) n
-    by true more = refl
-    by false more = more
+found_alike q k rows n same = ap (λ o. number_in o n) (lookup_alike value_total q k rows same)
 
 -- rows in which a value has one number more have one entry more
 pub has_with : (rows : List Row) (value : List ℕ × List ℕ) (number : ℕ) (numbers : List ℕ) → sorted.IsAscending value_cmp rows → sorted.IsAscending value_cmp (insert_entry value_cmp rows value numbers)
@@ -133,6 +126,59 @@ has_less rows rows' value number left up up' found less e =
     ∙ ap (λ t. t && not (is_at (value_cmp (value_of e)) value && nat_eq e.number number)) (sym (has_in_rows rows e up))
     ∙ ap (λ t. has_entry (entries_of_rows rows) e && not (t && nat_eq e.number number)) (same_at (value_of e) value)
     ∙ ap (λ t. has_entry (entries_of_rows rows) e && not t) (and_same (bytes_eq e.name value.0) (bytes_eq e.value value.1) (nat_eq e.number number))
+
+-- where the value is not there, nothing changes
+pub has_absent : (rows : List Row) (value : List ℕ × List ℕ) (number : ℕ) → sorted.IsAscending value_cmp rows → lookup (is_at (value_cmp value)) rows ≡ None
+    → (e : Entry) → has_entry (entries_of_rows rows) e ≡ (has_entry (entries_of_rows rows) e && not (is_same e (entry_at value number)))
+has_absent rows value number up none e =
+    has_less rows rows value number None up up (λ q. lookup-absent value_total q value rows none) (λ n. ap (λ o. number_in o n && not (nat_eq n number)) (sym none)) e
+
+-- where no number is left, the value is taken
+pub has_taken : (rows : List Row) (value : List ℕ × List ℕ) (number : ℕ) (numbers : List ℕ) → sorted.IsAscending value_cmp rows → sorted.IsAscending value_cmp (remove_entry (is_at (value_cmp value)) rows)
+    → lookup (is_at (value_cmp value)) rows ≡ Some numbers → ((n : ℕ) → false ≡ (has_number numbers n && not (nat_eq n number)))
+    → (e : Entry) → has_entry (entries_of_rows (remove_entry (is_at (value_cmp value)) rows)) e ≡ (has_entry (entries_of_rows rows) e && not (is_same e (entry_at value number)))
+has_taken rows value number numbers up up' there less e =
+    has_less rows (remove_entry (is_at (value_cmp value)) rows) value number None up up' (λ q. lookup-remove_entry value_total q value rows up) (λ n. less n ∙ ap (λ o. number_in o n && not (nat_eq n number)) (sym there)) e
+
+-- where numbers are left, they take the place of those that were there
+pub has_left : (rows : List Row) (value : List ℕ × List ℕ) (number : ℕ) (numbers left : List ℕ) → sorted.IsAscending value_cmp rows → sorted.IsAscending value_cmp (insert_entry value_cmp rows value left)
+    → lookup (is_at (value_cmp value)) rows ≡ Some numbers → ((n : ℕ) → has_number left n ≡ (has_number numbers n && not (nat_eq n number)))
+    → (e : Entry) → has_entry (entries_of_rows (insert_entry value_cmp rows value left)) e ≡ (has_entry (entries_of_rows rows) e && not (is_same e (entry_at value number)))
+has_left rows value number numbers left up up' there less e =
+    has_less rows (insert_entry value_cmp rows value left) value number (Some left) up up' (λ q. lookup-insert_entry value_total q value left rows) (λ n. less n ∙ ap (λ o. number_in o n && not (nat_eq n number)) (sym there)) e
+
+-- ---- the entries of values under a number, one value after another
+
+any_map : {X Y : Type 0} (test : Y → Bool) (f : X → Y) (xs : List X) → list_any test (map f xs) ≡ list_any (λ x. test (f x)) xs
+any_map test f [] = refl
+any_map test f (x ∷ xs) = ap (λ t. test (f x) || t) (any_map test f xs)
+
+pub under_next : (values : List (List ℕ × List ℕ)) (i : ℕ) (value : List ℕ × List ℕ) (number : ℕ) (e : Entry) → i < length values → value ≡ slice_index_or values i value
+    → has_entry (entries_under (take (i + 1) values) number) e ≡ (has_entry (entries_under (take i values) number) e || is_same e (entry_at value number))
+under_next values i value number e lt is =
+    any_map (is_same e) (λ v. entry_at v number) (take (i + 1) values)
+    ∙ list_any_more (λ v. is_same e (entry_at v number)) values i value lt
+    ∙ ap (λ t. t || is_same e (entry_at (slice_index_or values i value) number)) (sym (any_map (is_same e) (λ v. entry_at v number) (take i values)))
+    ∙ ap (λ v. has_entry (entries_under (take i values) number) e || is_same e (entry_at v number)) (sym is)
+
+-- a loop that puts values: with one more, and that takes values: with one less
+pub put_next : (all before here next one : Bool) → next ≡ (before || one) → here ≡ (all || before) → (here || one) ≡ (all || next)
+put_next true before here next one n h = ap (λ t. t || one) h
+put_next false before here next one n h = ap (λ t. t || one) h ∙ sym n
+
+pub take_next : (all before here next one : Bool) → next ≡ (before || one) → here ≡ (all && not before) → (here && not one) ≡ (all && not next)
+take_next true true here next one n h = ap (λ t. t && not one) h ∙ ap not (sym n)
+take_next true false here next one n h = ap (λ t. t && not one) h ∙ ap not (sym n)
+take_next false before here next one n h = ap (λ t. t && not one) h
+
+-- the values of an attribute are those under its name
+pub under_name : (name : List ℕ) (values : List (List ℕ)) (number : ℕ) → entries_under (map (λ value. (name, value)) values) number ≡ map (λ value. record { name = name; value = value; number = number }) values
+under_name name [] number = refl
+under_name name (value ∷ values) number = ap (λ rest. record { name = name; value = value; number = number } ∷ rest) (under_name name values number)
+
+pub under_pair : (pair : Pair) (number : ℕ) → entries_under (map (λ value. (pair.name, value)) (values_of pair.name pair.value)) number ≡ entries_of pair number
+unfolding entries_of
+under_pair pair number = under_name pair.name (values_of pair.name pair.value) number
 
 -- ---- they ascend
 

@@ -1,5 +1,5 @@
 -- The values that a pattern matches stand together: where they begin, and that none stands behind one that it does not match.
-use Rattle.std.proofs.Common.{◌≡◌, ℕ, ◌<◌, Bool, true, false, cond, ◌&&◌, List, [], ◌∷◌, Option, Some, None, take, length, filter, nat_eq, nat_cmp, bytes_eq, refl, sym, ap, ◌∙◌, subst, unwrap_or, arith}
+use Rattle.std.proofs.Common.{◌≡◌, ℕ, ◌<◌, Bool, true, false, cond, ◌&&◌, List, [], ◌∷◌, ◌++◌, Option, Some, None, take, length, filter, nat_eq, nat_cmp, bytes_eq, refl, sym, ap, ◌∙◌, subst, unwrap_or, arith}
 use lib.Pointwise.{pointwise}
 use Rattle.std.specs.declared.cmp.Ordering.{Ordering}
 use Rattle.std.specs.declared.cmp.Ordering.TheVariants.{Less, Equal, Greater}
@@ -12,7 +12,7 @@ use Rattle.std.proofs.lemmas.Cmp.{nat_list_cmp_total}
 use Rattle.std.proofs.lemmas.Bool.{and_parts, and_from, eqb-true, eq-eqb, false≢true}
 use Rattle.std.proofs.lemmas.Slice.Eq.{bytes_eq-Decides}
 use Rattle.rd_base.proofs.lemmas.Each.{each_weaker, each_filter}
-use Rattle.rd_base.proofs.lemmas.Filters.{filter_stronger}
+use Rattle.rd_base.proofs.lemmas.Filters.{filter_stronger, filter_none}
 use Rattle.record_model.specs.Matching.{before_wildcard, is_value_of, matches_value}
 use Rattle.chunk_map.specs.Sorted as sorted
 use Rattle.attribute_index.specs.Rows.{Row, WantedFirst, value_cmp, is_wanted, wanted_numbers, first_wanted}
@@ -150,3 +150,23 @@ wanted_first name pattern (row ∷ rows) up = by (is_le (value_cmp (first_wanted
       more,
     )
     by false h more = more
+
+-- ---- one row after another
+
+pub wanted_rest : (name pattern : List ℕ) (row : Row) (rows : List Row) → WantedFirst name pattern (row ∷ rows) → WantedFirst name pattern rows
+unfolding WantedFirst
+wanted_rest name pattern row rows first = first.1
+
+nothing : (name pattern : List ℕ) (rows : List Row) → AllByRecursion (λ other. is_wanted name pattern other.0 ≡ false) rows → wanted_numbers name pattern rows ≡ []
+nothing name pattern rows none = ap (λ some. flat_map (λ (row : Row). row.1) some) (filter_none (λ row. is_wanted name pattern row.0) rows none)
+
+-- where a row is not wanted, no number is left
+pub wanted_end : (name pattern : List ℕ) (row : Row) (rows : List Row) → WantedFirst name pattern (row ∷ rows) → is_wanted name pattern row.0 ≡ false → (wanted_numbers name pattern (row ∷ rows) ≡ []) × (wanted_numbers name pattern rows ≡ [])
+unfolding WantedFirst
+wanted_end name pattern row rows first not_wanted =
+    let none = first.0 not_wanted in
+    (nothing name pattern (row ∷ rows) (not_wanted, none), nothing name pattern rows none)
+
+-- where a row is wanted, its numbers come next
+pub wanted_next : (name pattern : List ℕ) (row : Row) (rows : List Row) → is_wanted name pattern row.0 ≡ true → wanted_numbers name pattern (row ∷ rows) ≡ row.1 ++ wanted_numbers name pattern rows
+wanted_next name pattern row rows wanted = ap (λ t. flat_map (λ (row : Row). row.1) (cond t (row ∷ filter (λ row. is_wanted name pattern row.0) rows) (filter (λ row. is_wanted name pattern row.0) rows))) wanted

@@ -4,6 +4,7 @@
 mod carriers;
 mod index;
 mod numbers;
+mod rows;
 mod values;
 
 pub use carriers::Carriers;

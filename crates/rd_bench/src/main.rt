@@ -8,6 +8,7 @@
 mod exchanges;
 mod leases;
 mod listings;
+mod maps;
 mod registrations;
 mod tables;
 
@@ -16,6 +17,7 @@ use tables::Trouble;
 /// Measures all calls, one after another.
 fn measured(rt: &HostRuntime) -> Result<(), Trouble> {
     exchanges::measured(rt)?;
+    maps::measured(rt)?;
     leases::measured(rt)?;
     registrations::measured(rt)?;
     listings::measured(rt)
