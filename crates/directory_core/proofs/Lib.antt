@@ -13,3 +13,4 @@ pub mod RenewLaws
 pub mod FitLaws
 pub mod AnswerLaws
 pub mod SweptLaws
+pub mod IndexLaws

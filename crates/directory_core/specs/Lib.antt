@@ -11,3 +11,4 @@ pub mod Lapsing
 pub mod AfterEntries
 pub mod EntryAnswers
 pub mod Swept
+pub mod IndexedPairs

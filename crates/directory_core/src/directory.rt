@@ -4,6 +4,7 @@ ghost use Rattle.history_model.specs.Versions.{VersionStandsFor};
 
 use crate::names::Names;
 use crate::records::Records;
+use attribute_index::AttributeIndex;
 use lease_queue::LeaseQueue;
 use rd_base::{Moment, Starved};
 use std::alloc::Global;
@@ -21,6 +22,8 @@ pub struct Directory {
     pub(crate) names: Names,
     /// Their leases.
     pub(crate) leases: LeaseQueue,
+    /// Which values of which attributes they carry, with their links.
+    pub(crate) index: AttributeIndex,
     /// How many of them were live at the moment of the last entry, or at that of the last sweep where that is later.
     pub(crate) live: u64,
     /// What those weighed together, in octets.
@@ -41,13 +44,14 @@ pub struct Directory {
 
 impl Model for Directory {
     ghost use Rattle.history_model.specs.Versions.{Version};
+    ghost use Rattle.directory_core.specs.Bounds.{AreEntriesOf};
     ghost use Rattle.directory_core.specs.Shown.{IsKept};
 
     ghost Value = { Version };
 
     ghost view = { λ d. record { records = d.records; entries = d.entries; at = d.at.0; last_number = d.last_number; swept_live = d.swept_live; swept = d.swept.0 } };
 
-    ghost invariant = { λ d. IsKept (record { records = d.records; entries = d.entries; at = d.at.0; last_number = d.last_number; swept_live = d.swept_live; swept = d.swept.0 }) d.names d.leases d.live d.text };
+    ghost invariant = { λ d. (IsKept (record { records = d.records; entries = d.entries; at = d.at.0; last_number = d.last_number; swept_live = d.swept_live; swept = d.swept.0 }) d.names d.leases d.live d.text) × AreEntriesOf d.records d.index };
 }
 
 impl Directory {
@@ -60,6 +64,7 @@ impl Directory {
             records: Records::empty(alloc)?,
             names: Names::empty(alloc)?,
             leases: LeaseQueue::empty(alloc)?,
+            index: AttributeIndex::empty(alloc)?,
             live: 0,
             text: 0,
             entries: first,

@@ -4,6 +4,7 @@
 mod boards;
 mod counts;
 mod directory;
+mod index;
 mod kept;
 mod lapsing;
 mod lookup;

@@ -8,6 +8,7 @@ ghost use Rattle.directory_core.specs.AfterEntries.{renewed, without, after_entr
 ghost use Rattle.directory_core.specs.LiveCounts.{counts_of};
 
 use crate::counts::Counts;
+use crate::index::{index_with, index_without};
 use crate::kept::Kept;
 use crate::room::{record_from, room_for_entry, text_with};
 use crate::{Directory, Refusal};
@@ -44,11 +45,14 @@ impl Directory {
         let leases = self.leases.take(old.lapse(), number)?;
         let leases = leases.put(kept.lapse(), number)?;
         let names = self.names.share()?;
+        let index = index_without(self.alloc, &self.index, old.as_record())?;
+        let index = index_with(self.alloc, &index, kept.as_record())?;
         let records = self.records.put(kept)?;
         Ok(Directory {
             records,
             names,
             leases,
+            index,
             live: counts.live,
             text,
             entries: self.entries + 1,
@@ -84,11 +88,13 @@ impl Directory {
         let kept = Kept::of(self.alloc, record_from(number, now, draft), octets)?;
         let leases = self.leases.put(kept.lapse(), number)?;
         let names = self.names.put(&kept.as_record().name, number)?;
+        let index = index_with(self.alloc, &self.index, kept.as_record())?;
         let records = self.records.put(kept)?;
         Ok(Directory {
             records,
             names,
             leases,
+            index,
             live: counts.live + 1,
             text,
             entries: self.entries + 1,
@@ -119,11 +125,13 @@ impl Directory {
         let number = old.as_record().number;
         let leases = self.leases.take(old.lapse(), number)?;
         let names = self.names.take(&old.as_record().name, number)?;
+        let index = index_without(self.alloc, &self.index, old.as_record())?;
         let records = self.records.take(number)?;
         Ok(Directory {
             records,
             names,
             leases,
+            index,
             live: counts.live - 1,
             text: counts.text - old.octets(),
             entries: self.entries + 1,

@@ -6,14 +6,18 @@ ghost use Rattle.history_model.specs.Leases.{lapse, live_among};
 ghost use Rattle.history_model.specs.Versions.{VersionStandsFor};
 ghost use Rattle.history_model.proofs.NumberLaws.{IsBelow};
 ghost use Rattle.directory_core.specs.AfterEntries.{without};
+ghost use Rattle.directory_core.specs.Bounds.{AreEntriesOf};
 ghost use Rattle.directory_core.specs.NameSlots.{slots_of};
 ghost use Rattle.directory_core.specs.Swept.{without_all};
 
 use crate::Directory;
+use crate::index::index_without;
 use crate::names::Names;
 use crate::records::Records;
+use attribute_index::AttributeIndex;
 use lease_queue::Swept;
 use rd_base::{Moment, Starved, Steps};
+use std::alloc::Global;
 use std::sync::ledger::Ledger;
 
 /// The names of records without that of the record of this number.
@@ -28,27 +32,50 @@ fn names_without(records: &Records, names: &Names, number: u64) -> Result<Names,
     }
 }
 
-/// The records without those of these numbers, and their names.
+/// The index of records without that of this number.
+fn index_without_number(
+    alloc: Global,
+    records: &Records,
+    index: &AttributeIndex,
+    number: u64,
+) -> Result<AttributeIndex, Starved>
+    requires rising { PairsByRecursion IsBelow records.now }
+    requires entries { AreEntriesOf records.now index.now }
+    ensures { IfOk result (AreEntriesOf (without number records.now)) }
+{
+    match records.get(number) {
+        Some(kept) => index_without(alloc, index, kept.as_record()),
+        None => index.share(alloc),
+    }
+}
+
+/// The records without those of these numbers, with their names and their index.
 fn without_numbers(
+    alloc: Global,
     records: &Records,
     names: &Names,
+    index: &AttributeIndex,
     numbers: &[u64],
-) -> Result<(Records, Names), Starved>
+) -> Result<(Records, Names, AttributeIndex), Starved>
     requires rising { PairsByRecursion IsBelow records.now }
     requires named { names.now ≡ slots_of records.now }
+    requires entries { AreEntriesOf records.now index.now }
     ensures records { IfOk result (λ left. left.0 ≡ without_all numbers.now records.now) }
     ensures rising { IfOk result (λ left. PairsByRecursion IsBelow left.0) }
     ensures named { IfOk result (λ left. left.1 ≡ slots_of left.0) }
+    ensures entries { IfOk result (λ left. AreEntriesOf left.0 left.2) }
 {
     let mut records = records.share()?;
     let mut names = names.share()?;
+    let mut index = index.share(alloc)?;
     let mut left = numbers;
     'numbers: while let Some((number, more)) = left.split_first() {
         names = names_without(&records, &names, *number)?;
+        index = index_without_number(alloc, &records, &index, *number)?;
         records = records.take(*number)?;
         left = more;
     }
-    Ok((records, names))
+    Ok((records, names, index))
 }
 
 impl Directory {
@@ -70,11 +97,18 @@ impl Directory {
             return Err(Starved);
         };
         let counts = self.counts_at(now);
-        let (records, names) = without_numbers(&self.records, &self.names, numbers.as_slice())?;
+        let (records, names, index) = without_numbers(
+            self.alloc,
+            &self.records,
+            &self.names,
+            &self.index,
+            numbers.as_slice(),
+        )?;
         Ok(Directory {
             records,
             names,
             leases: queue,
+            index,
             live: counts.live,
             text: counts.text,
             entries: self.entries,

@@ -1,4 +1,4 @@
-use Rattle.std.proofs.Common.{refl, ◌≡◌, ℕ, ◌+◌, ◌-◌, ◌<◌, ◌≤◌, ◌^◌, List, [], ◌∷◌, ◌++◌, Ok, Err, Result, sym, ap, ap₂, ◌∙◌, subst, arith}
+use Rattle.std.proofs.Common.{refl, ◌≡◌, ℕ, ◌+◌, ◌-◌, ◌<◌, ◌≤◌, ◌^◌, List, [], ◌∷◌, ◌++◌, Ok, Err, Result, sym, ap, ap₂, ◌∙◌, subst, arith, ◌||◌}
 use Rattle.rd_base.specs.declared.moments.Moment.{Moment}
 use Rattle.rd_base.specs.declared.records.Name.{Name}
 use Rattle.rd_base.specs.declared.records.Record.{Record}
@@ -17,13 +17,16 @@ use Rattle.directory_core.specs.NumberOrder.{with_record}
 use Rattle.directory_core.specs.Shown.{IsKept, lease_of}
 use Rattle.directory_core.proofs.KeptLaws.{live_light}
 use Rattle.directory_core.proofs.RenewLaws.{Addition, record_granted, record_number, lease_is, slot_is, addition_text, addition_put, addition_kept, room_refused}
+use Rattle.attribute_index.specs.Entries.{has_entry}
+use Rattle.directory_core.specs.Bounds.{record_entries, AreEntriesOf}
+use Rattle.directory_core.proofs.IndexLaws.{entries_appended}
 use Rattle.directory_core.proofs.directory.Directory.appended.Goals as goal
 
 pub text_with-requires : goal.text_with-requires
 text_with-requires c =
     let v = c.args.self.now in
     let i = c.self.inside in
-    let kept : IsKept v i.names i.leases i.live i.text = subst (λ w. IsKept w i.names i.leases i.live i.text) c.self.view_is c.self.invariant in
+    let kept : IsKept v i.names i.leases i.live i.text = subst (λ w. IsKept w i.names i.leases i.live i.text) c.self.view_is c.self.invariant.0 in
     let light = live_light v i.names i.leases i.live i.text c.args.now.0 kept c.requires.after_at c.requires.after_sweep in
     let before : c.args.counts.text ≡ text_of (live_among c.args.now.0 v.records) = ap (λ (x : Counts). x.text) c.requires.counts in
     omega (arith, light, before)
@@ -55,7 +58,7 @@ invariant_of-result c =
     let r = c.requires in
     let now = c.args.now in
     let draft = c.args.draft in
-    let kept : IsKept v i.names i.leases i.live i.text = subst (λ w. IsKept w i.names i.leases i.live i.text) c.self.view_is c.self.invariant in
+    let kept : IsKept v i.names i.leases i.live i.text = subst (λ w. IsKept w i.names i.leases i.live i.text) c.self.view_is c.self.invariant.0 in
     let a : Addition v now c.args.counts draft = record { after_at = r.after_at; after_sweep = r.after_sweep; moment = r.moment; counts = r.counts; few = r.few; sound = r.sound } in
     let next : i.last_number + 1 ≡ v.last_number + 1 = ap (λ (w : Version). w.last_number + 1) c.self.view_is in
     let new = recorded (v.last_number + 1) now draft in
@@ -72,7 +75,13 @@ invariant_of-result c =
     = c.in_ok-names.ensures ∙ ap (λ s. with_slot s i.names) (slot_is c.as_record.result.now (i.last_number + 1) new (c.as_record.ensures ∙ made) (next ∙ sym number)) in
     let few = room.2 in
     let whole = addition_kept v i.names i.leases i.live i.text now c.args.counts draft kept a (omega (arith, few, entries)) c.in-Ok.text (room.0 ∙ text) (omega (arith, room.0, room.1)) c.in_ok-records.records records c.in_ok-names.names named c.in_ok-leases.leases begun in
-    subst (λ (w : Version). IsKept (after_entry w now.0 c.in_ok-records.records (w.last_number + 1)) c.in_ok-names.names c.in_ok-leases.leases (c.args.counts.live + 1) c.in-Ok.text) (sym c.self.view_is) whole
+    let indexed : AreEntriesOf v.records i.index = subst (λ (w : Version). AreEntriesOf w.records i.index) c.self.view_is c.self.invariant.1 in
+    let placed : AreEntriesOf (v.records ++ new ∷ []) c.in_ok-index.index
+    = entries_appended v.records new i.index c.in_ok-index.index indexed (λ e. c.in_ok-index.ensures.entries e ∙ ap (λ x. has_entry i.index e || has_entry (record_entries x) e) (c.as_record-2.ensures ∙ made)) c.in_ok-index.ensures.ascends in
+    (
+      subst (λ (w : Version). IsKept (after_entry w now.0 c.in_ok-records.records (w.last_number + 1)) c.in_ok-names.names c.in_ok-leases.leases (c.args.counts.live + 1) c.in-Ok.text) (sym c.self.view_is) whole,
+      subst (λ rs. AreEntriesOf rs c.in_ok-index.index) (sym (records ∙ addition_put v i.names i.leases i.live i.text now draft kept)) placed,
+    )
 
 pub returns : goal.returns
 returns c =
@@ -81,7 +90,7 @@ returns c =
     let r = c.requires in
     let now = c.args.now in
     let draft = c.args.draft in
-    let kept : IsKept v i.names i.leases i.live i.text = subst (λ w. IsKept w i.names i.leases i.live i.text) c.self.view_is c.self.invariant in
+    let kept : IsKept v i.names i.leases i.live i.text = subst (λ w. IsKept w i.names i.leases i.live i.text) c.self.view_is c.self.invariant.0 in
     let a : Addition v now c.args.counts draft = record { after_at = r.after_at; after_sweep = r.after_sweep; moment = r.moment; counts = r.counts; few = r.few; sound = r.sound } in
     let next : i.last_number + 1 ≡ v.last_number + 1 = ap (λ (w : Version). w.last_number + 1) c.self.view_is in
     let new = recorded (v.last_number + 1) now draft in

@@ -29,7 +29,7 @@ returns-in_err-kept-clause-sound c = none_so c.from_residual.result (λ kept. Is
 pub returns-then-not-is_live_at-clause-value : goal.returns-then-not-is_live_at-clause-value
 returns-then-not-is_live_at-clause-value c =
     let same : c.self.inside.records ≡ c.args.self.now.records = ap (λ (v : Version). v.records) c.self.view_is in
-    let up = subst (PairsByRecursion IsBelow) same c.self.invariant.rising in
+    let up = subst (PairsByRecursion IsBelow) same c.self.invariant.0.rising in
     let found : numbered c.args.number c.args.self.now.records ≡ Some c.in_ok-kept.kept.now = ap (numbered c.args.number) (sym same) ∙ sym c.in_ok-kept.ensures in
     let fails : is_live_at c.args.now.0 c.in_ok-kept.kept.now ≡ false = search rules in
     sym (filter_failed (is_live_at c.args.now.0) c.args.number c.in_ok-kept.kept.now c.args.self.now.records up found fails)
@@ -51,7 +51,7 @@ pub returns-clause-sound : goal.returns-clause-sound
 returns-clause-sound c =
     let v = c.args.self.now in
     let i = c.self.inside in
-    let kept : IsKept v i.names i.leases i.live i.text = subst (λ w. IsKept w i.names i.leases i.live i.text) c.self.view_is c.self.invariant in
+    let kept : IsKept v i.names i.leases i.live i.text = subst (λ w. IsKept w i.names i.leases i.live i.text) c.self.view_is c.self.invariant.0 in
     let same : c.self.inside.records ≡ c.args.self.now.records = ap (λ (v : Version). v.records) c.self.view_is in
     let found : numbered c.args.number c.args.self.now.records ≡ Some c.in_ok-kept.kept.now = ap (numbered c.args.number) (sym same) ∙ sym c.in_ok-kept.ensures in
     known_of (IsStored v) c.args.number c.in_ok-kept.kept.now v.records kept.stored found

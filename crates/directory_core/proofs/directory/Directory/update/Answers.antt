@@ -18,7 +18,7 @@ returns-clause-stands c first history entry stands h =
     let v = c.args.self.now in
     let i = c.self.inside in
     let old = c.in-Some.old.now in
-    let kept : IsKept v i.names i.leases i.live i.text = subst (λ w. IsKept w i.names i.leases i.live i.text) c.self.view_is c.self.invariant in
+    let kept : IsKept v i.names i.leases i.live i.text = subst (λ w. IsKept w i.names i.leases i.live i.text) c.self.view_is c.self.invariant.0 in
     let made : recorded old.number c.args.now c.in_ok-draft.draft ≡ updated c.args.now c.args.peer c.args.change old
     = subst (λ (r : Record). recorded r.number c.args.now c.in_ok-draft.draft ≡ updated c.args.now c.args.peer c.args.change r) c.as_record.ensures (c.in_ok-draft.ensures.made c.args.now) in
     (update_answers first history v i.names i.leases i.live i.text c.args.now c.args.number c.args.change c.args.peer c.in_ok-draft.draft old entry kept c.requires.after_at c.requires.after_sweep stands c.requires.change c.in-Some.ensures.there c.in-Some.ensures.live made h
@@ -29,7 +29,7 @@ returns-clause-accepted c first history entry stands h =
     let v = c.args.self.now in
     let i = c.self.inside in
     let old = c.in-Some.old.now in
-    let kept : IsKept v i.names i.leases i.live i.text = subst (λ w. IsKept w i.names i.leases i.live i.text) c.self.view_is c.self.invariant in
+    let kept : IsKept v i.names i.leases i.live i.text = subst (λ w. IsKept w i.names i.leases i.live i.text) c.self.view_is c.self.invariant.0 in
     let made : recorded old.number c.args.now c.in_ok-draft.draft ≡ updated c.args.now c.args.peer c.args.change old
     = subst (λ (r : Record). recorded r.number c.args.now c.in_ok-draft.draft ≡ updated c.args.now c.args.peer c.args.change r) c.as_record.ensures (c.in_ok-draft.ensures.made c.args.now) in
     (update_answers first history v i.names i.leases i.live i.text c.args.now c.args.number c.args.change c.args.peer c.in_ok-draft.draft old entry kept c.requires.after_at c.requires.after_sweep stands c.requires.change c.in-Some.ensures.there c.in-Some.ensures.live made h
@@ -40,7 +40,7 @@ returns-clause-refused c first history entry stands h =
     let v = c.args.self.now in
     let i = c.self.inside in
     let old = c.in-Some.old.now in
-    let kept : IsKept v i.names i.leases i.live i.text = subst (λ w. IsKept w i.names i.leases i.live i.text) c.self.view_is c.self.invariant in
+    let kept : IsKept v i.names i.leases i.live i.text = subst (λ w. IsKept w i.names i.leases i.live i.text) c.self.view_is c.self.invariant.0 in
     let made : recorded old.number c.args.now c.in_ok-draft.draft ≡ updated c.args.now c.args.peer c.args.change old
     = subst (λ (r : Record). recorded r.number c.args.now c.in_ok-draft.draft ≡ updated c.args.now c.args.peer c.args.change r) c.as_record.ensures (c.in_ok-draft.ensures.made c.args.now) in
     (update_answers first history v i.names i.leases i.live i.text c.args.now c.args.number c.args.change c.args.peer c.in_ok-draft.draft old entry kept c.requires.after_at c.requires.after_sweep stands c.requires.change c.in-Some.ensures.there c.in-Some.ensures.live made h

@@ -1,4 +1,4 @@
-use Rattle.std.proofs.Common.{◌≡◌, ℕ, ◌+◌, ◌-◌, ◌<◌, ◌≤◌, List, Ok, Err, Result, sym, ap, ap₂, ◌∙◌, subst, arith}
+use Rattle.std.proofs.Common.{◌≡◌, ℕ, ◌+◌, ◌-◌, ◌<◌, ◌≤◌, List, Ok, Err, Result, sym, ap, ap₂, ◌∙◌, subst, arith, ◌&&◌, not}
 use Rattle.rd_base.specs.declared.records.Record.{Record}
 use Rattle.record_model.specs.ListingLines.{weight}
 use Rattle.history_model.specs.Leases.{lapse}
@@ -8,13 +8,16 @@ use Rattle.directory_core.specs.AfterEntries.{without, after_entry}
 use Rattle.directory_core.specs.NameSlots.{slot_of, without_slot}
 use Rattle.directory_core.specs.Shown.{IsKept, lease_of}
 use Rattle.directory_core.proofs.RenewLaws.{Removal, removal_fewer, removal_kept, lease_is, slot_is}
+use Rattle.attribute_index.specs.Entries.{has_entry}
+use Rattle.directory_core.specs.Bounds.{record_entries, AreEntriesOf}
+use Rattle.directory_core.proofs.IndexLaws.{entries_without}
 use Rattle.directory_core.proofs.directory.Directory.without.Goals as goal
 
 pub overflow_sub-result : goal.overflow_sub-result
 overflow_sub-result c =
     let v = c.args.self.now in
     let i = c.self.inside in
-    let kept : IsKept v i.names i.leases i.live i.text = subst (λ w. IsKept w i.names i.leases i.live i.text) c.self.view_is c.self.invariant in
+    let kept : IsKept v i.names i.leases i.live i.text = subst (λ w. IsKept w i.names i.leases i.live i.text) c.self.view_is c.self.invariant.0 in
     let r = c.requires in
     let a : Removal v c.args.now c.args.counts c.args.old.now = record { after_at = r.after_at; after_sweep = r.after_sweep; moment = r.moment; counts = r.counts; stored = r.stored; live = r.live } in
     let few = (removal_fewer v c.args.now c.args.counts c.args.old.now kept.rising a).0 in
@@ -24,7 +27,7 @@ pub overflow_sub-result-2 : goal.overflow_sub-result-2
 overflow_sub-result-2 c =
     let v = c.args.self.now in
     let i = c.self.inside in
-    let kept : IsKept v i.names i.leases i.live i.text = subst (λ w. IsKept w i.names i.leases i.live i.text) c.self.view_is c.self.invariant in
+    let kept : IsKept v i.names i.leases i.live i.text = subst (λ w. IsKept w i.names i.leases i.live i.text) c.self.view_is c.self.invariant.0 in
     let r = c.requires in
     let a : Removal v c.args.now c.args.counts c.args.old.now = record { after_at = r.after_at; after_sweep = r.after_sweep; moment = r.moment; counts = r.counts; stored = r.stored; live = r.live } in
     let less = (removal_fewer v c.args.now c.args.counts c.args.old.now kept.rising a).1 in
@@ -36,7 +39,7 @@ invariant_of-result c =
     let i = c.self.inside in
     let now = c.args.now in
     let old = c.args.old.now in
-    let kept : IsKept v i.names i.leases i.live i.text = subst (λ w. IsKept w i.names i.leases i.live i.text) c.self.view_is c.self.invariant in
+    let kept : IsKept v i.names i.leases i.live i.text = subst (λ w. IsKept w i.names i.leases i.live i.text) c.self.view_is c.self.invariant.0 in
     let r = c.requires in
     let a : Removal v now c.args.counts old = record { after_at = r.after_at; after_sweep = r.after_sweep; moment = r.moment; counts = r.counts; stored = r.stored; live = r.live } in
     let fewer = removal_fewer v now c.args.counts old kept.rising a in
@@ -50,4 +53,10 @@ invariant_of-result c =
     let unnamed : c.in_ok-names.names ≡ without_slot (slot_of old) i.names = c.in_ok-names.ensures ∙ ap (λ s. without_slot s i.names) (slot_is c.as_record-2.result.now c.as_record.result.now.number old c.as_record-2.ensures number) in
     let whole = removal_kept v i.names i.leases i.live i.text now c.args.counts old kept a (omega (arith, room, entries)) (c.args.counts.live - 1) (c.args.counts.text - c.octets.result) (omega (arith, few)) (omega (arith, less, c.octets.ensures))
     c.in_ok-records.records records c.in_ok-names.names unnamed c.in_ok-leases.leases ended in
-    subst (λ (w : Version). IsKept (after_entry w now.0 c.in_ok-records.records w.last_number) c.in_ok-names.names c.in_ok-leases.leases (c.args.counts.live - 1) (c.args.counts.text - c.octets.result)) (sym c.self.view_is) whole
+    let indexed : AreEntriesOf v.records i.index = subst (λ (w : Version). AreEntriesOf w.records i.index) c.self.view_is c.self.invariant.1 in
+    let taken : AreEntriesOf (without old.number v.records) c.in_ok-index.index
+    = entries_without v.records old.number old i.index c.in_ok-index.index kept.rising r.stored indexed (λ e. c.in_ok-index.ensures.entries e ∙ ap (λ x. has_entry i.index e && not (has_entry (record_entries x) e)) c.as_record-3.ensures) c.in_ok-index.ensures.ascends in
+    (
+      subst (λ (w : Version). IsKept (after_entry w now.0 c.in_ok-records.records w.last_number) c.in_ok-names.names c.in_ok-leases.leases (c.args.counts.live - 1) (c.args.counts.text - c.octets.result)) (sym c.self.view_is) whole,
+      subst (λ rs. AreEntriesOf rs c.in_ok-index.index) (sym records) taken,
+    )
