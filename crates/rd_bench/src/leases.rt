@@ -6,7 +6,7 @@ use rd_base::{Moment, Starved};
 use std::alloc::Global;
 
 /// How many leases stand in the queue.
-const SIZES: [u64; 3] = [64, 1_024, 4_096];
+const SIZES: [u64; 5] = [64, 1_024, 4_096, 25_000, 100_000];
 
 /// How many calls a round makes.
 const CALLS: u64 = 200;
@@ -25,16 +25,15 @@ fn filled(alloc: Global, size: u64) -> Result<LeaseQueue, Starved> {
     Ok(queue)
 }
 
-/// A lease is put and taken again, many times; how many have lapsed at the end of all.
-fn changed(queue: &LeaseQueue) -> Result<u64, Starved> {
-    let mut lapsed = 0;
-    for number in 0..CALLS {
-        let number = u64::wrapping_add(number, 1_000_000);
-        let more = queue.put(lapse_of(number), number)?;
-        let again = more.take(lapse_of(number), number)?;
-        lapsed = again.count_lapsed(Moment(1_000_003));
+/// A lease is put and taken again, many times; the queue after all.
+fn changed(queue: &LeaseQueue) -> Result<LeaseQueue, Starved> {
+    let mut last = queue.share()?;
+    for call in 0..CALLS {
+        let number = u64::wrapping_add(call, 1_000_000);
+        let more = last.put(lapse_of(number), number)?;
+        last = more.take(lapse_of(number), number)?;
     }
-    Ok(lapsed)
+    Ok(last)
 }
 
 /// Measures a put and a take.
@@ -46,9 +45,9 @@ pub fn measured(rt: &HostRuntime) -> Result<(), Trouble> {
         let mut rounds = Rounds::new(rt.alloc());
         for _ in 0..ROUNDS {
             let start = begin(rt)?;
-            let lapsed = changed(&queue)?;
+            let last = changed(&queue)?;
             rounds.end(rt, start, CALLS)?;
-            counted = u64::wrapping_add(counted, lapsed);
+            counted = u64::wrapping_add(counted, last.count_lapsed(Moment(1_000_003)));
         }
         costs.add(rt, size, rounds)?;
     }

@@ -10,6 +10,7 @@ mod exchanges;
 mod leases;
 mod listings;
 mod looks;
+mod maps;
 mod registrations;
 mod sources;
 mod tables;
@@ -23,6 +24,7 @@ use tables::Trouble;
 /// Measures all calls, one after another. `threads` starts threads, waits and opens sockets.
 fn measured<R: Threads + Wait + Net + Sync>(rt: &HostRuntime, threads: &R) -> Result<(), Trouble> {
     exchanges::measured(rt)?;
+    maps::measured(rt)?;
     leases::measured(rt)?;
     registrations::measured(rt)?;
     listings::measured(rt)?;

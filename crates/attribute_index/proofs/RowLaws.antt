@@ -1,0 +1,271 @@
+-- What rows say of entries: which there are, that they ascend, and whom a pattern finds.
+use Rattle.std.proofs.Common.{◌≡◌, ℕ, ◌+◌, ◌<◌, length, take, slice_index_or, Bool, true, false, cond, ◌&&◌, ◌||◌, List, [], ◌∷◌, ◌++◌, Option, Some, None, map, filter, nat_eq, nat_cmp, bytes_eq, refl, sym, ap, ◌∙◌, subst, not}
+use Rattle.std.specs.declared.cmp.Ordering.{Ordering}
+use Rattle.std.specs.declared.cmp.Ordering.TheVariants.{Less, Equal, Greater}
+use Rattle.std.specs.Ordering.{is_eq, is_lt, ordering_then, match_ordering}
+use Rattle.std.specs.Cmp.Lexicographic.{slice_cmp}
+use Rattle.std.specs.Cmp.{IsTotalOrder, tied_then, tied_itself, Equal-is}
+use Rattle.std.specs.List.{list_any, flat_map, AllByRecursion}
+use Rattle.std.specs.Map.{lookup, remove_entry}
+use Rattle.std.specs.BTreeMap.{insert_entry, is_at}
+use Rattle.std.proofs.lemmas.Cmp.{nat_list_cmp_total, then_total, on_total}
+use Rattle.std.proofs.lemmas.List.Folds.{list_any-append, list_any_more}
+use Rattle.std.proofs.lemmas.Map.{lookup-none}
+use Rattle.std.proofs.lemmas.Map.Text.{is_eq-slice_cmp}
+use Rattle.std.proofs.lemmas.Bool.{false≢true}
+use Rattle.rd_base.proofs.lemmas.Each.{each_weaker, each_append}
+use Rattle.rd_base.specs.declared.attributes.Pair.{Pair}
+use Rattle.chunk_map.specs.Sorted as sorted
+use Rattle.attribute_index.specs.Entries.{Entry, IsAscending, entries_of, values_of, entry_cmp, has_entry, has_number, is_same, is_carrier, carriers_of}
+use Rattle.attribute_index.specs.Rows.{Row, AreRows, IsRow, NumbersAscend, value_cmp, entries_in, entries_of_rows, entries_under, number_in, is_wanted, wanted_numbers}
+use Rattle.attribute_index.proofs.Lookups.{none_behind, lookup_alike, lookup-absent, lookup-insert_entry, lookup-remove_entry}
+
+-- the order of values is total
+pub value_total : IsTotalOrder value_cmp
+value_total = then_total (on_total (λ p. p.0) nat_list_cmp_total) (on_total (λ p. p.1) nat_list_cmp_total)
+
+-- the value of an entry
+abbrev pub value_of : Entry → List ℕ × List ℕ
+value_of e = (e.name, e.value)
+
+-- the entry of a value and a number
+abbrev pub entry_at : List ℕ × List ℕ → ℕ → Entry
+entry_at value number = record { name = value.0; value = value.1; number = number }
+
+-- values that compare equal are equal octet for octet
+pub same_at : (q k : List ℕ × List ℕ) → is_at (value_cmp q) k ≡ (bytes_eq q.0 k.0 && bytes_eq q.1 k.1)
+same_at q k =
+    sym (tied_then (slice_cmp nat_cmp q.0 k.0) (slice_cmp nat_cmp q.1 k.1))
+    ∙ ap (λ t. t && is_eq (slice_cmp nat_cmp q.1 k.1)) (is_eq-slice_cmp q.0 k.0)
+    ∙ ap (λ t. bytes_eq q.0 k.0 && t) (is_eq-slice_cmp q.1 k.1)
+
+-- ---- tests that are joined
+
+and_none : (a : Bool) → false ≡ (a && false)
+and_none true = refl
+and_none false = refl
+
+and_any : (a b t rest more : Bool) → more ≡ ((a && b) && rest) → ((a && (b && t)) || more) ≡ ((a && b) && (t || rest))
+and_any true true t rest more h = ap (λ x. t || x) h
+and_any true false t rest more h = h
+and_any false b t rest more h = h
+
+or_none : (t : Bool) → (t || false) ≡ t
+or_none true = refl
+or_none false = refl
+
+-- ---- which entries there are
+
+-- an entry is in a row where its value is that of the row, and its number is among those of the row
+pub has_in_row : (value : List ℕ × List ℕ) (numbers : List ℕ) (e : Entry) → has_entry (entries_in (value, numbers)) e ≡ ((bytes_eq e.name value.0 && bytes_eq e.value value.1) && has_number numbers e.number)
+has_in_row value [] e = and_none (bytes_eq e.name value.0 && bytes_eq e.value value.1)
+has_in_row value (n ∷ ns) e =
+    and_any (bytes_eq e.name value.0) (bytes_eq e.value value.1) (nat_eq e.number n) (has_number ns e.number) (has_entry (entries_in (value, ns)) e) (has_in_row value ns e)
+
+-- an entry is in rows where its number is among those of the row of its value
+pub has_in_rows : (rows : List Row) (e : Entry) → sorted.IsAscending value_cmp rows → has_entry (entries_of_rows rows) e ≡ number_in (lookup (is_at (value_cmp (value_of e))) rows) e.number
+unfolding sorted.IsAscending
+has_in_rows [] e up = refl
+has_in_rows (row ∷ rows) e up =
+    list_any-append (is_same e) (entries_in row) (entries_of_rows rows)
+    ∙ ap (λ t. t || has_entry (entries_of_rows rows) e) (has_in_row row.0 row.1 e)
+    ∙ ap (λ t. (t && has_number row.1 e.number) || has_entry (entries_of_rows rows) e) (sym (same_at (value_of e) row.0))
+    ∙ ap (λ t. (is_at (value_cmp (value_of e)) row.0 && has_number row.1 e.number) || t) (has_in_rows rows e up.1)
+    ∙ by (is_at (value_cmp (value_of e)) row.0) refl
+  where
+    by : (t : Bool) → is_at (value_cmp (value_of e)) row.0 ≡ t
+        → ((t && has_number row.1 e.number) || number_in (lookup (is_at (value_cmp (value_of e))) rows) e.number) ≡ number_in (cond t (Some row.1) (lookup (is_at (value_cmp (value_of e))) rows)) e.number
+    by true same =
+        ap (λ o. has_number row.1 e.number || number_in o e.number) (lookup-none (is_at (value_cmp (value_of e))) rows (none_behind value_total (value_of e) row.0 rows same up.0))
+        ∙ or_none (has_number row.1 e.number)
+    by false same = refl
+
+-- where a row has one number more
+or_once : (t a b : Bool) (o : Option (List ℕ)) (ns : List ℕ) (n : ℕ) → has_number ns n ≡ (a || b) → (t ≡ true → number_in o n ≡ a) → number_in (cond t (Some ns) o) n ≡ (number_in o n || (t && b))
+or_once true a b o ns n h same = h ∙ ap (λ x. x || b) (sym (same refl))
+or_once false a b o ns n h same = sym (or_none (number_in o n))
+
+and_same : (a b c : Bool) → ((a && b) && c) ≡ (a && (b && c))
+and_same true b c = refl
+and_same false b c = refl
+
+-- the number of a value is found at each equal value
+found_alike : (q k : List ℕ × List ℕ) (rows : List Row) (n : ℕ) → is_at (value_cmp q) k ≡ true → number_in (lookup (is_at (value_cmp q)) rows) n ≡ number_in (lookup (is_at (value_cmp k)) rows) n
+found_alike q k rows n same = ap (λ o. number_in o n) (lookup_alike value_total q k rows same)
+
+-- rows in which a value has one number more have one entry more
+pub has_with : (rows : List Row) (value : List ℕ × List ℕ) (number : ℕ) (numbers : List ℕ) → sorted.IsAscending value_cmp rows → sorted.IsAscending value_cmp (insert_entry value_cmp rows value numbers)
+    → ((n : ℕ) → has_number numbers n ≡ (number_in (lookup (is_at (value_cmp value)) rows) n || nat_eq n number))
+    → (e : Entry) → has_entry (entries_of_rows (insert_entry value_cmp rows value numbers)) e ≡ (has_entry (entries_of_rows rows) e || is_same e (entry_at value number))
+has_with rows value number numbers up up' more e =
+    has_in_rows (insert_entry value_cmp rows value numbers) e up'
+    ∙ ap (λ o. number_in o e.number) (lookup-insert_entry value_total (value_of e) value numbers rows)
+    ∙ or_once (is_at (value_cmp (value_of e)) value) (number_in (lookup (is_at (value_cmp value)) rows) e.number) (nat_eq e.number number) (lookup (is_at (value_cmp (value_of e))) rows) numbers e.number (more e.number) (found_alike (value_of e) value rows e.number)
+    ∙ ap (λ t. t || (is_at (value_cmp (value_of e)) value && nat_eq e.number number)) (sym (has_in_rows rows e up))
+    ∙ ap (λ t. has_entry (entries_of_rows rows) e || (t && nat_eq e.number number)) (same_at (value_of e) value)
+    ∙ ap (λ t. has_entry (entries_of_rows rows) e || t) (and_same (bytes_eq e.name value.0) (bytes_eq e.value value.1) (nat_eq e.number number))
+
+-- where a row has one number less
+not_once : (t a b : Bool) (o left : Option (List ℕ)) (n : ℕ) → number_in left n ≡ (a && not b) → (t ≡ true → number_in o n ≡ a) → number_in (cond t left o) n ≡ (number_in o n && not (t && b))
+not_once true a b o left n h same = h ∙ ap (λ x. x && not b) (sym (same refl))
+not_once false a b o left n h same = sym (and_all (number_in o n))
+  where
+    and_all : (x : Bool) → (x && true) ≡ x
+    and_all true = refl
+    and_all false = refl
+
+-- rows in which a value has one number less have one entry less: what is left of its numbers, where there is some
+pub has_less : (rows rows' : List Row) (value : List ℕ × List ℕ) (number : ℕ) (left : Option (List ℕ)) → sorted.IsAscending value_cmp rows → sorted.IsAscending value_cmp rows'
+    → ((q : List ℕ × List ℕ) → lookup (is_at (value_cmp q)) rows' ≡ cond (is_at (value_cmp q) value) left (lookup (is_at (value_cmp q)) rows))
+    → ((n : ℕ) → number_in left n ≡ (number_in (lookup (is_at (value_cmp value)) rows) n && not (nat_eq n number)))
+    → (e : Entry) → has_entry (entries_of_rows rows') e ≡ (has_entry (entries_of_rows rows) e && not (is_same e (entry_at value number)))
+has_less rows rows' value number left up up' found less e =
+    has_in_rows rows' e up'
+    ∙ ap (λ o. number_in o e.number) (found (value_of e))
+    ∙ not_once (is_at (value_cmp (value_of e)) value) (number_in (lookup (is_at (value_cmp value)) rows) e.number) (nat_eq e.number number) (lookup (is_at (value_cmp (value_of e))) rows) left e.number (less e.number) (found_alike (value_of e) value rows e.number)
+    ∙ ap (λ t. t && not (is_at (value_cmp (value_of e)) value && nat_eq e.number number)) (sym (has_in_rows rows e up))
+    ∙ ap (λ t. has_entry (entries_of_rows rows) e && not (t && nat_eq e.number number)) (same_at (value_of e) value)
+    ∙ ap (λ t. has_entry (entries_of_rows rows) e && not t) (and_same (bytes_eq e.name value.0) (bytes_eq e.value value.1) (nat_eq e.number number))
+
+-- where the value is not there, nothing changes
+pub has_absent : (rows : List Row) (value : List ℕ × List ℕ) (number : ℕ) → sorted.IsAscending value_cmp rows → lookup (is_at (value_cmp value)) rows ≡ None
+    → (e : Entry) → has_entry (entries_of_rows rows) e ≡ (has_entry (entries_of_rows rows) e && not (is_same e (entry_at value number)))
+has_absent rows value number up none e =
+    has_less rows rows value number None up up (λ q. lookup-absent value_total q value rows none) (λ n. ap (λ o. number_in o n && not (nat_eq n number)) (sym none)) e
+
+-- where no number is left, the value is taken
+pub has_taken : (rows : List Row) (value : List ℕ × List ℕ) (number : ℕ) (numbers : List ℕ) → sorted.IsAscending value_cmp rows → sorted.IsAscending value_cmp (remove_entry (is_at (value_cmp value)) rows)
+    → lookup (is_at (value_cmp value)) rows ≡ Some numbers → ((n : ℕ) → false ≡ (has_number numbers n && not (nat_eq n number)))
+    → (e : Entry) → has_entry (entries_of_rows (remove_entry (is_at (value_cmp value)) rows)) e ≡ (has_entry (entries_of_rows rows) e && not (is_same e (entry_at value number)))
+has_taken rows value number numbers up up' there less e =
+    has_less rows (remove_entry (is_at (value_cmp value)) rows) value number None up up' (λ q. lookup-remove_entry value_total q value rows up) (λ n. less n ∙ ap (λ o. number_in o n && not (nat_eq n number)) (sym there)) e
+
+-- where numbers are left, they take the place of those that were there
+pub has_left : (rows : List Row) (value : List ℕ × List ℕ) (number : ℕ) (numbers left : List ℕ) → sorted.IsAscending value_cmp rows → sorted.IsAscending value_cmp (insert_entry value_cmp rows value left)
+    → lookup (is_at (value_cmp value)) rows ≡ Some numbers → ((n : ℕ) → has_number left n ≡ (has_number numbers n && not (nat_eq n number)))
+    → (e : Entry) → has_entry (entries_of_rows (insert_entry value_cmp rows value left)) e ≡ (has_entry (entries_of_rows rows) e && not (is_same e (entry_at value number)))
+has_left rows value number numbers left up up' there less e =
+    has_less rows (insert_entry value_cmp rows value left) value number (Some left) up up' (λ q. lookup-insert_entry value_total q value left rows) (λ n. less n ∙ ap (λ o. number_in o n && not (nat_eq n number)) (sym there)) e
+
+-- ---- the entries of values under a number, one value after another
+
+any_map : {X Y : Type 0} (test : Y → Bool) (f : X → Y) (xs : List X) → list_any test (map f xs) ≡ list_any (λ x. test (f x)) xs
+any_map test f [] = refl
+any_map test f (x ∷ xs) = ap (λ t. test (f x) || t) (any_map test f xs)
+
+pub under_next : (values : List (List ℕ × List ℕ)) (i : ℕ) (value : List ℕ × List ℕ) (number : ℕ) (e : Entry) → i < length values → value ≡ slice_index_or values i value
+    → has_entry (entries_under (take (i + 1) values) number) e ≡ (has_entry (entries_under (take i values) number) e || is_same e (entry_at value number))
+under_next values i value number e lt is =
+    any_map (is_same e) (λ v. entry_at v number) (take (i + 1) values)
+    ∙ list_any_more (λ v. is_same e (entry_at v number)) values i value lt
+    ∙ ap (λ t. t || is_same e (entry_at (slice_index_or values i value) number)) (sym (any_map (is_same e) (λ v. entry_at v number) (take i values)))
+    ∙ ap (λ v. has_entry (entries_under (take i values) number) e || is_same e (entry_at v number)) (sym is)
+
+-- a loop that puts values: with one more, and that takes values: with one less
+pub put_next : (all before here next one : Bool) → next ≡ (before || one) → here ≡ (all || before) → (here || one) ≡ (all || next)
+put_next true before here next one n h = ap (λ t. t || one) h
+put_next false before here next one n h = ap (λ t. t || one) h ∙ sym n
+
+pub take_next : (all before here next one : Bool) → next ≡ (before || one) → here ≡ (all && not before) → (here && not one) ≡ (all && not next)
+take_next true true here next one n h = ap (λ t. t && not one) h ∙ ap not (sym n)
+take_next true false here next one n h = ap (λ t. t && not one) h ∙ ap not (sym n)
+take_next false before here next one n h = ap (λ t. t && not one) h
+
+-- the values of an attribute are those under its name
+pub under_name : (name : List ℕ) (values : List (List ℕ)) (number : ℕ) → entries_under (map (λ value. (name, value)) values) number ≡ map (λ value. record { name = name; value = value; number = number }) values
+under_name name [] number = refl
+under_name name (value ∷ values) number = ap (λ rest. record { name = name; value = value; number = number } ∷ rest) (under_name name values number)
+
+pub under_pair : (pair : Pair) (number : ℕ) → entries_under (map (λ value. (pair.name, value)) (values_of pair.name pair.value)) number ≡ entries_of pair number
+unfolding entries_of
+under_pair pair number = under_name pair.name (values_of pair.name pair.value) number
+
+-- ---- they ascend
+
+same_value_cmp : (xs : List ℕ) → slice_cmp nat_cmp xs xs ≡ Equal
+same_value_cmp xs = tied_itself nat_list_cmp_total xs
+
+numbers_cmp : (value : List ℕ × List ℕ) (n m : ℕ) → nat_cmp n m ≡ Less → entry_cmp (entry_at value n) (entry_at value m) ≡ Less
+numbers_cmp value n m less =
+    ap (λ r. ordering_then r (ordering_then (slice_cmp nat_cmp value.1 value.1) (nat_cmp n m))) (same_value_cmp value.0)
+    ∙ ap (λ r. ordering_then r (nat_cmp n m)) (same_value_cmp value.1)
+    ∙ less
+
+values_cmp : (r s t : Ordering) → ordering_then r s ≡ Less → ordering_then r (ordering_then s t) ≡ Less
+values_cmp Less s t h = refl
+values_cmp Equal Less t h = refl
+values_cmp Equal Equal t h = absurd (false≢true (ap is_lt h))
+values_cmp Equal Greater t h = absurd (false≢true (ap is_lt h))
+values_cmp Greater s t h = absurd (false≢true (ap is_lt h))
+
+behind_number : (value : List ℕ × List ℕ) (n : ℕ) (ns : List ℕ) → AllByRecursion (λ m. nat_cmp n m ≡ Less) ns → AllByRecursion (λ y. entry_cmp (entry_at value n) y ≡ Less) (entries_in (value, ns))
+behind_number value n [] up = tt
+behind_number value n (m ∷ ns) up = (numbers_cmp value n m up.0, behind_number value n ns up.1)
+
+behind_value : (value other : List ℕ × List ℕ) (n : ℕ) (ns : List ℕ) → value_cmp value other ≡ Less → AllByRecursion (λ y. entry_cmp (entry_at value n) y ≡ Less) (entries_in (other, ns))
+behind_value value other n [] less = tt
+behind_value value other n (m ∷ ns) less =
+    (values_cmp (slice_cmp nat_cmp value.0 other.0) (slice_cmp nat_cmp value.1 other.1) (nat_cmp n m) less, behind_value value other n ns less)
+
+behind_rows : (value : List ℕ × List ℕ) (n : ℕ) (rows : List Row) → AllByRecursion (λ row. value_cmp value row.0 ≡ Less) rows → AllByRecursion (λ y. entry_cmp (entry_at value n) y ≡ Less) (entries_of_rows rows)
+behind_rows value n [] up = tt
+behind_rows value n (row ∷ rows) up =
+    each_append (λ y. entry_cmp (entry_at value n) y ≡ Less) (entries_in row) (entries_of_rows rows) (behind_value value row.0 n row.1 up.0) (behind_rows value n rows up.1)
+
+ascends_row : (value : List ℕ × List ℕ) (ns : List ℕ) (rows : List Row) → NumbersAscend ns → AllByRecursion (λ row. value_cmp value row.0 ≡ Less) rows → IsAscending (entries_of_rows rows) → IsAscending (entries_in (value, ns) ++ entries_of_rows rows)
+unfolding IsAscending NumbersAscend
+ascends_row value [] rows up behind more = more
+ascends_row value (n ∷ ns) rows up behind more = (
+  each_append (λ y. entry_cmp (entry_at value n) y ≡ Less) (entries_in (value, ns)) (entries_of_rows rows) (behind_number value n ns up.0) (behind_rows value n rows behind),
+  ascends_row value ns rows up.1 behind more,
+)
+
+pub ascends_rows : (rows : List Row) → sorted.IsAscending value_cmp rows → AreRows rows → IsAscending (entries_of_rows rows)
+unfolding IsAscending sorted.IsAscending
+ascends_rows [] up whole = tt
+ascends_rows (row ∷ rows) up whole = ascends_row row.0 row.1 rows whole.0.1 up.0 (ascends_rows rows up.1 whole.1)
+
+-- ---- each value has numbers
+
+pub rows_with : (value : List ℕ × List ℕ) (numbers : List ℕ) (rows : List Row) → IsRow numbers → AreRows rows → AreRows (insert_entry value_cmp rows value numbers)
+rows_with value numbers [] whole all = (whole, tt)
+rows_with value numbers (row ∷ rows) whole all = by (value_cmp value row.0) (rows_with value numbers rows whole all.1)
+  where
+    by : (r : Ordering) → AreRows (insert_entry value_cmp rows value numbers) → AreRows (match_ordering r ((value, numbers) ∷ row ∷ rows) ((row.0, numbers) ∷ rows) (row ∷ insert_entry value_cmp rows value numbers))
+    by Less more = (whole, all)
+    by Equal more = (whole, all.1)
+    by Greater more = (all.0, more)
+
+pub rows_without : (test : List ℕ × List ℕ → Bool) (rows : List Row) → AreRows rows → AreRows (remove_entry test rows)
+rows_without test [] all = tt
+rows_without test (row ∷ rows) all = by (test row.0) (rows_without test rows all.1)
+  where
+    by : (t : Bool) → AreRows (remove_entry test rows) → AreRows (cond t rows (row ∷ remove_entry test rows))
+    by true more = all.1
+    by false more = (all.0, more)
+
+-- ---- whom a pattern finds
+
+carried_row : (name pattern : List ℕ) (value : List ℕ × List ℕ) (ns : List ℕ) (rest : List Entry) → carriers_of name pattern (entries_in (value, ns) ++ rest) ≡ cond (is_wanted name pattern value) ns [] ++ carriers_of name pattern rest
+unfolding carriers_of
+carried_row name pattern value [] rest = by (is_wanted name pattern value)
+  where
+    by : (t : Bool) → carriers_of name pattern rest ≡ cond t [] [] ++ carriers_of name pattern rest
+    by true = refl
+    by false = refl
+carried_row name pattern value (n ∷ ns) rest = by (is_wanted name pattern value) (carried_row name pattern value ns rest)
+  where
+    by : (t : Bool) → map (λ e. e.number) (filter (is_carrier name pattern) (entries_in (value, ns) ++ rest)) ≡ cond t ns [] ++ carriers_of name pattern rest
+        → map (λ e. e.number) (cond t (entry_at value n ∷ filter (is_carrier name pattern) (entries_in (value, ns) ++ rest)) (filter (is_carrier name pattern) (entries_in (value, ns) ++ rest))) ≡ cond t (n ∷ ns) [] ++ carriers_of name pattern rest
+    by true more = ap (λ rest. n ∷ rest) more
+    by false more = more
+
+pub carried_rows : (name pattern : List ℕ) (rows : List Row) → carriers_of name pattern (entries_of_rows rows) ≡ wanted_numbers name pattern rows
+unfolding carriers_of
+carried_rows name pattern [] = refl
+carried_rows name pattern (row ∷ rows) = carried_row name pattern row.0 row.1 (entries_of_rows rows) ∙ by (is_wanted name pattern row.0) (carried_rows name pattern rows)
+  where
+    by : (t : Bool) → carriers_of name pattern (entries_of_rows rows) ≡ wanted_numbers name pattern rows
+        → cond t row.1 [] ++ carriers_of name pattern (entries_of_rows rows) ≡ flat_map (λ row. row.1) (cond t (row ∷ filter (λ row. is_wanted name pattern row.0) rows) (filter (λ row. is_wanted name pattern row.0) rows))
+    by true more = ap (λ rest. row.1 ++ rest) more
+    by false more = more

@@ -1,0 +1,9 @@
+use Rattle.std.proofs.Common.{◌≡◌, ◌++◌, map, length}
+use Rattle.record_model.specs.Matching as model
+use Rattle.attribute_index.proofs.rows.parts_of.Given as goal
+
+abbrev pub invariant-parts : goal.invariant-parts
+invariant-parts l = l.values.items ++ map (λ part. (l.name, part)) (model.parts_of l.rest) ≡ map (λ part. (l.name, part)) (model.parts_of l.value)
+
+abbrev pub decreases-parts : goal.decreases-parts
+decreases-parts l = length l.rest

@@ -1,0 +1,120 @@
+//! Versions of the index of attributes.
+ghost use Rattle.std.specs.Prelude.{◌≡◌, ◌||◌, ◌&&◌, not, [], IfOk};
+ghost use Rattle.std.specs.Option.{option_copied};
+ghost use Rattle.record_model.specs.Matching as model;
+ghost use Rattle.attribute_index.specs.Rows as spec;
+ghost use Rattle.attribute_index.specs.Entries.{Entry, IsAscending, has_entry, entries_of, carriers_of};
+
+use crate::Carriers;
+use crate::rows::{Rows, with_pair, without_pair};
+use crate::values::Value;
+use chunk_map::ChunkMap;
+use rd_base::{Bytes, Pair, Starved};
+use std::alloc::Global;
+use std::marker::Model;
+
+/// Which records carry which values of which names. The values of `rel`, `rev`, `rt` and `if` are lists (RFC 6690
+/// section 2), and stand in it part by part; a value without a part stands in it nowhere. An index never changes:
+/// [`AttributeIndex::put`] and [`AttributeIndex::take`] make another one. Contracts see it as the list of its entries,
+/// each of a name, a value and a number, in ascending order and without doubles.
+#[derive(Drop)]
+pub struct AttributeIndex {
+    /// The numbers of the records that carry a value, by the value: a value that many records carry is kept once.
+    rows: Rows,
+}
+
+impl Model for AttributeIndex {
+    ghost use Rattle.std.specs.Prelude.{List};
+    ghost use Rattle.chunk_map.specs.Sorted as sorted;
+    ghost use Rattle.attribute_index.specs.Entries.{Entry};
+    ghost use Rattle.attribute_index.specs.Rows.{value_cmp, entries_of_rows, AreRows};
+
+    ghost Value = { List Entry };
+
+    ghost view = { λ a. entries_of_rows a.rows };
+
+    ghost invariant = { λ a. sorted.IsAscending value_cmp a.rows × AreRows a.rows };
+}
+
+/// What stands before an asterisk that ends the pattern, where one does.
+#[tactic(auto, using(listing::proofs::PatternLaws::before_wildcard_last))]
+fn before_wildcard(pattern: &[u8]) -> Option<&[u8]>
+    ensures { option_copied result ≡ model.before_wildcard pattern.now }
+{
+    let (last, front) = pattern.split_last()?;
+    if *last != b'*' {
+        return None;
+    }
+    Some(front)
+}
+
+/// Where the values begin that a pattern of a name matches: at what stands before its wildcard, or at the pattern.
+/// `Starved`: out of memory.
+fn first_wanted(alloc: Global, name: &[u8], pattern: &[u8]) -> Result<Value, Starved>
+    ensures { IfOk result (λ value. value ≡ spec.first_wanted name.now pattern.now) }
+{
+    match before_wildcard(pattern) {
+        Some(front) => Value::of(alloc, name, front),
+        None => Value::of(alloc, name, pattern),
+    }
+}
+
+impl AttributeIndex {
+    /// The index without an entry. `Starved`: out of memory.
+    pub fn empty(alloc: Global) -> Result<AttributeIndex, Starved>
+        ensures { IfOk result (λ index. index ≡ []) }
+    {
+        Ok(AttributeIndex {
+            rows: ChunkMap::empty(alloc)?,
+        })
+    }
+
+    /// An equal index, which shares all entries. `Starved`: out of memory.
+    pub fn share(&self, _: Global) -> Result<AttributeIndex, Starved>
+        ensures same { IfOk result (λ index. index ≡ self.now) }
+        ensures ascends { IfOk result (λ index. IsAscending index) }
+    {
+        Ok(AttributeIndex {
+            rows: self.rows.share()?,
+        })
+    }
+
+    /// The index in which the record with this number carries this attribute too: it has the entries of this one, and those
+    /// of the attribute. `Starved`: out of memory.
+    pub fn put(&self, alloc: Global, pair: &Pair, number: u64) -> Result<AttributeIndex, Starved>
+        ensures entries { IfOk result (λ index. (e : Entry) → has_entry index e ≡ (has_entry self.now e || has_entry (entries_of pair.now number) e)) }
+        ensures ascends { IfOk result (λ index. IsAscending index) }
+    {
+        Ok(AttributeIndex {
+            rows: with_pair(alloc, &self.rows, pair, number)?,
+        })
+    }
+
+    /// The index without the entries of this attribute of the record with this number. Two attributes of a record can have
+    /// an entry in common, so who takes one of them takes all. `Starved`: out of memory.
+    pub fn take(&self, alloc: Global, pair: &Pair, number: u64) -> Result<AttributeIndex, Starved>
+        ensures entries { IfOk result (λ index. (e : Entry) → has_entry index e ≡ (has_entry self.now e && not (has_entry (entries_of pair.now number) e))) }
+        ensures ascends { IfOk result (λ index. IsAscending index) }
+    {
+        Ok(AttributeIndex {
+            rows: without_pair(alloc, &self.rows, pair, number)?,
+        })
+    }
+
+    /// A cursor over the entries of this name whose values the pattern matches (RFC 6690 section 4.1), in order. It begins
+    /// where the first of them stands, and passes no other. `Starved`: out of memory.
+    pub fn carriers(
+        &self,
+        alloc: Global,
+        name: &str,
+        pattern: &str,
+    ) -> Result<Carriers<'_>, Starved>
+        ensures { IfOk result (λ carriers. carriers ≡ carriers_of name.now pattern.now self.now) }
+    {
+        let from = first_wanted(alloc, name.as_bytes(), pattern.as_bytes())?;
+        let rows = self.rows.range(&from);
+        let name = Bytes::copy_of(alloc, name.as_bytes())?;
+        let pattern = Bytes::copy_of(alloc, pattern.as_bytes())?;
+        Ok(Carriers::over(name, pattern, rows))
+    }
+}

@@ -1,0 +1,14 @@
+//! Which records carry which values of which attributes, as versions that never change.
+#![tactic(auto)]
+
+mod carriers;
+mod index;
+mod numbers;
+mod rows;
+mod values;
+
+pub use carriers::Carriers;
+pub use index::AttributeIndex;
+
+#[cfg(test)]
+mod tests;
