@@ -6,27 +6,37 @@
 #![tactic(auto)]
 
 mod attributes;
+mod datagrams;
 mod exchanges;
 mod leases;
 mod listings;
+mod looks;
 mod maps;
 mod registrations;
+mod sources;
 mod tables;
+mod turns;
 
+use std::net::Net;
+use std::sync::Wait;
+use std::thread::Threads;
 use tables::Trouble;
 
-/// Measures all calls, one after another.
-fn measured(rt: &HostRuntime) -> Result<(), Trouble> {
+/// Measures all calls, one after another. `threads` starts threads, waits and opens sockets.
+fn measured<R: Threads + Wait + Net + Sync>(rt: &HostRuntime, threads: &R) -> Result<(), Trouble> {
     exchanges::measured(rt)?;
     maps::measured(rt)?;
     leases::measured(rt)?;
     attributes::measured(rt)?;
     registrations::measured(rt)?;
-    listings::measured(rt)
+    listings::measured(rt)?;
+    turns::measured(rt, threads)?;
+    datagrams::measured(rt, threads)?;
+    looks::measured(rt, threads)
 }
 
 fn main(rt: HostRuntime) {
-    if measured(&rt).is_err() {
+    if measured(&rt, &rt).is_err() {
         let _ = eprintln!(rt;
             "what comes next was not measured: out of memory, or the clock or a stream failed"
         );

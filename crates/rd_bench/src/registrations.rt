@@ -3,7 +3,7 @@ ghost use Rattle.std.specs.Prelude.{◌≡◌, None, IfOk};
 
 use crate::tables::{Costs, ROUNDS, Rounds, Trouble, begin};
 use rd_base::{Host, Name, Pairs, Peer, RegParams, Starved, Text};
-use registration::{Draft, DraftFault, build, weight};
+use registration::{Draft, build, weight};
 use std::alloc::Global;
 
 /// How many links a body has.
@@ -48,11 +48,7 @@ pub fn body_of(alloc: Global, size: u64) -> Result<String, Starved> {
 
 /// The draft of a body.
 pub fn draft_of(alloc: Global, body: &str) -> Result<Draft, Trouble> {
-    match build(alloc, params_of(alloc)?, PEER, body.as_bytes()) {
-        Ok(draft) => Ok(draft),
-        Err(DraftFault::Starved) => Err(Trouble::Starved),
-        Err(_) => Err(Trouble::Outside),
-    }
+    Ok(build(alloc, params_of(alloc)?, PEER, body.as_bytes())?)
 }
 
 /// Measures the draft of a body, and its weight.

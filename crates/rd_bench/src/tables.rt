@@ -1,9 +1,11 @@
 //! The table that is printed: rounds that are timed, their middle one, and a line for each call.
 
+use directory_core::Refusal;
 use rd_base::Starved;
+use registration::DraftFault;
 use std::alloc::{AllocError, AllocFailed, Global};
 use std::io;
-use std::time::Instant;
+use std::time::{Duration, Instant};
 
 /// How often each call is measured at each size.
 pub const ROUNDS: u64 = 5;
@@ -13,7 +15,7 @@ pub const ROUNDS: u64 = 5;
 pub enum Trouble {
     /// Out of memory.
     Starved,
-    /// The clock could not be asked, or a stream could not be written.
+    /// The clock could not be asked, a stream could not be written, or a call refused what it was given.
     Outside,
 }
 
@@ -32,6 +34,24 @@ impl From<AllocError> for Trouble {
 impl<T: Drop> From<AllocFailed<T>> for Trouble {
     fn from(_: AllocFailed<T>) -> Trouble {
         Trouble::Starved
+    }
+}
+
+impl From<DraftFault> for Trouble {
+    fn from(fault: DraftFault) -> Trouble {
+        match fault {
+            DraftFault::Starved => Trouble::Starved,
+            _ => Trouble::Outside,
+        }
+    }
+}
+
+impl From<Refusal> for Trouble {
+    fn from(refusal: Refusal) -> Trouble {
+        match refusal {
+            Refusal::Starved => Trouble::Starved,
+            _ => Trouble::Outside,
+        }
     }
 }
 
@@ -63,7 +83,11 @@ impl Rounds {
 
     /// A round that began at `start` ends now; it made this many calls.
     pub fn end(&mut self, rt: &HostRuntime, start: Instant, calls: u64) -> Result<(), Trouble> {
-        let time = start.elapsed(rt)?;
+        self.add(start.elapsed(rt)?, calls)
+    }
+
+    /// A round took this time; it made this many calls.
+    pub fn add(&mut self, time: Duration, calls: u64) -> Result<(), Trouble> {
         let nanoseconds = u64::try_from(time.as_nanos()).unwrap_or(u64::MAX);
         self.times
             .push(nanoseconds.checked_div(calls).unwrap_or(0))?;
@@ -118,6 +142,51 @@ impl Costs {
     pub fn print(self, rt: &HostRuntime, counted: u64) -> Result<(), Trouble> {
         eprintln!(rt; "{}{}", self.name, self.line)?;
         println!(rt; "{} counted {counted}", self.name)?;
+        Ok(())
+    }
+}
+
+/// What a call costs beside one of std that does the same.
+#[derive(Drop)]
+pub struct Beside {
+    /// The name of the call.
+    name: &'static str,
+    /// What it stands beside.
+    std: &'static str,
+    /// The rounds of the call.
+    pub own: Rounds,
+    /// The rounds of what it stands beside.
+    pub other: Rounds,
+}
+
+impl Beside {
+    /// No round yet of the call of this name.
+    pub fn new(alloc: Global, name: &'static str, std: &'static str) -> Beside {
+        Beside {
+            name,
+            std,
+            own: Rounds::new(alloc),
+            other: Rounds::new(alloc),
+        }
+    }
+
+    /// Both are printed, the middle round of each, with how many times the other's cost the call's is; on standard output how much was counted.
+    pub fn print(self, rt: &HostRuntime, counted: u64) -> Result<(), Trouble> {
+        let Beside {
+            name,
+            std,
+            own,
+            other,
+        } = self;
+        let own = own.middle()?;
+        let other = other.middle()?;
+        let hundredths = u64::saturating_mul(own, 100)
+            .checked_div(other)
+            .unwrap_or(100);
+        let whole = hundredths / 100;
+        let rest = hundredths % 100;
+        eprintln!(rt; "{name}  {own} ns, {std} {other} ns ({whole}.{rest:02})")?;
+        println!(rt; "{name} counted {counted}")?;
         Ok(())
     }
 }

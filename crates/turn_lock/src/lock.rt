@@ -10,11 +10,14 @@ use rd_base::Starved;
 use std::alloc::Global;
 use std::snapshot::Snapshot;
 use std::sync::Wait;
+use std::sync::atomic::{AtomicU64, Ordering};
 
 /// A value that many workers change, each at its turn.
 #[derive(Drop)]
 pub struct TurnLock<T: Replays> {
     table: Table<Option<T>, View<T::Row, T::Label>, Snapshot<T>, Turn<T>, Global>,
+    /// How many workers sleep until the turn is given back, or are about to. Where it is 0, a give wakes nobody.
+    sleepers: AtomicU64,
     ghost words: { table.shared.table_id.words ≡ 1 },
     ghost slots: { table.shared.table_id.slots ≡ 1 },
 }
@@ -76,20 +79,21 @@ impl<T: Replays> TurnLock<T> {
     ghost use Rattle.turn_lock.specs.Endings.{IfFree};
     ghost use Rattle.turn_lock.specs.Steps.{Took, DidNotTake, CameOut, WentIn, IsReady, Gave, WasSplit};
     ghost use Rattle.turn_lock.specs.Passes.{IsFresh};
+    ghost use Rattle.turn_lock.specs.Shown.{id_of, lock_of, number_of, label_of, is_holding, seen_of, mine_of, list_of, IsNew};
 
     /// Waits for the turn and takes the value out. It stands for all that the pass has seen then.
     pub fn take<R: Wait>(&self, rt: &R, pass: &mut Pass<T>) -> T
-        requires lock { pass.old.seat.table_id ≡ self.now.table.shared.table_id }
-        requires idle { pass.old.seat.me.0.holding ≡ false }
-        ensures lock { pass.new.seat.table_id ≡ pass.old.seat.table_id }
-        ensures holding { pass.new.seat.me.0.holding ≡ true }
-        ensures number { pass.new.seat.me.0.number ≡ pass.old.seat.me.0.number }
-        ensures label { pass.new.seat.me.0.label ≡ pass.old.seat.me.0.label }
-        ensures seen { Extends pass.old.seat.me.0.seen pass.new.seat.me.0.seen }
-        ensures mine { pass.new.seat.me.0.mine ≡ pass.old.seat.me.0.mine }
-        ensures own { pass.new.seat.me.0.mine ≡ rows_of T.number pass.new.seat.me.0.number pass.new.seat.me.0.seen }
-        ensures value { T.stands pass.new.seat.me.0.seen result }
-        ensures value_label { T.label result ≡ pass.old.seat.me.0.label }
+        requires lock { lock_of pass.old ≡ id_of self.now }
+        requires idle { is_holding pass.old ≡ false }
+        ensures lock { lock_of pass.new ≡ lock_of pass.old }
+        ensures holding { is_holding pass.new ≡ true }
+        ensures number { number_of pass.new ≡ number_of pass.old }
+        ensures label { label_of pass.new ≡ label_of pass.old }
+        ensures seen { Extends (seen_of pass.old) (seen_of pass.new) }
+        ensures mine { mine_of pass.new ≡ mine_of pass.old }
+        ensures own { mine_of pass.new ≡ rows_of T.number (number_of pass.new) (seen_of pass.new) }
+        ensures value { T.stands (seen_of pass.new) result }
+        ensures value_label { T.label result ≡ label_of pass.old }
     {
         let word = self.win(rt, &mut pass.seat);
         pass.word = word;
@@ -111,10 +115,19 @@ impl<T: Replays> TurnLock<T> {
                     return word;
                 }
             } else {
-                shared.park(rt, 0, (word & 0xffff_ffff) as u32);
+                self.sleep(rt, word);
             }
         }
         unreachable!()
+    }
+
+    /// Sleeps while the word is this one.
+    ///
+    /// A sleeper is counted before the word is compared, and a give changes the word before it reads the count: so a give that finds no sleeper changed the word before it was compared, and nobody sleeps through it.
+    fn sleep<R: Wait>(&self, rt: &R, word: u64) {
+        self.sleepers.fetch_add(1, Ordering::SeqCst);
+        self.table.shared.park(rt, 0, (word & 0xffff_ffff) as u32);
+        self.sleepers.fetch_sub(1, Ordering::SeqCst);
     }
 
     /// Takes the turn if the word is this one.
@@ -152,19 +165,19 @@ impl<T: Replays> TurnLock<T> {
 
     /// Gives the turn back with the value, which stands for what the pass has seen with one row more.
     pub fn give<S: Added<T::Row>>(&self, pass: &mut Pass<T>, value: T)
-        requires lock { pass.old.seat.table_id ≡ self.now.table.shared.table_id }
-        requires holding { pass.old.seat.me.0.holding ≡ true }
+        requires lock { lock_of pass.old ≡ id_of self.now }
+        requires holding { is_holding pass.old ≡ true }
         requires added { IsSome S.added }
-        requires number { IfSome S.added (λ row. T.number row ≡ pass.old.seat.me.0.number) }
-        requires value { IfSome S.added (λ row. T.stands (row ∷ pass.old.seat.me.0.seen) value) }
-        requires value_label { T.label value ≡ pass.old.seat.me.0.label }
-        ensures lock { pass.new.seat.table_id ≡ pass.old.seat.table_id }
-        ensures idle { pass.new.seat.me.0.holding ≡ false }
-        ensures number { pass.new.seat.me.0.number ≡ pass.old.seat.me.0.number }
-        ensures label { pass.new.seat.me.0.label ≡ pass.old.seat.me.0.label }
-        ensures seen { IfSome S.added (λ row. pass.new.seat.me.0.seen ≡ row ∷ pass.old.seat.me.0.seen) }
-        ensures mine { IfSome S.added (λ row. pass.new.seat.me.0.mine ≡ row ∷ pass.old.seat.me.0.mine) }
-        ensures own { pass.new.seat.me.0.mine ≡ rows_of T.number pass.new.seat.me.0.number pass.new.seat.me.0.seen }
+        requires number { IfSome S.added (λ row. T.number row ≡ number_of pass.old) }
+        requires value { IfSome S.added (λ row. T.stands (row ∷ seen_of pass.old) value) }
+        requires value_label { T.label value ≡ label_of pass.old }
+        ensures lock { lock_of pass.new ≡ lock_of pass.old }
+        ensures idle { is_holding pass.new ≡ false }
+        ensures number { number_of pass.new ≡ number_of pass.old }
+        ensures label { label_of pass.new ≡ label_of pass.old }
+        ensures seen { IfSome S.added (λ row. seen_of pass.new ≡ row ∷ seen_of pass.old) }
+        ensures mine { IfSome S.added (λ row. mine_of pass.new ≡ row ∷ mine_of pass.old) }
+        ensures own { mine_of pass.new ≡ rows_of T.number (number_of pass.new) (seen_of pass.new) }
     {
         self.slot_in(&mut pass.seat, value);
         let word = next_word(pass.word);
@@ -172,7 +185,7 @@ impl<T: Replays> TurnLock<T> {
         pass.word = word;
     }
 
-    /// Makes the turn free, and wakes one that waits.
+    /// Makes the turn free, and wakes one that sleeps.
     fn release<S: Added<T::Row>>(
         &self,
         seat: &mut Seat<Option<T>, View<T::Row, T::Label>>,
@@ -186,7 +199,9 @@ impl<T: Replays> TurnLock<T> {
     {
         let shared = &self.table.shared;
         shared.swap::<Give<T, S>>(seat, 0, word);
-        shared.wake_one(0);
+        if self.sleepers.load(Ordering::SeqCst) != 0 {
+            shared.wake_one(0);
+        }
     }
 
     /// Cuts a pass with the next number off the one that was made last.
@@ -237,9 +252,9 @@ impl<T: Replays> TurnLock<T> {
     ) -> Result<(TurnLock<T>, Passes<T>), Unmade<T>>
         requires seats { (1 ≤ seats) × (seats ≤ 16) }
         requires value { T.stands [] value }
-        ensures count { IfOk result (λ made. length made.1.passes.items ≡ seats) }
-        ensures fresh { IfOk result (λ made. (i : ℕ) (d : _) → i < length made.1.passes.items → IsFresh (T.label value) i (slice_index_or made.1.passes.items i d).seat.me) }
-        ensures lock { IfOk result (λ made. All (λ pass. pass.seat.table_id ≡ made.0.table.shared.table_id) made.1.passes.items) }
+        ensures count { IfOk result (λ made. length (list_of made.1) ≡ seats) }
+        ensures fresh { IfOk result (λ made. (i : ℕ) (d : _) → i < length (list_of made.1) → IsNew (T.label value) i (slice_index_or (list_of made.1) i d)) }
+        ensures lock { IfOk result (λ made. All (λ pass. lock_of pass ≡ id_of made.0) (list_of made.1)) }
         ensures back { IfErr result (λ unmade. unmade.value ≡ value) }
     {
         let Ok(passes) = Vec::with_capacity(alloc, seats as usize) else {
@@ -256,18 +271,21 @@ impl<T: Replays> TurnLock<T> {
                 return Err(Unmade { value: only(slots) });
             }
         };
-        let lock = TurnLock { table };
+        let lock = TurnLock {
+            table,
+            sleepers: AtomicU64::new(0),
+        };
         let passes = lock.cut(passes, seat, seats as usize);
         Ok((lock, Passes::of(passes)))
     }
 
     /// Takes the lock apart, with one of its passes. The value comes back where the turn is free, and stands for a history that goes on from what this pass has seen.
     pub fn end(self, pass: Pass<T>) -> Ended<T>
-        requires lock { pass.seat.table_id ≡ self.table.shared.table_id }
-        ensures value { IfFree result (λ value. (history : List T.Row) × Extends pass.seat.me.0.seen history × (pass.seat.me.0.mine ≡ rows_of T.number pass.seat.me.0.number history) × T.stands history value) }
-        ensures value_label { IfFree result (λ value. T.label value ≡ pass.seat.me.0.label) }
+        requires lock { lock_of pass ≡ id_of self }
+        ensures value { IfFree result (λ value. (history : List T.Row) × Extends (seen_of pass) history × (mine_of pass ≡ rows_of T.number (number_of pass) history) × T.stands history value) }
+        ensures value_label { IfFree result (λ value. T.label value ≡ label_of pass) }
     {
-        let TurnLock { table } = self;
+        let TurnLock { table, sleepers: _ } = self;
         let Pass { seat, word: _ } = pass;
         let mut closed = table.close_with(seat);
         let word = closed.word(0);
@@ -288,15 +306,15 @@ pub fn seen_in_order<T: Replays>()
 
 impl<T: Replays + Drop> TurnLock<T> {
     ghost use Rattle.std.specs.Prelude.{◌≤◌, ◌<◌, length, IfOk, slice_index_or, All};
-    ghost use Rattle.turn_lock.specs.Passes.{IsFresh};
+    ghost use Rattle.turn_lock.specs.Shown.{id_of, lock_of, list_of, IsNew};
 
     /// The lock round the value, and its passes, numbered from 0.
     pub fn make(alloc: Global, seats: u32, value: T) -> Result<(TurnLock<T>, Passes<T>), Starved>
         requires seats { (1 ≤ seats) × (seats ≤ 16) }
         requires value { T.stands [] value }
-        ensures count { IfOk result (λ made. length made.1.passes.items ≡ seats) }
-        ensures fresh { IfOk result (λ made. (i : ℕ) (d : _) → i < length made.1.passes.items → IsFresh (T.label value) i (slice_index_or made.1.passes.items i d).seat.me) }
-        ensures lock { IfOk result (λ made. All (λ pass. pass.seat.table_id ≡ made.0.table.shared.table_id) made.1.passes.items) }
+        ensures count { IfOk result (λ made. length (list_of made.1) ≡ seats) }
+        ensures fresh { IfOk result (λ made. (i : ℕ) (d : _) → i < length (list_of made.1) → IsNew (T.label value) i (slice_index_or (list_of made.1) i d)) }
+        ensures lock { IfOk result (λ made. All (λ pass. lock_of pass ≡ id_of made.0) (list_of made.1)) }
     {
         match TurnLock::make_or_return(alloc, seats, value) {
             Ok(made) => Ok(made),

@@ -27,17 +27,18 @@ pub struct Passes<T: Replays> {
 
 impl<T: Replays> Passes<T> {
     ghost use Rattle.std.specs.Prelude.{◌∷◌, [], IfSome, IfNone};
+    ghost use Rattle.turn_lock.specs.Shown.{list_of};
 
     /// The list of these passes.
     pub fn of(passes: Vec<Pass<T>>) -> Passes<T>
-        ensures { result.passes.items ≡ passes.items }
+        ensures { list_of result ≡ passes.items }
     {
         Passes { passes }
     }
 
     /// The passes as a vector, in the same order.
     pub fn into_vec(self) -> Vec<Pass<T>>
-        ensures { result.items ≡ self.passes.items }
+        ensures { result.items ≡ list_of self }
     {
         let Passes { passes } = self;
         passes
@@ -45,15 +46,15 @@ impl<T: Replays> Passes<T> {
 
     /// How many passes are left.
     pub fn len(&self) -> usize
-        ensures { result ≡ length self.now.passes.items }
+        ensures { result ≡ length (list_of self.now) }
     {
         self.passes.len()
     }
 
     /// Moves out the pass with the smallest number, if one is left.
     pub fn take_first(&mut self) -> Option<Pass<T>>
-        ensures some { IfSome result (λ pass. self.old.passes.items ≡ pass ∷ self.new.passes.items) }
-        ensures none { IfNone result ((self.old.passes.items ≡ []) × (self.new.passes.items ≡ [])) }
+        ensures some { IfSome result (λ pass. list_of self.old ≡ pass ∷ list_of self.new) }
+        ensures none { IfNone result ((list_of self.old ≡ []) × (list_of self.new ≡ [])) }
     {
         if self.passes.is_empty() {
             return None;

@@ -1,5 +1,6 @@
 //! Counters whose rows are their steps.
 ghost use Rattle.std.specs.Prelude.{◌≡◌, ℕ, ◌+◌, ◌*◌, ◌%◌, ◌^◌, ◌≤◌, [], true, false, length, All};
+ghost use Rattle.turn_lock.specs.Shown.{id_of, lock_of, label_of, is_holding, seen_of, mine_of};
 
 use crate::{Ended, Pass, Replays, TurnLock};
 use std::marker::Brand;
@@ -42,12 +43,12 @@ impl Replays for Counter {
 
 // One step more. What the counter is then.
 fn step<R: Wait>(rt: &R, lock: &TurnLock<Counter>, pass: &mut Pass<Counter>) -> u64
-    requires lock { pass.old.seat.table_id ≡ lock.now.table.shared.table_id }
-    requires idle { pass.old.seat.me.0.holding ≡ false }
-    ensures lock { pass.new.seat.table_id ≡ pass.old.seat.table_id }
-    ensures idle { pass.new.seat.me.0.holding ≡ false }
-    ensures seen { result ≡ length pass.new.seat.me.0.seen % 2 ^ 64 }
-    ensures mine { length pass.new.seat.me.0.mine ≡ length pass.old.seat.me.0.mine + 1 }
+    requires lock { lock_of pass.old ≡ id_of lock.now }
+    requires idle { is_holding pass.old ≡ false }
+    ensures lock { lock_of pass.new ≡ lock_of pass.old }
+    ensures idle { is_holding pass.new ≡ false }
+    ensures seen { result ≡ length (seen_of pass.new) % 2 ^ 64 }
+    ensures mine { length (mine_of pass.new) ≡ length (mine_of pass.old) + 1 }
 {
     let mut counter = lock.take(rt, pass);
     counter.count = counter.count.wrapping_add(1);
@@ -58,25 +59,25 @@ fn step<R: Wait>(rt: &R, lock: &TurnLock<Counter>, pass: &mut Pass<Counter>) -> 
 
 // Gives the counter back, one step further.
 fn give_back(lock: &TurnLock<Counter>, pass: &mut Pass<Counter>, counter: Counter)
-    requires lock { pass.old.seat.table_id ≡ lock.now.table.shared.table_id }
-    requires holding { pass.old.seat.me.0.holding ≡ true }
-    requires count { counter.count ≡ (length pass.old.seat.me.0.seen + 1) % 2 ^ 64 }
-    requires name { counter.name ≡ pass.old.seat.me.0.label }
-    ensures lock { pass.new.seat.table_id ≡ pass.old.seat.table_id }
-    ensures idle { pass.new.seat.me.0.holding ≡ false }
-    ensures seen { length pass.new.seat.me.0.seen ≡ length pass.old.seat.me.0.seen + 1 }
-    ensures mine { length pass.new.seat.me.0.mine ≡ length pass.old.seat.me.0.mine + 1 }
+    requires lock { lock_of pass.old ≡ id_of lock.now }
+    requires holding { is_holding pass.old ≡ true }
+    requires count { counter.count ≡ (length (seen_of pass.old) + 1) % 2 ^ 64 }
+    requires name { counter.name ≡ label_of pass.old }
+    ensures lock { lock_of pass.new ≡ lock_of pass.old }
+    ensures idle { is_holding pass.new ≡ false }
+    ensures seen { length (seen_of pass.new) ≡ length (seen_of pass.old) + 1 }
+    ensures mine { length (mine_of pass.new) ≡ length (mine_of pass.old) + 1 }
 {
     lock.give::<Brand>(pass, counter);
 }
 
 // As many steps as are wanted.
 fn steps<R: Wait>(rt: &R, lock: &TurnLock<Counter>, pass: &mut Pass<Counter>, count: u64)
-    requires lock { pass.old.seat.table_id ≡ lock.now.table.shared.table_id }
-    requires idle { pass.old.seat.me.0.holding ≡ false }
-    ensures lock { pass.new.seat.table_id ≡ pass.old.seat.table_id }
-    ensures idle { pass.new.seat.me.0.holding ≡ false }
-    ensures mine { length pass.new.seat.me.0.mine ≡ length pass.old.seat.me.0.mine + count }
+    requires lock { lock_of pass.old ≡ id_of lock.now }
+    requires idle { is_holding pass.old ≡ false }
+    ensures lock { lock_of pass.new ≡ lock_of pass.old }
+    ensures idle { is_holding pass.new ≡ false }
+    ensures mine { length (mine_of pass.new) ≡ length (mine_of pass.old) + count }
 {
     for _ in 0..count {
         step(rt, lock, pass);
@@ -89,10 +90,10 @@ fn all_at_once<R: Threads + Wait + Sync>(
     lock: &TurnLock<Counter>,
     passes: &mut [Pass<Counter>],
 )
-    requires lock { All (λ pass. pass.seat.table_id ≡ lock.now.table.shared.table_id) passes.old }
-    requires idle { All (λ pass. pass.seat.me.0.holding ≡ false) passes.old }
-    ensures lock { All (λ pass. pass.seat.table_id ≡ lock.now.table.shared.table_id) passes.new }
-    ensures idle { All (λ pass. pass.seat.me.0.holding ≡ false) passes.new }
+    requires lock { All (λ pass. lock_of pass ≡ id_of lock.now) passes.old }
+    requires idle { All (λ pass. is_holding pass ≡ false) passes.old }
+    ensures lock { All (λ pass. lock_of pass ≡ id_of lock.now) passes.new }
+    ensures idle { All (λ pass. is_holding pass ≡ false) passes.new }
 {
     thread::for_each_mut(
         rt,

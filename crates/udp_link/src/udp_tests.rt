@@ -60,5 +60,7 @@ fn a_clock_tells_the_time(rt: HostRuntime) {
     let first = clock.now();
     assert!(rt; first > Moment(1_700_000_000_000) && first <= clock.now());
     assert!(rt; first < Moment(LAST_MOMENT));
-    assert!(rt; clock.word() < 1_000_000_000);
+    let (one, another) = (clock.word(), clock.word());
+    assert!(rt; one < 1_000_000_000 && another < 1_000_000_000);
+    assert!(rt; one != 0 || another != 0, "a word is not 0 twice in a row");
 }

@@ -1,0 +1,16 @@
+pub mod InOrderLaws
+pub mod RecordMapLaws
+pub mod SlotLaws
+pub mod LeaseLaws
+pub mod CountLaws
+pub mod ChangeLaws
+pub mod LapsingLaws
+pub mod ReadLaws
+pub mod KeptLaws
+pub mod EmptyLaws
+pub mod EntryLaws
+pub mod RenewLaws
+pub mod FitLaws
+pub mod AnswerLaws
+pub mod SweptLaws
+pub mod IndexLaws

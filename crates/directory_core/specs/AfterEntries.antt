@@ -1,0 +1,65 @@
+-- A version after an entry, and what it answers where it has no room.
+use Rattle.std.specs.Prelude.{◌≡◌, ⊤, ℕ, ◌+◌, ◌^◌, ◌<◌, ◌≤◌, true, not, List, filter, Result, Ok, Err}
+use Rattle.std.specs.List.{list_all}
+use Rattle.rd_base.specs.declared.records.Record.{Record}
+use Rattle.record_model.specs.Parameters.{is_base}
+use Rattle.history_model.specs.Refusals.{max_text, max_entries}
+use Rattle.history_model.specs.Replay.{is_numbered, with_changed}
+use Rattle.history_model.specs.Versions.{Version}
+use Rattle.registration.specs.declared.drafts.Draft.{Draft}
+use Rattle.registration.specs.Drafts.{has_references}
+use Rattle.registration.specs.Weights.{capped}
+use Rattle.directory_core.specs.declared.refusals.Refusal.{Refusal}
+use Rattle.directory_core.specs.declared.refusals.Refusal.TheVariants as answer
+
+-- the records with this one in place of that of its number
+abbrev pub renewed : Record → List Record → List Record
+renewed r records = with_changed r.number (λ _. r) records
+
+-- the records without that of a number
+abbrev pub without : ℕ → List Record → List Record
+without number records = filter (λ r. not (is_numbered number r)) records
+
+-- a version after an entry at a moment, with these records and this last number
+abbrev pub after_entry : Version → ℕ → List Record → ℕ → Version
+after_entry v now records last_number = record {
+  records = records;
+  entries = v.entries + 1;
+  at = now;
+  last_number = last_number;
+  swept_live = 0;
+  swept = v.swept;
+}
+
+-- what is known of a draft that becomes a record
+pub record IsSound (draft : Draft) : Type 0 where
+  pub lasting : (0 < draft.lt) × (draft.lt < 2 ^ 32)
+  pub references : list_all has_references draft.items ≡ true
+  pub base : is_base draft.base ≡ true
+
+-- so much text may be, and one entry more is counted; else what is answered
+abbrev pub HasRoom : ℕ → ℕ → Result ℕ Refusal → Type 0
+HasRoom text entries (Ok sum) = (sum ≡ text) × (text ≤ max_text) × (entries < max_entries)
+HasRoom text entries (Err (answer.FullText sum)) = (sum ≡ capped text) × (max_text < text)
+HasRoom text entries (Err answer.FullEntries) = (text ≤ max_text) × (max_entries ≤ entries)
+HasRoom text entries (Err answer.Starved) = ⊥
+HasRoom text entries (Err (answer.Gone number)) = ⊥
+HasRoom text entries (Err (answer.FullCount count)) = ⊥
+
+-- the same of a version that is made where there is room
+abbrev pub IsMadeWithRoom : ℕ → ℕ → Version → Result Version Refusal → Type 0
+IsMadeWithRoom text entries new (Ok version) = (version ≡ new) × (text ≤ max_text) × (entries < max_entries)
+IsMadeWithRoom text entries new (Err (answer.FullText sum)) = (sum ≡ capped text) × (max_text < text)
+IsMadeWithRoom text entries new (Err answer.FullEntries) = (text ≤ max_text) × (max_entries ≤ entries)
+IsMadeWithRoom text entries new (Err answer.Starved) = ⊤
+IsMadeWithRoom text entries new (Err (answer.Gone number)) = ⊥
+IsMadeWithRoom text entries new (Err (answer.FullCount count)) = ⊥
+
+-- one entry more is counted; else what is answered
+abbrev pub HasEntryRoom : ℕ → Result (Unit {0}) Refusal → Type 0
+HasEntryRoom entries (Ok nothing) = entries < max_entries
+HasEntryRoom entries (Err answer.FullEntries) = max_entries ≤ entries
+HasEntryRoom entries (Err (answer.FullText sum)) = ⊥
+HasEntryRoom entries (Err answer.Starved) = ⊥
+HasEntryRoom entries (Err (answer.Gone number)) = ⊥
+HasEntryRoom entries (Err (answer.FullCount count)) = ⊥

@@ -1,0 +1,14 @@
+pub mod Changes
+pub mod Answers
+pub mod LapseOrder
+pub mod NumberOrder
+pub mod NameSlots
+pub mod LiveCounts
+pub mod Shown
+pub mod Boards
+pub mod Bounds
+pub mod Lapsing
+pub mod AfterEntries
+pub mod EntryAnswers
+pub mod Swept
+pub mod IndexedPairs

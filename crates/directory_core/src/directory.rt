@@ -1,0 +1,99 @@
+//! Versions of the directory.
+ghost use Rattle.std.specs.Prelude.{◌≡◌, ◌<◌, ◌^◌, [], IfOk};
+ghost use Rattle.history_model.specs.Versions.{VersionStandsFor};
+
+use crate::names::Names;
+use crate::records::Records;
+use attribute_index::AttributeIndex;
+use lease_queue::LeaseQueue;
+use rd_base::{Moment, Starved};
+use std::alloc::Global;
+use std::marker::Model;
+
+/// A version of the directory. It stands for the history of the changes that made it, and answers every lookup as replaying
+/// that history would (RFC 9176 sections 5 and 6). A version never changes: a change makes another one, which shares all
+/// that did not change. Contracts see it as what a version shows: its records, how many entries it has, the moment of the
+/// last one, and what was dropped of it.
+#[derive(Drop)]
+pub struct Directory {
+    /// The records that no sweep dropped, in ascending number.
+    pub(crate) records: Records,
+    /// Their numbers by their names.
+    pub(crate) names: Names,
+    /// Their leases.
+    pub(crate) leases: LeaseQueue,
+    /// Which values of which attributes they carry, with their links.
+    pub(crate) index: AttributeIndex,
+    /// How many of them were live at the moment of the last entry, or at that of the last sweep where that is later.
+    pub(crate) live: u64,
+    /// What those weighed together, in octets.
+    pub(crate) text: u64,
+    /// How many entries there are, with those that were counted before the first.
+    pub(crate) entries: u64,
+    /// The moment of the last entry, else 0.
+    pub(crate) at: Moment,
+    /// The last number that a record got.
+    pub(crate) last_number: u64,
+    /// How many records were swept since the last entry that were live after it.
+    pub(crate) swept_live: u64,
+    /// The moment of the last sweep, else 0.
+    pub(crate) swept: Moment,
+    /// The allocator of what is made of it.
+    pub(crate) alloc: Global,
+}
+
+impl Model for Directory {
+    ghost use Rattle.history_model.specs.Versions.{Version};
+    ghost use Rattle.directory_core.specs.Bounds.{AreEntriesOf};
+    ghost use Rattle.directory_core.specs.Shown.{IsKept};
+
+    ghost Value = { Version };
+
+    ghost view = { λ d. record { records = d.records; entries = d.entries; at = d.at.0; last_number = d.last_number; swept_live = d.swept_live; swept = d.swept.0 } };
+
+    ghost invariant = { λ d. (IsKept (record { records = d.records; entries = d.entries; at = d.at.0; last_number = d.last_number; swept_live = d.swept_live; swept = d.swept.0 }) d.names d.leases d.live d.text) × AreEntriesOf d.records d.index };
+}
+
+impl Directory {
+    /// The version without a record. Its entries count from `first`. It keeps `alloc` for the versions that are made of it.
+    pub fn empty(alloc: Global, first: u64) -> Result<Directory, Starved>
+        requires { first < 2 ^ 48 }
+        ensures { IfOk result (λ version. VersionStandsFor first [] version) }
+    {
+        Ok(Directory {
+            records: Records::empty(alloc)?,
+            names: Names::empty(alloc)?,
+            leases: LeaseQueue::empty(alloc)?,
+            index: AttributeIndex::empty(alloc)?,
+            live: 0,
+            text: 0,
+            entries: first,
+            at: Moment(0),
+            last_number: 0,
+            swept_live: 0,
+            swept: Moment(0),
+            alloc,
+        })
+    }
+
+    /// How many entries there are, with those that were counted before the first. Takes no time.
+    pub fn entries(&self) -> u64
+        ensures { result ≡ self.now.entries }
+    {
+        self.entries
+    }
+
+    /// The moment of the last entry, else 0. No call asks for a moment before it.
+    pub fn at(&self) -> Moment
+        ensures { result.0 ≡ self.now.at }
+    {
+        self.at
+    }
+
+    /// The moment of the last sweep, else 0. No call asks for a moment before it.
+    pub fn swept(&self) -> Moment
+        ensures { result.0 ≡ self.now.swept }
+    {
+        self.swept
+    }
+}

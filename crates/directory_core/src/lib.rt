@@ -1,0 +1,29 @@
+//! Versions of the directory: each stands for a history of changes, and never changes (RFC 9176 sections 5 and 6).
+#![tactic(auto)]
+
+mod boards;
+mod counts;
+mod directory;
+mod index;
+mod kept;
+mod lapsing;
+mod lookup;
+mod names;
+mod reads;
+mod records;
+mod refusals;
+mod register;
+mod remove;
+mod renewed;
+mod room;
+mod sweep;
+mod update;
+mod updated_drafts;
+
+pub use boards::{Board, NoBoard};
+pub use directory::Directory;
+pub use lapsing::LapsingIter;
+pub use refusals::Refusal;
+
+#[cfg(test)]
+mod tests;

@@ -1,0 +1,84 @@
+//! Records by their numbers, as versions that never change.
+ghost use Rattle.std.specs.Prelude.{◌≡◌, [], not, filter, IfOk, option_map};
+ghost use Rattle.std.specs.Option.{option_copied};
+ghost use Rattle.rd_base.proofs.lemmas.Pairs.{PairsByRecursion};
+ghost use Rattle.history_model.specs.Replay.{is_numbered, numbered};
+ghost use Rattle.history_model.proofs.NumberLaws.{IsBelow};
+ghost use Rattle.directory_core.specs.NumberOrder.{with_record};
+
+use crate::kept::Kept;
+use chunk_map::ChunkMap;
+use rd_base::Starved;
+use std::alloc::Global;
+use std::marker::Model;
+
+/// Records in ascending number. Contracts see them as their list.
+#[derive(Drop)]
+pub struct Records {
+    /// Each record under its number.
+    pairs: ChunkMap<u64, Kept>,
+}
+
+impl Model for Records {
+    ghost use Rattle.std.specs.Prelude.{List};
+    ghost use Rattle.std.specs.Map.{values_of};
+    ghost use Rattle.rd_base.specs.declared.records.Record.{Record};
+    ghost use Rattle.rd_base.proofs.lemmas.Pairs.{PairsByRecursion};
+    ghost use Rattle.history_model.proofs.NumberLaws.{IsBelow};
+    ghost use Rattle.directory_core.specs.NumberOrder.{AreUnderNumbers};
+
+    ghost Value = { List Record };
+
+    ghost view = { λ r. values_of r.pairs };
+
+    ghost invariant = { λ r. AreUnderNumbers r.pairs × PairsByRecursion IsBelow (values_of r.pairs) };
+}
+
+impl Records {
+    /// No records. `Starved`: out of memory.
+    pub(crate) fn empty(alloc: Global) -> Result<Records, Starved>
+        ensures { IfOk result (λ records. records ≡ []) }
+    {
+        Ok(Records {
+            pairs: ChunkMap::empty(alloc)?,
+        })
+    }
+
+    /// Equal records, all of which are shared. `Starved`: out of memory.
+    pub(crate) fn share(&self) -> Result<Records, Starved>
+        ensures same { IfOk result (λ records. records ≡ self.now) }
+        ensures rising { PairsByRecursion IsBelow self.now }
+    {
+        Ok(Records {
+            pairs: self.pairs.share()?,
+        })
+    }
+
+    /// The record of this number, where there is one. Takes no memory.
+    pub(crate) fn get(&self, number: u64) -> Option<&Kept>
+        ensures { option_copied result ≡ numbered number self.now }
+    {
+        self.pairs.get(&number)
+    }
+
+    /// The records with one more, in place of that of its number where there is one. `Starved`: out of memory.
+    pub(crate) fn put(&self, kept: Kept) -> Result<Records, Starved>
+        ensures records { IfOk result (λ records. records ≡ with_record kept self.now) }
+        ensures rising { IfOk result (λ records. PairsByRecursion IsBelow records) }
+    {
+        let number = kept.as_record().number;
+        Ok(Records {
+            pairs: self.pairs.put(number, kept)?,
+        })
+    }
+
+    /// The records without that of this number. `Starved`: out of memory.
+    pub(crate) fn take(&self, number: u64) -> Result<Records, Starved>
+        ensures records { IfOk result (λ records. records ≡ filter (λ r. not (is_numbered number r)) self.now) }
+        ensures rising { IfOk result (λ records. PairsByRecursion IsBelow records) }
+    {
+        Ok(Records {
+            pairs: self.pairs.take(&number)?,
+        })
+    }
+}

@@ -1,0 +1,105 @@
+//! Registrations (RFC 9176 section 5).
+ghost use Rattle.std.specs.Prelude.{◌≡◌, ◌≤◌, ◌^◌, ◌++◌, ◌∷◌, [], true, ℕ, List, None, Some, find, IfOk, IfErr, OnOk};
+ghost use Rattle.history_model.specs.declared.entries.Entry.{Entry};
+ghost use Rattle.history_model.specs.Refusals.{change_refusal};
+ghost use Rattle.history_model.specs.Leases.{is_live_at, live_among};
+ghost use Rattle.history_model.specs.Replay.{is_live_named, numbered, replay, number_for};
+ghost use Rattle.history_model.specs.Versions.{VersionStandsFor};
+ghost use Rattle.registration.specs.Drafts.{IsDraft};
+ghost use Rattle.directory_core.specs.Answers.{IsRefusalOf};
+ghost use Rattle.directory_core.specs.Changes.{IsRegistrationOf};
+ghost use Rattle.directory_core.specs.EntryAnswers as answers;
+ghost use Rattle.directory_core.specs.LiveCounts.{counts_of};
+
+use crate::counts::Counts;
+use crate::kept::Kept;
+use crate::room::MAX_REGISTRATIONS;
+use crate::{Directory, Refusal};
+use rd_base::Moment;
+use registration::Draft;
+
+/// A version with the number of what it registered.
+fn with_number(
+    version: Result<Directory, Refusal>,
+    number: u64,
+) -> Result<(Directory, u64), Refusal>
+    ensures { result ≡ answers.with_number version number }
+{
+    match version {
+        Ok(version) => Ok((version, number)),
+        Err(refusal) => Err(refusal),
+    }
+}
+
+impl Directory {
+    /// The version with a registration of a name that is new.
+    fn register_new(&self, now: Moment, counts: Counts, draft: Draft) -> Result<Directory, Refusal>
+        requires after_at { self.now.at ≤ now.0 }
+        requires after_sweep { self.now.swept ≤ now.0 }
+        requires moment { now.0 ≤ 10 ^ 15 }
+        requires counts { counts ≡ counts_of (live_among now.0 self.now.records) }
+        requires name { find (is_live_named draft.name now.0) self.now.records ≡ None }
+        requires draft { IsDraft draft }
+        ensures answers { (first : ℕ) (history : List Entry) (entry : Entry) → VersionStandsFor first history self.now → IsRegistrationOf now draft entry → answers.AnswersEntry first history entry self.now.swept result }
+        ensures kept { IfOk result (λ version. version.swept ≡ self.now.swept) }
+    {
+        let _ = &self.alloc;
+        if counts.live >= MAX_REGISTRATIONS {
+            return Err(Refusal::FullCount(counts.live));
+        }
+        self.appended(now, counts, draft)
+    }
+
+    /// The version with a registration of a name of which this record is live.
+    fn register_again(
+        &self,
+        now: Moment,
+        counts: Counts,
+        old: &Kept,
+        draft: Draft,
+    ) -> Result<Directory, Refusal>
+        requires after_at { self.now.at ≤ now.0 }
+        requires after_sweep { self.now.swept ≤ now.0 }
+        requires moment { now.0 ≤ 10 ^ 15 }
+        requires counts { counts ≡ counts_of (live_among now.0 self.now.records) }
+        requires name { find (is_live_named draft.name now.0) self.now.records ≡ Some old.now }
+        requires stored { numbered old.now.number self.now.records ≡ Some old.now }
+        requires live { is_live_at now.0 old.now ≡ true }
+        requires named { old.now.name ≡ draft.name }
+        requires draft { IsDraft draft }
+        ensures answers { (first : ℕ) (history : List Entry) (entry : Entry) → VersionStandsFor first history self.now → IsRegistrationOf now draft entry → answers.AnswersEntry first history entry self.now.swept result }
+        ensures kept { IfOk result (λ version. version.swept ≡ self.now.swept) }
+    {
+        let _ = &self.alloc;
+        self.renewed(now, counts, old, draft)
+    }
+
+    /// The version with this registration, and its number: that of the live registration of the name, whose all else is
+    /// replaced, and else the next one (RFC 9176 section 5). The moment is not before the last entry, and not before the
+    /// last sweep, which is that of the new version too. This version is as before.
+    ///
+    /// # Errors
+    ///
+    /// `FullCount` exactly where the name is new and 4,096 registrations are live; else `FullText` exactly where the live
+    /// ones would weigh more than 1,048,576 with this one as it is to be; else `FullEntries` exactly where 2^48 - 1 entries
+    /// are counted. `Starved` may come instead of each.
+    pub fn register(&self, now: Moment, draft: Draft) -> Result<(Directory, u64), Refusal>
+        requires after_at { self.now.at ≤ now.0 }
+        requires after_sweep { self.now.swept ≤ now.0 }
+        requires moment { now.0 ≤ 10 ^ 15 }
+        requires draft { IsDraft draft }
+        ensures stands { (first : ℕ) (history : List Entry) (entry : Entry) → VersionStandsFor first history self.now → IsRegistrationOf now draft entry → IfOk result (λ made. VersionStandsFor first (history ++ entry ∷ []) made.0) }
+        ensures number { (first : ℕ) (history : List Entry) → VersionStandsFor first history self.now → IfOk result (λ made. made.1 ≡ number_for draft.name now.0 (replay history)) }
+        ensures accepted { (first : ℕ) (history : List Entry) (entry : Entry) → VersionStandsFor first history self.now → IsRegistrationOf now draft entry → OnOk result (change_refusal first history entry ≡ None) }
+        ensures refused { (first : ℕ) (history : List Entry) (entry : Entry) → VersionStandsFor first history self.now → IsRegistrationOf now draft entry → IfErr result (IsRefusalOf first history entry) }
+        ensures swept { IfOk result (λ made. made.0.swept ≡ self.now.swept) }
+    {
+        let counts = self.counts_at(now);
+        let Some(old) = self.live_named(&draft.name, now) else {
+            let number = self.last_number + 1;
+            return with_number(self.register_new(now, counts, draft), number);
+        };
+        let number = old.as_record().number;
+        with_number(self.register_again(now, counts, old, draft), number)
+    }
+}

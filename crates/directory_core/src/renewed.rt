@@ -1,0 +1,145 @@
+//! A version with one record made anew, one more, or one less.
+ghost use Rattle.std.specs.Prelude.{◌≡◌, ◌+◌, ◌<◌, ◌≤◌, ◌^◌, ◌++◌, ◌∷◌, [], true, Some, length};
+ghost use Rattle.history_model.specs.Leases.{is_live_at, live_among};
+ghost use Rattle.history_model.specs.Refusals.{max_registrations, text_of};
+ghost use Rattle.history_model.specs.Replay.{numbered};
+ghost use Rattle.registration.specs.Drafts.{recorded};
+ghost use Rattle.directory_core.specs.AfterEntries.{renewed, without, after_entry, IsSound, IsMadeWithRoom};
+ghost use Rattle.directory_core.specs.LiveCounts.{counts_of};
+
+use crate::counts::Counts;
+use crate::index::{index_with, index_without};
+use crate::kept::Kept;
+use crate::room::{record_from, room_for_entry, text_with};
+use crate::{Directory, Refusal};
+use rd_base::Moment;
+use registration::{Draft, weight};
+
+impl Directory {
+    /// The version in which a live record is made anew by a draft, under its number and its name, where there is room.
+    pub(crate) fn renewed(
+        &self,
+        now: Moment,
+        counts: Counts,
+        old: &Kept,
+        draft: Draft,
+    ) -> Result<Directory, Refusal>
+        requires after_at { self.now.at ≤ now.0 }
+        requires after_sweep { self.now.swept ≤ now.0 }
+        requires moment { now.0 ≤ 10 ^ 15 }
+        requires counts { counts ≡ counts_of (live_among now.0 self.now.records) }
+        requires stored { numbered old.now.number self.now.records ≡ Some old.now }
+        requires live { is_live_at now.0 old.now ≡ true }
+        requires named { draft.name ≡ old.now.name }
+        requires sound { IsSound draft }
+        ensures { IsMadeWithRoom (text_of (renewed (recorded old.now.number now draft) (live_among now.0 self.now.records))) self.now.entries (after_entry self.now now.0 (renewed (recorded old.now.number now draft) self.now.records) self.now.last_number) result }
+    {
+        let entries = self.entries;
+        let number = old.as_record().number;
+        let octets = weight(&draft, number);
+        let text = match text_with(counts.text - old.octets(), octets, entries) {
+            Ok(text) => text,
+            Err(refusal) => return Err(refusal),
+        };
+        let kept = Kept::of(self.alloc, record_from(number, now, draft), octets)?;
+        let leases = self.leases.take(old.lapse(), number)?;
+        let leases = leases.put(kept.lapse(), number)?;
+        let names = self.names.share()?;
+        let index = index_without(self.alloc, &self.index, old.as_record())?;
+        let index = index_with(self.alloc, &index, kept.as_record())?;
+        let records = self.records.put(kept)?;
+        Ok(Directory {
+            records,
+            names,
+            leases,
+            index,
+            live: counts.live,
+            text,
+            entries: self.entries + 1,
+            at: now,
+            last_number: self.last_number,
+            swept_live: 0,
+            swept: self.swept,
+            alloc: self.alloc,
+        })
+    }
+
+    /// The version with one record more, made by a draft under the next number, where there is room for its text.
+    pub(crate) fn appended(
+        &self,
+        now: Moment,
+        counts: Counts,
+        draft: Draft,
+    ) -> Result<Directory, Refusal>
+        requires after_at { self.now.at ≤ now.0 }
+        requires after_sweep { self.now.swept ≤ now.0 }
+        requires moment { now.0 ≤ 10 ^ 15 }
+        requires counts { counts ≡ counts_of (live_among now.0 self.now.records) }
+        requires few { length (live_among now.0 self.now.records) < max_registrations }
+        requires sound { IsSound draft }
+        ensures { IsMadeWithRoom (text_of (live_among now.0 self.now.records ++ recorded (self.now.last_number + 1) now draft ∷ [])) self.now.entries (after_entry self.now now.0 (self.now.records ++ recorded (self.now.last_number + 1) now draft ∷ []) (self.now.last_number + 1)) result }
+    {
+        let number = self.last_number + 1;
+        let octets = weight(&draft, number);
+        let text = match text_with(counts.text, octets, self.entries) {
+            Ok(text) => text,
+            Err(refusal) => return Err(refusal),
+        };
+        let kept = Kept::of(self.alloc, record_from(number, now, draft), octets)?;
+        let leases = self.leases.put(kept.lapse(), number)?;
+        let names = self.names.put(&kept.as_record().name, number)?;
+        let index = index_with(self.alloc, &self.index, kept.as_record())?;
+        let records = self.records.put(kept)?;
+        Ok(Directory {
+            records,
+            names,
+            leases,
+            index,
+            live: counts.live + 1,
+            text,
+            entries: self.entries + 1,
+            at: now,
+            last_number: number,
+            swept_live: 0,
+            swept: self.swept,
+            alloc: self.alloc,
+        })
+    }
+
+    /// The version without a live record, where one entry more is counted.
+    pub(crate) fn without(
+        &self,
+        now: Moment,
+        counts: Counts,
+        old: &Kept,
+    ) -> Result<Directory, Refusal>
+        requires after_at { self.now.at ≤ now.0 }
+        requires after_sweep { self.now.swept ≤ now.0 }
+        requires moment { now.0 ≤ 10 ^ 15 }
+        requires counts { counts ≡ counts_of (live_among now.0 self.now.records) }
+        requires stored { numbered old.now.number self.now.records ≡ Some old.now }
+        requires live { is_live_at now.0 old.now ≡ true }
+        ensures { IsMadeWithRoom 0 self.now.entries (after_entry self.now now.0 (without old.now.number self.now.records) self.now.last_number) result }
+    {
+        room_for_entry(self.entries)?;
+        let number = old.as_record().number;
+        let leases = self.leases.take(old.lapse(), number)?;
+        let names = self.names.take(&old.as_record().name, number)?;
+        let index = index_without(self.alloc, &self.index, old.as_record())?;
+        let records = self.records.take(number)?;
+        Ok(Directory {
+            records,
+            names,
+            leases,
+            index,
+            live: counts.live - 1,
+            text: counts.text - old.octets(),
+            entries: self.entries + 1,
+            at: now,
+            last_number: self.last_number,
+            swept_live: 0,
+            swept: self.swept,
+            alloc: self.alloc,
+        })
+    }
+}

@@ -1,0 +1,109 @@
+//! What an update makes of a registration (RFC 9176 section 5.3.1).
+ghost use Rattle.std.specs.Prelude.{◌≡◌, ◌<◌, ◌^◌, [], true, false, not, filter, None, IfOk, IfSome};
+ghost use Rattle.std.specs.List.{list_all};
+ghost use Rattle.rd_base.specs.Peers.{IsHost};
+ghost use Rattle.rd_base.specs.declared.moments.Moment.{Moment};
+ghost use Rattle.record_model.specs.AllowedParameters.{IsAllowedChange};
+ghost use Rattle.record_model.specs.Bases as bases;
+ghost use Rattle.record_model.specs.Parameters.{is_base};
+ghost use Rattle.record_model.specs.Records as records;
+ghost use Rattle.registration.specs.Drafts.{has_references, recorded};
+ghost use Rattle.directory_core.specs.AfterEntries.{IsSound};
+
+use rd_base::{Pair, Pairs, Peer, Record, Starved, Text, UpdateParams, base_of};
+use registration::{Draft, rebased};
+use std::alloc::Global;
+
+/// The base that a peer gives.
+#[tactic(auto, using(record_model::proofs::PeerBases::peer_base_is_base))]
+fn base_of_peer(alloc: Global, peer: Peer) -> Result<Text, Starved>
+    ensures fits { IsHost peer.host }
+    ensures value { IfOk result (λ base. base ≡ bases.updated_base None false [] peer) }
+    ensures base { IfOk result (λ base. is_base base ≡ true) }
+{
+    base_of(alloc, &peer)
+}
+
+/// The base after an update: the one that is given; else one that was given stays, and another becomes that of the peer.
+fn base_after(alloc: Global, given: Option<Text>, old: &Record, peer: Peer) -> Result<Text, Starved>
+    requires given { IfSome given (λ base. is_base base ≡ true) }
+    requires old { is_base old.now.base ≡ true }
+    ensures value { IfOk result (λ base. base ≡ bases.updated_base given old.now.base_given old.now.base peer) }
+    ensures base { IfOk result (λ base. is_base base ≡ true) }
+{
+    match given {
+        Some(base) => Ok(base),
+        None => {
+            if old.base_given {
+                return old.base.copy(alloc);
+            }
+            base_of_peer(alloc, peer)
+        }
+    }
+}
+
+/// Whether one of these attributes has the name of another.
+fn is_replaced(given: &[Pair], pair: &Pair) -> bool
+    ensures { result ≡ records.is_replaced given.now pair.now }
+{
+    given
+        .iter()
+        .any(|other| pair.name.as_bytes() == other.name.as_bytes())
+}
+
+/// Copies of the attributes that are not replaced.
+fn left_of(alloc: Global, given: &[Pair], old: &[Pair]) -> Result<Vec<Pair>, Starved>
+    ensures { IfOk result (λ left. left.items ≡ filter (λ pair. not (records.is_replaced given.now pair)) old.now) }
+{
+    let mut left = Vec::new(alloc);
+    'pairs: for pair in old {
+        if !is_replaced(given, pair) {
+            left.push(pair.copy(alloc)?)?;
+        }
+    }
+    Ok(left)
+}
+
+/// The extra attributes after an update: those of a name that it gives are dropped, and its own are appended.
+#[tactic(auto, unfolding(record_model::specs::Records::updated_attributes))]
+fn attributes_after(alloc: Global, given: Pairs, old: &Pairs) -> Result<Pairs, Starved>
+    ensures { IfOk result (λ pairs. pairs ≡ records.updated_attributes given old.now) }
+{
+    let mut pairs = left_of(alloc, given.as_slice(), old.as_slice())?;
+    let mut more = given.into_vec();
+    pairs.append(&mut more)?;
+    Ok(Pairs::of(pairs))
+}
+
+/// What an update from a peer makes of a record, as a draft under its name: its links are resolved against the base as it is
+/// then.
+#[tactic(auto, unfolding(record_model::specs::Records::updated, registration::specs::Drafts::recorded))]
+pub(crate) fn updated_draft(
+    alloc: Global,
+    old: &Record,
+    change: UpdateParams,
+    peer: Peer,
+) -> Result<Draft, Starved>
+    requires change { IsAllowedChange change }
+    requires lasting { (0 < old.now.lt) × (old.now.lt < 2 ^ 32) }
+    requires references { list_all has_references old.now.items ≡ true }
+    requires base { is_base old.now.base ≡ true }
+    ensures made { IfOk result (λ draft. (now : Moment) → recorded old.now.number now draft ≡ records.updated now peer change old.now) }
+    ensures named { IfOk result (λ draft. draft.name ≡ old.now.name) }
+    ensures sound { IfOk result IsSound }
+{
+    let UpdateParams { lt, base, attrs } = change;
+    let base_given = base.is_some() || old.base_given;
+    let base = base_after(alloc, base, old, peer)?;
+    let items = rebased(alloc, &old.items, &base)?;
+    let attrs = attributes_after(alloc, attrs, &old.attrs)?;
+    let name = old.name.copy(alloc)?;
+    Ok(Draft {
+        name,
+        lt: lt.unwrap_or(old.lt),
+        base,
+        base_given,
+        attrs,
+        items,
+    })
+}

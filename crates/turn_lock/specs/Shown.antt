@@ -1,0 +1,45 @@
+-- What contracts read of a pass and of a lock.
+use Rattle.std.specs.Prelude.{ℕ, Bool, List}
+use Rattle.atomic_table.specs.Seated.{TableId}
+use Rattle.turn_lock.specs.declared.rows.Replays.{Ghosts}
+use Rattle.turn_lock.specs.declared.seats.Pass.{Pass}
+use Rattle.turn_lock.specs.declared.seats.Passes.{Passes}
+use Rattle.turn_lock.specs.declared.lock.TurnLock.{TurnLock}
+use Rattle.turn_lock.specs.Passes.{IsFresh}
+
+-- which lock it is
+abbrev pub id_of : {T R L : Type 0} → TurnLock T R L → TableId
+id_of lock = lock.table.shared.table_id
+
+module _ {T R L : Type 0} {g : Ghosts T R L} where
+  -- the lock that the pass is of
+  abbrev pub lock_of : Pass T R L g → TableId
+  lock_of pass = pass.seat.table_id
+
+  -- the number of the pass
+  abbrev pub number_of : Pass T R L g → ℕ
+  number_of pass = pass.seat.me.0.number
+
+  -- the label of its lock
+  abbrev pub label_of : Pass T R L g → L
+  label_of pass = pass.seat.me.0.label
+
+  -- whether it holds the turn
+  abbrev pub is_holding : Pass T R L g → Bool
+  is_holding pass = pass.seat.me.0.holding
+
+  -- the history as far as it has seen it, the newest row first
+  abbrev pub seen_of : Pass T R L g → List R
+  seen_of pass = pass.seat.me.0.seen
+
+  -- the rows of it that the pass has made
+  abbrev pub mine_of : Pass T R L g → List R
+  mine_of pass = pass.seat.me.0.mine
+
+  -- the pass has seen nothing, and its lock has the label
+  abbrev pub IsNew : L → ℕ → Pass T R L g → Type 0
+  IsNew label number pass = IsFresh label number pass.seat.me
+
+  -- the passes, in the order of their numbers
+  abbrev pub list_of : Passes T R L g → List (Pass T R L g)
+  list_of passes = passes.passes.items
