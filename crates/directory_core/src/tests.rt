@@ -1,4 +1,4 @@
-//! Rows of changes and of what versions answer, many registrations, and changes beside a plain list of records.
+//! Rows of changes and of what versions answer, and a board that nobody reads.
 
 ghost use Rattle.std.specs.Prelude.{◌≡◌, ◌<◌, ◌≤◌, false, None, IfOk};
 ghost use Rattle.registration.specs.Drafts.{IsDraft};
@@ -162,11 +162,7 @@ fn removed(
 }
 
 /// The version after a sweep.
-fn swept<L: Ledger>(
-    blank: Blank,
-    version: &Directory,
-    now: Moment,
-) -> Result<Directory, Fail>
+fn swept<L: Ledger>(blank: Blank, version: &Directory, now: Moment) -> Result<Directory, Fail>
     requires name { blank.name ≡ L.name }
     requires parts { blank.parts ≡ L.parts }
     requires some { 0 < L.parts }
@@ -374,6 +370,14 @@ upd|1000000000000000|1|P|lt=1|made
 state|1000000000000999||||1 2 20000
 state|1000000000001000||||0 2 20001"#;
 
+/// An empty version, so many entries before its first.
+fn emptied(alloc: Global, first: u64) -> Result<Directory, Fail> {
+    if first >= 281_474_976_710_656 {
+        return Err("too many".into());
+    }
+    Ok(Directory::empty(alloc, first)?)
+}
+
 /// One line of a table: the version that it makes, where it makes one, and its answer.
 fn answered(
     alloc: Global,
@@ -395,13 +399,7 @@ fn answered(
             let version = swept::<Brand>(Blank::new(1), version, now)?;
             Ok((Some(version), format!(in alloc; "made")?))
         }
-        "empty" => {
-            if now.0 >= 281_474_976_710_656 {
-                return Err("too many".into());
-            }
-            let version = Directory::empty(alloc, now.0)?;
-            Ok((Some(version), format!(in alloc; "made")?))
-        }
+        "empty" => Ok((Some(emptied(alloc, now.0)?), format!(in alloc; "made")?)),
         "name" => Ok((None, shown_name(alloc, version, now, query)?)),
         "number" => Ok((None, shown_number(alloc, version, now, third.parse()?)?)),
         "lapsing" => {
@@ -440,114 +438,6 @@ fn rows(rt: HostRuntime) -> Result<(), Fail> {
     assert_eq!(rt; count, 84);
     Ok(())
 }
-
-/// The version after a registration that is not refused.
-fn with_registration(
-    alloc: Global,
-    version: &Directory,
-    now: Moment,
-    query: &str,
-    body: &str,
-) -> Result<(Option<Directory>, String), Fail> {
-    let draft = draft_of(alloc, query, peer_of("P"), body)?;
-    registered(alloc, version, now, draft)
-}
-
-/// 4,096 registrations fill a directory, and those that are live can be made again.
-#[test]
-fn full_count(rt: HostRuntime) -> Result<(), Fail> {
-    let alloc = rt.alloc();
-    let mut version = Directory::empty(alloc, 0)?;
-    for k in 1..=4096_u64 {
-        let query = format!(in alloc; "ep=n{k}")?;
-        let now = Moment(u64::saturating_mul(k, 100));
-        let (made, answer) = with_registration(alloc, &version, now, query.as_str(), "")?;
-        let want = format!(in alloc; "{k}")?;
-        assert_eq!(rt; answer.as_str(), want.as_str());
-        version = made.ok_or("refused")?;
-    }
-    let now = Moment(409_700);
-    let (made, answer) = with_registration(alloc, &version, now, "ep=n4097", "")?;
-    assert_eq!(rt; answer.as_str(), "FullCount(4096)");
-    assert!(rt; made.is_none());
-    let (made, answer) = with_registration(alloc, &version, now, "ep=n1", "</a>")?;
-    assert_eq!(rt; answer.as_str(), "1");
-    let version = made.ok_or("refused")?;
-    let state = shown_state(alloc, &version, now)?;
-    assert_eq!(rt; state.as_str(), "4096 4097 10010000");
-    Ok(())
-}
-
-/// Five registrations of 203,240 octets fill a directory with text.
-#[test]
-fn full_text(rt: HostRuntime) -> Result<(), Fail> {
-    let alloc = rt.alloc();
-    let mut body = String::new(alloc);
-    for k in 0..1000 {
-        body.push_str(if k == 0 { "<>" } else { ",<>" })?;
-    }
-    let mut base = String::new(alloc);
-    base.push_str("base=coap://")?;
-    for _ in 0..193 {
-        base.push('h')?;
-    }
-    let base = base.as_str();
-    let mut version = Directory::empty(alloc, 0)?;
-    for k in 1..=5_u64 {
-        let query = format!(in alloc; "ep=n{k}&{base}")?;
-        let (made, answer) =
-            with_registration(alloc, &version, Moment(k), query.as_str(), body.as_str())?;
-        let want = format!(in alloc; "{k}")?;
-        assert_eq!(rt; answer.as_str(), want.as_str());
-        version = made.ok_or("refused")?;
-    }
-    let query = format!(in alloc; "ep=n6&{base}")?;
-    let (made, answer) =
-        with_registration(alloc, &version, Moment(6), query.as_str(), body.as_str())?;
-    assert_eq!(rt; answer.as_str(), "FullText(1219440)");
-    assert!(rt; made.is_none());
-    let (made, answer) = updated(alloc, &version, Moment(6), 1, "et=x", peer_of("P"))?;
-    assert_eq!(rt; answer.as_str(), "made");
-    assert!(rt; made.is_some());
-    let (_, answer) = removed(alloc, &version, Moment(6), 6)?;
-    assert_eq!(rt; answer.as_str(), "Gone(6)");
-    Ok(())
-}
-
-/// Lets a thousand registrations lapse at one moment.
-#[test]
-fn many_lapse_at_once(rt: HostRuntime) -> Result<(), Fail> {
-    let alloc = rt.alloc();
-    let mut version = Directory::empty(alloc, 0)?;
-    for k in 1..=1000_u64 {
-        let query = format!(in alloc; "ep=n{k}&lt=60")?;
-        let (made, _) = with_registration(alloc, &version, Moment(k), query.as_str(), "<a>")?;
-        version = made.ok_or("refused")?;
-    }
-    for k in 1..=1000_u64 {
-        let lt = if k % 2 == 0 { "lt=1" } else { "lt=1&et=a" };
-        let (made, _) = updated(alloc, &version, Moment(1000), k, lt, peer_of("P"))?;
-        version = made.ok_or("refused")?;
-    }
-    let before = shown_state(alloc, &version, Moment(1999))?;
-    assert_eq!(rt; before.as_str(), "1000 2000 7d00000");
-    let after = shown_state(alloc, &version, Moment(2000))?;
-    assert_eq!(rt; after.as_str(), "0 2000 7d003e8");
-    let left = swept::<Brand>(Blank::new(1), &version, Moment(2000))?;
-    let state = shown_state(alloc, &left, Moment(2000))?;
-    assert_eq!(rt; state.as_str(), after.as_str());
-    assert_eq!(rt; left.swept().0, 2000);
-    let none = shown_lapsing(alloc, &left, Moment(2000), Moment(9000))?;
-    assert_eq!(rt; none.as_str(), "");
-    let lapsing = shown_lapsing(alloc, &version, Moment(1999), Moment(2000))?;
-    let mut want = String::new(alloc);
-    for k in 1..=1000_u64 {
-        want.push_str(format!(in alloc; "{k}:2000 ")?.as_str())?;
-    }
-    assert_eq!(rt; lapsing.as_str(), want.as_str());
-    Ok(())
-}
-
 /// Hands a version to a board.
 fn laid<B: Board>(alloc: Global, board: &mut B, version: Directory) -> Result<(), Starved>
     requires free { B.has_staged board.old ≡ false }
@@ -562,161 +452,5 @@ fn laid<B: Board>(alloc: Global, board: &mut B, version: Directory) -> Result<()
 fn nobody_is_told(rt: HostRuntime) -> Result<(), Fail> {
     let mut board = NoBoard;
     laid(rt.alloc(), &mut board, Directory::empty(rt.alloc(), 0)?)?;
-    Ok(())
-}
-
-/// A record of the plain list: its number, which of the names it has, when it was granted, its lifetime in seconds, and
-/// whether it was removed or made anew.
-#[derive(Clone, Copy)]
-struct Plain {
-    number: u64,
-    name: u64,
-    lapse: u64,
-    gone: bool,
-}
-
-/// The next of pseudo-random numbers.
-fn next_random(random: u64) -> u64 {
-    let a = random ^ (random << 13);
-    let b = a ^ (a >> 7);
-    b ^ (b << 17)
-}
-
-/// How many records of the list are live, or were live at one moment and have lapsed at another.
-fn count_of(list: &[Plain], from: u64, to: u64) -> u64 {
-    let mut count = 0;
-    for plain in list {
-        if !plain.gone && from < plain.lapse && plain.lapse <= to {
-            count = u64::saturating_add(count, 1);
-        }
-    }
-    count
-}
-
-/// The number of the live record of a name, in the list.
-fn named(list: &[Plain], name: u64, now: u64) -> u64 {
-    let mut number = 0;
-    for plain in list {
-        if !plain.gone && plain.name == name && now < plain.lapse {
-            number = plain.number;
-        }
-    }
-    number
-}
-
-/// Whether the list has a live record of a number.
-fn has_live(list: &[Plain], number: u64, now: u64) -> bool {
-    let mut found = false;
-    for plain in list {
-        if !plain.gone && plain.number == number && now < plain.lapse {
-            found = true;
-        }
-    }
-    found
-}
-
-/// The list without the record of a number.
-fn forget(list: &mut [Plain], number: u64) {
-    for plain in list {
-        if plain.number == number {
-            plain.gone = true;
-        }
-    }
-}
-
-/// The query of a name: one of twelve, half of them in a sector.
-fn query_of(alloc: Global, name: u64, lt: u64) -> Result<String, Starved> {
-    let ep = name / 2;
-    if name % 2 == 0 {
-        return Ok(format!(in alloc; "ep=n{ep}&lt={lt}")?);
-    }
-    Ok(format!(in alloc; "ep=n{ep}&d=s&lt={lt}")?)
-}
-
-/// 2,000 pseudo-random changes give what a plain list of records gives.
-#[test]
-fn as_a_plain_list(rt: HostRuntime) -> Result<(), Fail> {
-    let alloc = rt.alloc();
-    let mut version = Directory::empty(alloc, 0)?;
-    let mut list: Vec<Plain> = Vec::new(alloc);
-    let mut random = 88_172_645_463_325_252;
-    let mut now: u64 = 0;
-    let mut last: u64 = 0;
-    let mut entries: u64 = 0;
-    let mut numbers: u64 = 0;
-    for _ in 0..2000 {
-        random = next_random(random);
-        now = u64::saturating_add(now, (random >> 8) % 3 * 500);
-        let name = (random >> 16) % 12;
-        let number = u64::saturating_sub(u64::saturating_add(numbers, 3), (random >> 20) % 20);
-        let lt = u64::saturating_add((random >> 32) % 20, 1);
-        let lapse = u64::saturating_add(now, u64::saturating_mul(lt, 1000));
-        let known = has_live(list.as_slice(), number, now);
-        let gone = format!(in alloc; "Gone({number})")?;
-        match random % 8 {
-            0 | 1 | 2 => {
-                let query = query_of(alloc, name, lt)?;
-                let (made, answer) =
-                    with_registration(alloc, &version, Moment(now), query.as_str(), "<a>")?;
-                let old = named(list.as_slice(), name, now);
-                if old == 0 {
-                    numbers = u64::saturating_add(numbers, 1);
-                }
-                let number = if old == 0 { numbers } else { old };
-                let want = format!(in alloc; "{number}")?;
-                assert_eq!(rt; answer.as_str(), want.as_str());
-                version = made.ok_or("refused")?;
-                forget(list.as_mut_slice(), number);
-                list.push(Plain { number, name, lapse, gone: false })?;
-                entries = u64::saturating_add(entries, 1);
-                last = now;
-            }
-            3 => {
-                let query = format!(in alloc; "lt={lt}")?;
-                let (made, answer) =
-                    updated(alloc, &version, Moment(now), number, query.as_str(), peer_of("L"))?;
-                let want = if known { "made" } else { gone.as_str() };
-                assert_eq!(rt; answer.as_str(), want);
-                if let Some(made) = made {
-                    version = made;
-                    for plain in list.as_mut_slice() {
-                        if plain.number == number && !plain.gone {
-                            plain.lapse = lapse;
-                        }
-                    }
-                    entries = u64::saturating_add(entries, 1);
-                    last = now;
-                }
-            }
-            4 => {
-                let (made, answer) = removed(alloc, &version, Moment(now), number)?;
-                let want = if known { "made" } else { gone.as_str() };
-                assert_eq!(rt; answer.as_str(), want);
-                if let Some(made) = made {
-                    version = made;
-                    forget(list.as_mut_slice(), number);
-                    entries = u64::saturating_add(entries, 1);
-                    last = now;
-                }
-            }
-            5 => version = swept::<Brand>(Blank::new(1), &version, Moment(now))?,
-            _ => {
-                let shown = shown_number(alloc, &version, Moment(now), number)?;
-                assert_eq!(rt; shown.as_str() != "-", known);
-                let query = query_of(alloc, name, 1)?;
-                let shown = shown_name(alloc, &version, Moment(now), query.as_str())?;
-                let old = named(list.as_slice(), name, now);
-                let want = format!(in alloc; "{old}")?;
-                assert_eq!(rt; shown.as_str(), if old == 0 { "-" } else { want.as_str() });
-            }
-        }
-        let live = count_of(list.as_slice(), now, u64::MAX);
-        let lapsed = count_of(list.as_slice(), last, now);
-        let tag = u64::saturating_add(u64::saturating_mul(entries, 65_536), lapsed);
-        let want = format!(in alloc; "{live} {entries} {tag:x}")?;
-        let state = shown_state(alloc, &version, Moment(now))?;
-        assert_eq!(rt; state.as_str(), want.as_str());
-    }
-    assert!(rt; entries > 700);
     Ok(())
 }
