@@ -7,7 +7,6 @@ mod directory;
 mod index;
 mod kept;
 mod lapsing;
-mod lookup;
 mod names;
 mod reads;
 mod records;
@@ -24,6 +23,3 @@ pub use boards::{Board, NoBoard};
 pub use directory::Directory;
 pub use lapsing::LapsingIter;
 pub use refusals::Refusal;
-
-#[cfg(test)]
-mod tests;
