@@ -77,8 +77,7 @@ invariant_of-result c =
     let whole = addition_kept v i.names i.leases i.live i.text now c.args.counts draft kept a (omega (arith, few, entries)) c.in-Ok.text (room.0 ∙ text) (omega (arith, room.0, room.1)) c.in_ok-records.records records c.in_ok-names.names named c.in_ok-leases.leases begun in
     let indexed : AreEntriesOf v.records i.index = subst (λ (w : Version). AreEntriesOf w.records i.index) c.self.view_is c.self.invariant.1 in
     let placed : AreEntriesOf (v.records ++ new ∷ []) c.in_ok-index.index
-    = entries_appended v.records new i.index c.in_ok-index.index indexed (λ e. c.in_ok-index.ensures.entries e ∙ ap (λ x. has_entry i.index e || has_entry (record_entries x) e) (c.as_record-2.ensures ∙ made)) c.in_ok-index.ensures.ascends in
-    (
+    = entries_appended v.records new i.index c.in_ok-index.index indexed (λ e. c.in_ok-index.ensures.entries e ∙ ap (λ x. has_entry i.index e || has_entry (record_entries x) e) (c.as_record-2.ensures ∙ made)) c.in_ok-index.ensures.ascends in (
       subst (λ (w : Version). IsKept (after_entry w now.0 c.in_ok-records.records (w.last_number + 1)) c.in_ok-names.names c.in_ok-leases.leases (c.args.counts.live + 1) c.in-Ok.text) (sym c.self.view_is) whole,
       subst (λ rs. AreEntriesOf rs c.in_ok-index.index) (sym (records ∙ addition_put v i.names i.leases i.live i.text now draft kept)) placed,
     )

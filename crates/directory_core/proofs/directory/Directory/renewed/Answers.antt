@@ -93,8 +93,7 @@ invariant_of-result c =
     let taken : AreEntriesOf (without new.number v.records) c.in_ok-index.index
     = entries_without v.records new.number old i.index c.in_ok-index.index kept.rising found indexed (λ e. c.in_ok-index.ensures.entries e ∙ ap (λ x. has_entry i.index e && not (has_entry (record_entries x) e)) c.as_record-2.ensures) c.in_ok-index.ensures.ascends in
     let placed : AreEntriesOf (renewed new v.records) c.in_ok-index-2.index
-    = entries_renewed v.records new old c.in_ok-index.index c.in_ok-index-2.index kept.rising found taken (λ e. c.in_ok-index-2.ensures.entries e ∙ ap (λ x. has_entry c.in_ok-index.index e || has_entry (record_entries x) e) (c.as_record-3.ensures ∙ made)) c.in_ok-index-2.ensures.ascends in
-    (
+    = entries_renewed v.records new old c.in_ok-index.index c.in_ok-index-2.index kept.rising found taken (λ e. c.in_ok-index-2.ensures.entries e ∙ ap (λ x. has_entry c.in_ok-index.index e || has_entry (record_entries x) e) (c.as_record-3.ensures ∙ made)) c.in_ok-index-2.ensures.ascends in (
       subst (λ (w : Version). IsKept (after_entry w now.0 c.in_ok-records.records w.last_number) c.in_ok-names.names c.in_ok-leases-2.leases c.args.counts.live c.in-Ok.text) (sym c.self.view_is)
           (subst (λ n. IsKept (after_entry v now.0 c.in_ok-records.records v.last_number) n c.in_ok-leases-2.leases c.args.counts.live c.in-Ok.text) (sym c.in_ok-names.ensures) whole),
       subst (λ rs. AreEntriesOf rs c.in_ok-index-2.index) (sym (records ∙ with_record-renewed new old v.records kept.rising found)) placed,

@@ -57,8 +57,7 @@ invariant_of-result g c =
     let left : c.in_ok-records.records ≡ live_among now v.records
     = c.in_ok-records.ensures.records ∙ ap₂ without_all (c.as_slice.ensures.value ∙ c.in-Ok.ensures.numbers ∙ ap (lapsed_at now) kept.leased) same ∙ swept_records now v.records kept.rising in
     let unlapsed : c.in-Ok.field-0.queue ≡ unlapsed_at now i.leases = c.in-Ok.ensures.queue in
-    let whole = kept_swept v i.names i.leases i.live i.text now c.counts_at-counts.result kept c.requires.after_at c.requires.after_sweep c.counts_at-counts.ensures c.in_ok-records.records left c.in_ok-records.ensures.rising c.in_ok-records.names c.in_ok-records.ensures.named c.in-Ok.field-0.queue unlapsed in
-    (
+    let whole = kept_swept v i.names i.leases i.live i.text now c.counts_at-counts.result kept c.requires.after_at c.requires.after_sweep c.counts_at-counts.ensures c.in_ok-records.records left c.in_ok-records.ensures.rising c.in_ok-records.names c.in_ok-records.ensures.named c.in-Ok.field-0.queue unlapsed in (
       subst (λ (w : Version). IsKept (after_sweep w now c.in_ok-records.records (w.swept_live + (i.live - c.counts_at-counts.result.live))) c.in_ok-records.names c.in-Ok.field-0.queue c.counts_at-counts.result.live c.counts_at-counts.result.text) (sym c.self.view_is) whole,
       c.in_ok-records.ensures.entries,
     )

@@ -55,8 +55,7 @@ invariant_of-result c =
     c.in_ok-records.records records c.in_ok-names.names unnamed c.in_ok-leases.leases ended in
     let indexed : AreEntriesOf v.records i.index = subst (λ (w : Version). AreEntriesOf w.records i.index) c.self.view_is c.self.invariant.1 in
     let taken : AreEntriesOf (without old.number v.records) c.in_ok-index.index
-    = entries_without v.records old.number old i.index c.in_ok-index.index kept.rising r.stored indexed (λ e. c.in_ok-index.ensures.entries e ∙ ap (λ x. has_entry i.index e && not (has_entry (record_entries x) e)) c.as_record-3.ensures) c.in_ok-index.ensures.ascends in
-    (
+    = entries_without v.records old.number old i.index c.in_ok-index.index kept.rising r.stored indexed (λ e. c.in_ok-index.ensures.entries e ∙ ap (λ x. has_entry i.index e && not (has_entry (record_entries x) e)) c.as_record-3.ensures) c.in_ok-index.ensures.ascends in (
       subst (λ (w : Version). IsKept (after_entry w now.0 c.in_ok-records.records w.last_number) c.in_ok-names.names c.in_ok-leases.leases (c.args.counts.live - 1) (c.args.counts.text - c.octets.result)) (sym c.self.view_is) whole,
       subst (λ rs. AreEntriesOf rs c.in_ok-index.index) (sym records) taken,
     )
