@@ -1,6 +1,5 @@
 //! The table that is printed: rounds that are timed, their middle one, and a line for each call.
 
-use directory_core::Refusal;
 use rd_base::Starved;
 use registration::DraftFault;
 use std::alloc::{AllocError, AllocFailed, Global};
@@ -41,15 +40,6 @@ impl From<DraftFault> for Trouble {
     fn from(fault: DraftFault) -> Trouble {
         match fault {
             DraftFault::Starved => Trouble::Starved,
-            _ => Trouble::Outside,
-        }
-    }
-}
-
-impl From<Refusal> for Trouble {
-    fn from(refusal: Refusal) -> Trouble {
-        match refusal {
-            Refusal::Starved => Trouble::Starved,
             _ => Trouble::Outside,
         }
     }
