@@ -19,8 +19,3 @@ pub use looker::Looker;
 pub use lookers::Lookers;
 pub use opening::board;
 pub use publisher::Publisher;
-
-#[cfg(test)]
-mod source;
-#[cfg(test)]
-mod tests;
