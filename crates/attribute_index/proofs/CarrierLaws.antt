@@ -85,9 +85,9 @@ carried_pairs criterion (pair ∷ pairs) number =
 
 -- the number of a record comes exactly where the criterion matches one of its attributes, if the index has their entries under the
 -- number and no others
-pub tells_record : (index : List Entry) (criterion : Criterion) (pairs : List Pair) (number : ℕ) → ((e : Entry) → e.number ≡ number → has_entry index e ≡ has_entry (entries_of_all pairs number) e)
+pub has_number-carriers : (index : List Entry) (criterion : Criterion) (pairs : List Pair) (number : ℕ) → ((e : Entry) → e.number ≡ number → has_entry index e ≡ has_entry (entries_of_all pairs number) e)
     → has_number (carriers_of criterion.name criterion.pattern index) number ≡ matches_pairs criterion pairs
-tells_record index criterion pairs number alike =
+has_number-carriers index criterion pairs number alike =
     carried criterion.name criterion.pattern index number
     ∙ any_alike (λ e. is_carrier criterion.name criterion.pattern e && nat_eq number e.number) index (entries_of_all pairs number) (λ e h. alike e (own e h))
     ∙ carried_pairs criterion pairs number

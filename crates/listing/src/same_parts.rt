@@ -102,8 +102,8 @@ fn after_alike<'a>(together: bool, old: &'a [Item], new: &'a [Item]) -> (&'a [It
     (left, other)
 }
 
-/// Whether the answers tell that each criterion matches both endpoints by themselves, or neither.
-fn tell_alike(criteria: &[Criterion], old_judged: &[bool], new_judged: &[bool]) -> bool
+/// Whether, by these answers, each criterion matches both endpoints by themselves, or neither.
+fn are_judged_alike(criteria: &[Criterion], old_judged: &[bool], new_judged: &[bool]) -> bool
     ensures { IsTrue result → (r s : Record) → AreJudged r old_judged.now criteria.now → AreJudged s new_judged.now criteria.now → AreJudgedAlike criteria.now r s }
 {
     criteria.len() <= old_judged.len() && old_judged == new_judged
@@ -160,7 +160,7 @@ fn same_links(query: &Query, old: &Record, new: &Record) -> bool
 {
     let old_judged = judge(query, Some(old));
     let new_judged = judge(query, Some(new));
-    let together = tell_alike(query.criteria.as_slice(), &old_judged, &new_judged);
+    let together = are_judged_alike(query.criteria.as_slice(), &old_judged, &new_judged);
     let mut old_rest = old.items.as_slice();
     let mut new_rest = new.items.as_slice();
     'items: loop {

@@ -3,3 +3,4 @@ pub mod Peers
 pub mod Bases
 pub mod Prefixes
 pub mod Plans
+pub mod Firsts

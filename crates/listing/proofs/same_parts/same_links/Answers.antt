@@ -14,9 +14,9 @@ use Rattle.listing.proofs.same_parts.same_links.Goals as goal
 
 pub returns-in-None : goal.returns-in-None
 returns-in-None c =
-    let told : c.tell_alike-together.result ≡ true → AreJudgedAlike c.args.query.now.criteria c.args.old.now c.args.new.now =
+    let told : c.are_judged_alike-together.result ≡ true → AreJudgedAlike c.args.query.now.criteria c.args.old.now c.args.new.now =
     λ same. subst (λ (cs : List Criterion). AreJudgedAlike cs c.args.old.now c.args.new.now) c.as_slice.ensures
-    (c.tell_alike-together.ensures same c.args.old.now c.args.new.now (subst (AreJudged c.args.old.now c.judge-old_judged.result) (sym c.as_slice.ensures) c.judge-old_judged.ensures)
+    (c.are_judged_alike-together.ensures same c.args.old.now c.args.new.now (subst (AreJudged c.args.old.now c.judge-old_judged.result) (sym c.as_slice.ensures) c.judge-old_judged.ensures)
     (subst (AreJudged c.args.new.now c.judge-new_judged.result) (sym c.as_slice.ensures) c.judge-new_judged.ensures)) in
     let whole = c.after_alike.ensures.same c.args.query.now c.args.old.now c.args.new.now told ∙ c.items.invariant in
     lines_end c.args.query.now c.args.new.now c.after_alike.result.1.now c.first_listed-new_first.result (listed_lines c.args.query.now (Some c.args.old.now) c.after_alike.result.0.now) c.is_none.result
@@ -24,9 +24,9 @@ returns-in-None c =
 
 pub returns-in-None-new_first : goal.returns-in-None-new_first
 returns-in-None-new_first c =
-    let told : c.tell_alike-together.result ≡ true → AreJudgedAlike c.args.query.now.criteria c.args.old.now c.args.new.now =
+    let told : c.are_judged_alike-together.result ≡ true → AreJudgedAlike c.args.query.now.criteria c.args.old.now c.args.new.now =
     λ same. subst (λ (cs : List Criterion). AreJudgedAlike cs c.args.old.now c.args.new.now) c.as_slice.ensures
-    (c.tell_alike-together.ensures same c.args.old.now c.args.new.now (subst (AreJudged c.args.old.now c.judge-old_judged.result) (sym c.as_slice.ensures) c.judge-old_judged.ensures)
+    (c.are_judged_alike-together.ensures same c.args.old.now c.args.new.now (subst (AreJudged c.args.old.now c.judge-old_judged.result) (sym c.as_slice.ensures) c.judge-old_judged.ensures)
     (subst (AreJudged c.args.new.now c.judge-new_judged.result) (sym c.as_slice.ensures) c.judge-new_judged.ensures)) in
     let whole = c.after_alike.ensures.same c.args.query.now c.args.old.now c.args.new.now told ∙ c.items.invariant in
     line_missing (listed_lines c.args.query.now (Some c.args.old.now) c.after_alike.result.0.now) (listed_lines c.args.query.now (Some c.args.new.now) c.after_alike.result.1.now) (listed_lines c.args.query.now (Some c.args.old.now) c.in-Some.old_more.now)
@@ -34,9 +34,9 @@ returns-in-None-new_first c =
 
 pub returns-then-not-same_link : goal.returns-then-not-same_link
 returns-then-not-same_link c =
-    let told : c.tell_alike-together.result ≡ true → AreJudgedAlike c.args.query.now.criteria c.args.old.now c.args.new.now =
+    let told : c.are_judged_alike-together.result ≡ true → AreJudgedAlike c.args.query.now.criteria c.args.old.now c.args.new.now =
     λ same. subst (λ (cs : List Criterion). AreJudgedAlike cs c.args.old.now c.args.new.now) c.as_slice.ensures
-    (c.tell_alike-together.ensures same c.args.old.now c.args.new.now (subst (AreJudged c.args.old.now c.judge-old_judged.result) (sym c.as_slice.ensures) c.judge-old_judged.ensures)
+    (c.are_judged_alike-together.ensures same c.args.old.now c.args.new.now (subst (AreJudged c.args.old.now c.judge-old_judged.result) (sym c.as_slice.ensures) c.judge-old_judged.ensures)
     (subst (AreJudged c.args.new.now c.judge-new_judged.result) (sym c.as_slice.ensures) c.judge-new_judged.ensures)) in
     let whole = c.after_alike.ensures.same c.args.query.now c.args.old.now c.args.new.now told ∙ c.items.invariant in
     line_differs (listed_lines c.args.query.now (Some c.args.old.now) c.after_alike.result.0.now) (listed_lines c.args.query.now (Some c.args.new.now) c.after_alike.result.1.now) (listed_lines c.args.query.now (Some c.args.old.now) c.in-Some.old_more.now)
@@ -45,9 +45,9 @@ returns-then-not-same_link c =
 
 pub items-preserved : goal.items-preserved
 items-preserved c =
-    let told : c.tell_alike-together.result ≡ true → AreJudgedAlike c.args.query.now.criteria c.args.old.now c.args.new.now =
+    let told : c.are_judged_alike-together.result ≡ true → AreJudgedAlike c.args.query.now.criteria c.args.old.now c.args.new.now =
     λ same. subst (λ (cs : List Criterion). AreJudgedAlike cs c.args.old.now c.args.new.now) c.as_slice.ensures
-    (c.tell_alike-together.ensures same c.args.old.now c.args.new.now (subst (AreJudged c.args.old.now c.judge-old_judged.result) (sym c.as_slice.ensures) c.judge-old_judged.ensures)
+    (c.are_judged_alike-together.ensures same c.args.old.now c.args.new.now (subst (AreJudged c.args.old.now c.judge-old_judged.result) (sym c.as_slice.ensures) c.judge-old_judged.ensures)
     (subst (AreJudged c.args.new.now c.judge-new_judged.result) (sym c.as_slice.ensures) c.judge-new_judged.ensures)) in
     let whole = c.after_alike.ensures.same c.args.query.now c.args.old.now c.args.new.now told ∙ c.items.invariant in
     line_same (listed_lines c.args.query.now (Some c.args.old.now) c.after_alike.result.0.now) (listed_lines c.args.query.now (Some c.args.new.now) c.after_alike.result.1.now) (listed_lines c.args.query.now (Some c.args.old.now) c.in-Some.old_more.now)

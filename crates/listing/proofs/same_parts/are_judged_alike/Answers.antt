@@ -2,7 +2,7 @@ use Rattle.std.proofs.Common.{◌≡◌, ◌≤◌, List, Bool, length, subst, s
 use Rattle.rd_base.specs.declared.records.Record.{Record}
 use Rattle.listing.specs.JudgedEndpoints.{AreJudged}
 use Rattle.listing.proofs.AlikeLaws.{answers_same, judged_alike}
-use Rattle.listing.proofs.same_parts.tell_alike.Goals as goal
+use Rattle.listing.proofs.same_parts.are_judged_alike.Goals as goal
 
 pub returns-then-criteria-old_judged : goal.returns-then-criteria-old_judged
 returns-then-criteria-old_judged c same r s first second =
