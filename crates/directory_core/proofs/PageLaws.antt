@@ -1,6 +1,7 @@
 -- Lines that registrations give to a page, one after another.
 use Rattle.std.proofs.Common.{◌≡◌, ℕ, zero, suc, ◌+◌, ◌-◌, ◌<◌, ◌≤◌, ◌^◌, min, Bool, true, false, not, cond, ◌&&◌, List, [], ◌∷◌, ◌++◌, map, filter, length, take, drop, Option, Some, None, refl, sym, ap, ap₂, ◌∙◌, subst, arith}
 use Rattle.std.specs.List.{list_all, flat_map, join_with_byte}
+use Rattle.std.specs.Map.{values_of}
 use Rattle.std.proofs.lemmas.List.{map-append}
 use Rattle.rd_base.specs.declared.queries.Kind.{Kind}
 use Rattle.rd_base.specs.declared.queries.Kind.TheVariants as kind
@@ -15,8 +16,9 @@ use Rattle.history_model.specs.Replay.{numbered}
 use Rattle.history_model.proofs.ListingLaws.{unnumbered}
 use Rattle.listing.specs.AppendedLines.{appended, shown_lines}
 use Rattle.listing.proofs.PartLaws.{appended-append, appended-joined, appended-nil, shown_none}
+use Rattle.directory_core.specs.declared.pages.Page.{Page}
 use Rattle.directory_core.specs.Lapsing.{with_lapsing, lapsing_left}
-use Rattle.directory_core.specs.Pages.{live_part, live_part_or_none, live_lines, numbered_lines}
+use Rattle.directory_core.specs.Pages.{finished, live_part, live_part_or_none, live_lines, numbered_lines}
 use Rattle.directory_core.proofs.LapsingLaws.{lapsing_none, lapsing_first}
 
 -- ---- lines after lines
@@ -109,32 +111,57 @@ live_gives query moment r live = rw live refl
 pub lapsed_gives : (query : Query) (moment : ℕ) (r : Record) → is_live_at moment r ≡ false → live_part query moment r ≡ []
 lapsed_gives query moment r lapsed = rw lapsed refl
 
-pub lines_first : (query : Query) (moment : ℕ) (r : Record) (rs : List Record) → live_lines query moment (r ∷ rs) ≡ live_part query moment r ++ live_lines query moment rs
+lines_first : (query : Query) (moment : ℕ) (r : Record) (rs : List Record) → live_lines query moment (r ∷ rs) ≡ live_part query moment r ++ live_lines query moment rs
 unfolding live_lines
 lines_first query moment r rs = refl
 
-pub lines_end : (query : Query) (moment : ℕ) → live_lines query moment [] ≡ []
+lines_end : (query : Query) (moment : ℕ) → live_lines query moment [] ≡ []
 unfolding live_lines
 lines_end query moment = refl
 
-pub numbered_first : (query : Query) (moment : ℕ) (records : List Record) (n : ℕ) (numbers : List ℕ)
+-- one record of a map is added, and none is left
+pub first_added : (query : Query) (moment : ℕ) (page after begun : Page) (all : List (List ℕ)) (n : ℕ) (r : Record) (pairs more : List (ℕ × Record)) → pairs ≡ (n, r) ∷ more
+    → ((lines : List (List ℕ)) → finished after lines ≡ finished page (live_part query moment r ++ lines)) → finished page (live_lines query moment (values_of pairs)) ≡ finished begun all
+    → finished after (live_lines query moment (values_of more)) ≡ finished begun all
+first_added query moment page after begun all n r pairs more split adds so_far =
+    adds (live_lines query moment (values_of more)) ∙ ap (finished page) (sym (ap (λ es. live_lines query moment (values_of es)) split ∙ lines_first query moment r (values_of more))) ∙ so_far
+
+pub none_left : (query : Query) (moment : ℕ) (page begun : Page) (all : List (List ℕ)) (pairs : List (ℕ × Record)) → pairs ≡ [] → finished page (live_lines query moment (values_of pairs)) ≡ finished begun all → finished page [] ≡ finished begun all
+none_left query moment page begun all pairs none so_far = ap (finished page) (sym (ap (λ es. live_lines query moment (values_of es)) none ∙ lines_end query moment)) ∙ so_far
+
+numbered_first : (query : Query) (moment : ℕ) (records : List Record) (n : ℕ) (numbers : List ℕ)
     → numbered_lines query moment records (n ∷ numbers) ≡ live_part_or_none query moment (numbered n records) ++ numbered_lines query moment records numbers
 unfolding numbered_lines
 numbered_first query moment records n numbers = refl
 
-pub numbered_end : (query : Query) (moment : ℕ) (records : List Record) → numbered_lines query moment records [] ≡ []
+numbered_end : (query : Query) (moment : ℕ) (records : List Record) → numbered_lines query moment records [] ≡ []
 unfolding numbered_lines
 numbered_end query moment records = refl
 
 -- where the record of a number is there, and where it is not
-pub numbered_here : (query : Query) (moment : ℕ) (records : List Record) (n : ℕ) (numbers : List ℕ) (r : Record) → numbered n records ≡ Some r
+numbered_here : (query : Query) (moment : ℕ) (records : List Record) (n : ℕ) (numbers : List ℕ) (r : Record) → numbered n records ≡ Some r
     → numbered_lines query moment records (n ∷ numbers) ≡ live_part query moment r ++ numbered_lines query moment records numbers
 numbered_here query moment records n numbers r found =
     numbered_first query moment records n numbers ∙ ap (λ o. live_part_or_none query moment o ++ numbered_lines query moment records numbers) found
 
-pub numbered_nowhere : (query : Query) (moment : ℕ) (records : List Record) (n : ℕ) (numbers : List ℕ) → numbered n records ≡ None → numbered_lines query moment records (n ∷ numbers) ≡ numbered_lines query moment records numbers
+numbered_nowhere : (query : Query) (moment : ℕ) (records : List Record) (n : ℕ) (numbers : List ℕ) → numbered n records ≡ None → numbered_lines query moment records (n ∷ numbers) ≡ numbered_lines query moment records numbers
 numbered_nowhere query moment records n numbers none =
     numbered_first query moment records n numbers ∙ ap (λ o. live_part_or_none query moment o ++ numbered_lines query moment records numbers) none
+
+-- the record of one number is added, or there is none, and no number is left
+pub number_added : (query : Query) (moment : ℕ) (records : List Record) (page after begun : Page) (all : List (List ℕ)) (n : ℕ) (numbers more : List ℕ) (r : Record) → numbers ≡ n ∷ more → numbered n records ≡ Some r
+    → ((lines : List (List ℕ)) → finished after lines ≡ finished page (live_part query moment r ++ lines)) → finished page (numbered_lines query moment records numbers) ≡ finished begun all
+    → finished after (numbered_lines query moment records more) ≡ finished begun all
+number_added query moment records page after begun all n numbers more r split found adds so_far =
+    adds (numbered_lines query moment records more) ∙ ap (finished page) (sym (ap (numbered_lines query moment records) split ∙ numbered_here query moment records n more r found)) ∙ so_far
+
+pub number_passed : (query : Query) (moment : ℕ) (records : List Record) (page begun : Page) (all : List (List ℕ)) (n : ℕ) (numbers more : List ℕ) → numbers ≡ n ∷ more → numbered n records ≡ None
+    → finished page (numbered_lines query moment records numbers) ≡ finished begun all → finished page (numbered_lines query moment records more) ≡ finished begun all
+number_passed query moment records page begun all n numbers more split none so_far =
+    ap (finished page) (sym (ap (numbered_lines query moment records) split ∙ numbered_nowhere query moment records n more none)) ∙ so_far
+
+pub no_number_left : (query : Query) (moment : ℕ) (records : List Record) (page begun : Page) (all : List (List ℕ)) (numbers : List ℕ) → numbers ≡ [] → finished page (numbered_lines query moment records numbers) ≡ finished begun all → finished page [] ≡ finished begun all
+no_number_left query moment records page begun all numbers none so_far = ap (finished page) (sym (ap (numbered_lines query moment records) none ∙ numbered_end query moment records)) ∙ so_far
 
 part_unnumbered : (number : ℕ) (lines : List (List ℕ)) → unnumbered (map (λ line. (number, line)) lines) ≡ lines
 part_unnumbered number [] = refl

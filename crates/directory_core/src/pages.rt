@@ -35,13 +35,7 @@ impl Page {
     }
 
     /// Adds the lines that the record gives to the query where it is live at this moment. `Starved`: out of memory.
-    fn add(
-        &mut self,
-        alloc: Global,
-        query: &Query,
-        kept: &Kept,
-        now: Moment,
-    ) -> Result<(), Starved>
+    fn add(&mut self, alloc: Global, query: &Query, kept: &Kept, now: Moment) -> Result<(), Starved>
         ensures { OnOk result ((more : List (List ℕ)) → finished self.new more ≡ finished self.old (live_part query.now now.0 kept.now ++ more)) }
     {
         if !kept.is_live_at(now) {

@@ -97,10 +97,7 @@ fn race<L: Ledger>(racers: &mut [Racer<'_>], steps: &mut Steps<L>) -> Result<usi
 }
 
 /// The numbers of the cursor that ends first where all go on by turns. `Starved`: out of memory.
-fn fewest<L: Ledger>(
-    mut racers: Vec<Racer<'_>>,
-    steps: &mut Steps<L>,
-) -> Result<Vec<u64>, Starved>
+fn fewest<L: Ledger>(mut racers: Vec<Racer<'_>>, steps: &mut Steps<L>) -> Result<Vec<u64>, Starved>
     requires { 0 < vec_len racers }
     ensures found { IfOk result (λ numbers. Contains (map whole racers.entry.items) numbers.items) }
     ensures counted { AllByRecursion (λ numbers. steps.new ≤ steps.old + vec_len racers.entry * (length numbers + 1)) (map whole racers.entry.items) }
