@@ -127,6 +127,14 @@ fn is_record(alloc: Global, shown: &Record, answer: &str) -> Result<bool, Starve
     Ok(left == Some(""))
 }
 
+/// The moment at which a registration lapses, in milliseconds.
+fn lapse_of(record: &Record) -> u64 {
+    u64::saturating_add(
+        record.granted.0,
+        u64::saturating_mul(1000, u64::from(record.lt)),
+    )
+}
+
 /// A directory that is tried, the version before its last change, and a text that stands for `@` in rows.
 #[derive(Drop)]
 pub(crate) struct Trial {
@@ -265,7 +273,7 @@ impl Trial {
         let mut lapsing = self.version.lapsing(from, to);
         while let Some(one) = lapsing.step() {
             let number = one.number;
-            let lapse = one.lapse().0;
+            let lapse = lapse_of(one);
             let text = format!(in self.alloc; "{number}:{lapse};")?;
             left = behind(left, text.as_str());
         }
