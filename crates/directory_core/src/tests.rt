@@ -334,7 +334,7 @@ fn as_a_plain_list(rt: HostRuntime) -> Result<(), Fail> {
         random = next_random(random);
         goes_on(&rt, &mut trial, &mut list, random)?;
     }
-    assert!(rt; list.entries() > 700);
+    assert!(rt; list.entries() > 500);
     Ok(())
 }
 
