@@ -107,9 +107,9 @@ pub numbered_refused : (first : ℕ) (history : List Entry) (entry : Entry) (swe
 numbered_refused first history entry swept number (Ok version) result a is = subst (λ (r : Result (Version × ℕ) Refusal). IfErr r (λ refusal. IsRefusalOf first history entry refusal)) (sym is) tt
 numbered_refused first history entry swept number (Err refusal) result a is = subst (λ (r : Result (Version × ℕ) Refusal). IfErr r (λ refusal. IsRefusalOf first history entry refusal)) (sym is) a.refused
 
-pub numbered_kept : (swept number : ℕ) (answer : Result Version Refusal) (result : Result (Version × ℕ) Refusal) → IfOk answer (λ version. version.swept ≡ swept) → result ≡ with_number answer number → IfOk result (λ made. made.0.swept ≡ swept)
-numbered_kept swept number (Ok version) result a is = subst (λ (r : Result (Version × ℕ) Refusal). IfOk r (λ made. made.0.swept ≡ swept)) (sym is) a
-numbered_kept swept number (Err refusal) result a is = subst (λ (r : Result (Version × ℕ) Refusal). IfOk r (λ made. made.0.swept ≡ swept)) (sym is) tt
+pub numbered_version : (P : Version → Type 0) (number : ℕ) (answer : Result Version Refusal) (result : Result (Version × ℕ) Refusal) → IfOk answer P → result ≡ with_number answer number → IfOk result (λ made. P made.0)
+numbered_version P number (Ok version) result p is = subst (λ (r : Result (Version × ℕ) Refusal). IfOk r (λ made. P made.0)) (sym is) p
+numbered_version P number (Err refusal) result p is = subst (λ (r : Result (Version × ℕ) Refusal). IfOk r (λ made. P made.0)) (sym is) tt
 
 pub numbered_number : (P : ℕ → Type 0) (number : ℕ) (answer : Result Version Refusal) (result : Result (Version × ℕ) Refusal) → P number → result ≡ with_number answer number → IfOk result (λ made. P made.1)
 numbered_number P number (Ok version) result p is = subst (λ (r : Result (Version × ℕ) Refusal). IfOk r (λ made. P made.1)) (sym is) p

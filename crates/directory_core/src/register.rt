@@ -42,6 +42,7 @@ impl Directory {
         requires draft { IsDraft draft }
         ensures answers { (first : ℕ) (history : List Entry) (entry : Entry) → VersionStandsFor first history self.now → IsRegistrationOf now draft entry → answers.AnswersEntry first history entry self.now.swept result }
         ensures kept { IfOk result (λ version. version.swept ≡ self.now.swept) }
+        ensures at { IfOk result (λ version. version.at ≡ now.0) }
     {
         let _ = &self.alloc;
         if counts.live >= MAX_REGISTRATIONS {
@@ -69,6 +70,7 @@ impl Directory {
         requires draft { IsDraft draft }
         ensures answers { (first : ℕ) (history : List Entry) (entry : Entry) → VersionStandsFor first history self.now → IsRegistrationOf now draft entry → answers.AnswersEntry first history entry self.now.swept result }
         ensures kept { IfOk result (λ version. version.swept ≡ self.now.swept) }
+        ensures at { IfOk result (λ version. version.at ≡ now.0) }
     {
         let _ = &self.alloc;
         self.renewed(now, counts, old, draft)
@@ -93,6 +95,7 @@ impl Directory {
         ensures accepted { (first : ℕ) (history : List Entry) (entry : Entry) → VersionStandsFor first history self.now → IsRegistrationOf now draft entry → OnOk result (change_refusal first history entry ≡ None) }
         ensures refused { (first : ℕ) (history : List Entry) (entry : Entry) → VersionStandsFor first history self.now → IsRegistrationOf now draft entry → IfErr result (IsRefusalOf first history entry) }
         ensures swept { IfOk result (λ made. made.0.swept ≡ self.now.swept) }
+        ensures at { IfOk result (λ made. made.0.at ≡ now.0) }
     {
         let counts = self.counts_at(now);
         let Some(old) = self.live_named(&draft.name, now) else {

@@ -37,6 +37,7 @@ impl Directory {
         ensures accepted { (first : ℕ) (history : List Entry) (entry : Entry) → VersionStandsFor first history self.now → IsUpdateOf now number change peer entry → OnOk result (change_refusal first history entry ≡ None) }
         ensures refused { (first : ℕ) (history : List Entry) (entry : Entry) → VersionStandsFor first history self.now → IsUpdateOf now number change peer entry → IfErr result (IsRefusalOf first history entry) }
         ensures swept { IfOk result (λ version. version.swept ≡ self.now.swept) }
+        ensures at { IfOk result (λ version. version.at ≡ now.0) }
     {
         let _ = &self.alloc;
         let Some(old) = self.live_numbered(number, now) else {
