@@ -3,3 +3,7 @@ mod ReplySizes
 mod AskedLaws
 mod SendingLaws
 mod RefusalLaws
+mod MarkLaws
+pub mod WatchingParts
+pub mod WatchingLaws
+mod WatchedLaws

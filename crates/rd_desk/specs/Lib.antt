@@ -4,5 +4,7 @@ pub mod Sendings
 pub mod Asking
 pub mod Writing
 pub mod Watching
+pub mod Marks
+pub mod Entering
 pub mod Desks
 pub mod UnderWay

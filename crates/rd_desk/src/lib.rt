@@ -3,12 +3,14 @@
 
 mod bodies;
 mod empty_messages;
+mod marks;
 mod mids;
 mod outbox;
 mod refusals;
 mod refused_requests;
 mod replies;
 mod requests;
+mod watching;
 
 pub use mids::Mids;
 pub use outbox::Outbox;
