@@ -7,3 +7,5 @@ mod MarkLaws
 pub mod WatchingParts
 pub mod WatchingLaws
 mod WatchedLaws
+mod FoundObservers
+mod WatcherParts

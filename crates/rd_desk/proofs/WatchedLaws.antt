@@ -1,12 +1,21 @@
 -- That each query is watched as often as it is observed: what leaves it so.
-use Rattle.std.proofs.Common.{◌≡◌, ℕ, false, List, [], ◌∷◌, map, None, refl, sym, ap, ap₂, subst, ◌∙◌}
-use Rattle.std.specs.List.{AllByRecursion}
+use Rattle.std.proofs.Common.{◌≡◌, ◌⊎◌, inl, inr, ℕ, ◌==◌, Bool, true, false, ◌||◌, cond, List, [], ◌∷◌, ◌++◌, map, Some, None, refl, sym, ap, ap₂, subst, ◌∙◌, eqb-true}
+use Rattle.std.specs.List.{AllByRecursion, list_any}
+use Rattle.std.proofs.lemmas.List.{map-append}
 use Rattle.rd_base.specs.declared.queries.Query.{Query}
 use Rattle.rd_base.specs.declared.queries.Kind.TheVariants as kind
+use Rattle.rd_base.proofs.lemmas.Among.{Among, all_among, among_all}
+use Rattle.rd_base.proofs.lemmas.Each.{each_weaker, each_both, each_push}
+use Rattle.rd_base.proofs.lemmas.Numbers.{eqb-refl}
 use Rattle.event_model.specs.declared.notes.Observer.{Observer}
-use Rattle.watch_table.specs.WatchedQueries.{Watched, Table}
-use Rattle.watch_table.specs.Watchers.{WatchesStandFor}
+use Rattle.event_model.specs.Same.{is_same_query}
+use Rattle.event_model.specs.Observers.{is_watched}
+use Rattle.event_model.proofs.SameLaws.{is_same_query-Decides}
+use Rattle.watch_table.specs.WatchedQueries.{Watched, Table, query_at, one_more, one_fewer, IsPlaceFor}
+use Rattle.watch_table.specs.Watchers.{AreApart, WatchesStandFor}
+use Rattle.watch_table.proofs.PlacedLaws.{query_at-same, query_at-own, query_at-more, query_at-fewer}
 use Rattle.watch_table.proofs.TouchedLaws.{Keeps, kept-StandsFor}
+use Rattle.watch_table.proofs.WatcherLaws.{fewer-StandsFor, more-StandsFor}
 use Rattle.observers.specs.Watchers.{Watcher}
 use Rattle.observers.specs.ObserverEvents.{observer_of}
 use Rattle.rd_desk.specs.Marks.{handed}
@@ -34,15 +43,15 @@ changed-AreWatched change keeps t ws h = record {
 abbrev pub without_notice : Watcher → Watcher
 without_notice w = record w { due = false; last = []; flight = None }
 
-same_observers : (queries : ℕ → Query) (ws : List Watcher) → map (observer_of queries) ws ≡ map (observer_of queries) (map without_notice ws)
+pub same_observers : (queries : ℕ → Query) (ws : List Watcher) → map (observer_of queries) ws ≡ map (observer_of queries) (map without_notice ws)
 same_observers queries [] = refl
 same_observers queries (w ∷ ws) = ap (λ (os : List Observer). observer_of queries w ∷ os) (same_observers queries ws)
 
-same_placed : (t : Table) (queries : ℕ → Query) (ws : List Watcher) → AllByRecursion (IsPlaced t queries) ws → AllByRecursion (IsPlaced t queries) (map without_notice ws)
+pub same_placed : (t : Table) (queries : ℕ → Query) (ws : List Watcher) → AllByRecursion (IsPlaced t queries) ws → AllByRecursion (IsPlaced t queries) (map without_notice ws)
 same_placed t queries [] h = tt
 same_placed t queries (w ∷ ws) h = (h.0, same_placed t queries ws h.1)
 
-placed_same : (t : Table) (queries : ℕ → Query) (ws : List Watcher) → AllByRecursion (IsPlaced t queries) (map without_notice ws) → AllByRecursion (IsPlaced t queries) ws
+pub placed_same : (t : Table) (queries : ℕ → Query) (ws : List Watcher) → AllByRecursion (IsPlaced t queries) (map without_notice ws) → AllByRecursion (IsPlaced t queries) ws
 placed_same t queries [] h = tt
 placed_same t queries (w ∷ ws) h = (h.0, placed_same t queries ws h.1)
 
@@ -62,3 +71,87 @@ handed-same t (w ∷ ws) = ap (λ (xs : List Watcher). without_notice w ∷ xs) 
 -- after marks were handed on
 pub handed-AreWatched : (marks t : Table) (ws : List Watcher) → AreWatched t ws → AreWatched t (map (handed marks) ws)
 handed-AreWatched marks t ws h = same-AreWatched t ws (map (handed marks) ws) (handed-same marks ws) h
+
+-- ---- one observer fewer
+
+-- what holds of each holds of those that are left
+pub each_left : {X : Type 0} (P : X → Type 0) (front back : List X) (x : X) → AllByRecursion P (front ++ x ∷ back) → AllByRecursion P (front ++ back) × P x
+each_left P [] back x h = (h.1, h.0)
+each_left P (y ∷ front) back x h = let rest = each_left P front back x h.1 in ((h.0, rest.0), rest.1)
+
+-- the query of each observer is observed
+observed : (queries : ℕ → Query) (w : Watcher) (ws : List Watcher) → Among w ws → is_watched (queries w.place) (map (observer_of queries) ws) ≡ true
+observed queries w [] nothing = absurd nothing
+observed queries w (x ∷ ws) (inl same) =
+    let here : is_same_query (queries x.place) (queries w.place) ≡ true = (is_same_query-Decides (queries x.place) (queries w.place)).1 (ap (λ (y : Watcher). queries y.place) same) in
+    rw here refl
+observed queries w (x ∷ ws) (inr further) = by (is_same_query (queries x.place) (queries w.place)) (observed queries w ws further)
+  where
+    by : (b : Bool) → is_watched (queries w.place) (map (observer_of queries) ws) ≡ true → (b || is_watched (queries w.place) (map (observer_of queries) ws)) ≡ true
+    by true h = refl
+    by false h = h
+
+pub fewer-AreWatchedBy : (queries : ℕ → Query) (t : Table) (front back : List Watcher) (x : Watcher) → AreWatchedBy queries t (front ++ x ∷ back) → AreWatchedBy queries (one_fewer x.place t) (front ++ back)
+fewer-AreWatchedBy queries t front back x h = record {
+  placed = among_all (IsPlaced (one_fewer x.place t) queries) (front ++ back) (λ y among.
+      query_at-fewer (map (observer_of queries) front) (map (observer_of queries) back) (observer_of queries x) (queries y.place) x.place y.place t left.1 (all_among (IsPlaced t queries) y (front ++ back) left.0 among)
+      (subst (λ standing. is_watched (queries y.place) standing ≡ true) (map-append (observer_of queries) front back) (observed queries y (front ++ back) among)) stands);
+  watches = subst (λ standing. WatchesStandFor standing (one_fewer x.place t)) (sym (map-append (observer_of queries) front back))
+      (fewer-StandsFor (map (observer_of queries) front) (map (observer_of queries) back) (observer_of queries x) x.place t left.1 stands);
+}
+  where
+    left : AllByRecursion (IsPlaced t queries) (front ++ back) × IsPlaced t queries x
+    left = each_left (IsPlaced t queries) front back x h.placed
+
+    stands : WatchesStandFor (map (observer_of queries) front ++ observer_of queries x ∷ map (observer_of queries) back) t
+    stands = subst (λ standing. WatchesStandFor standing t) (map-append (observer_of queries) front (x ∷ back)) h.watches
+
+pub fewer-AreWatched : (t : Table) (front back : List Watcher) (x : Watcher) → AreWatched t (front ++ x ∷ back) → AreWatched (one_fewer x.place t) (front ++ back)
+fewer-AreWatched t front back x h = record { queries = h.queries; by = fewer-AreWatchedBy h.queries t front back x h.by }
+
+-- ---- one observer more
+
+-- the queries at their places, with one more
+abbrev pub with_query : ℕ → Query → (ℕ → Query) → ℕ → Query
+with_query place query queries p = cond (p == place) query (queries p)
+
+with_own : (place : ℕ) (query : Query) (queries : ℕ → Query) → with_query place query queries place ≡ query
+with_own place query queries = ap (λ b. cond b query (queries place)) (eqb-refl place)
+
+-- it is the query of its place already, where that is watched
+pub with_same : (place : ℕ) (query : Query) (queries : ℕ → Query) (t : Table) (ws : List Watcher) → AreApart t → IsPlaceFor query place t → AllByRecursion (IsPlaced t queries) ws
+    → AllByRecursion (λ w. with_query place query queries w.place ≡ queries w.place) ws
+with_same place query queries t ws apart for placed =
+    each_weaker (IsPlaced t queries) (λ w. with_query place query queries w.place ≡ queries w.place) (λ w p. by w p (w.place == place) refl) ws placed
+  where
+    by : (w : Watcher) → IsPlaced t queries w → (b : Bool) → (w.place == place) ≡ b → cond b query (queries w.place) ≡ queries w.place
+    by w p false e = refl
+    by w p true e = sym (query_at-same query (queries w.place) place t apart for (subst (λ n. query_at n t ≡ Some (queries w.place)) (eqb-true w.place place e) p))
+
+pub same_named : (queries others : ℕ → Query) (ws : List Watcher) → AllByRecursion (λ w. others w.place ≡ queries w.place) ws → map (observer_of others) ws ≡ map (observer_of queries) ws
+same_named queries others [] h = refl
+same_named queries others (w ∷ ws) h = ap₂ (λ (o : Observer) (os : List Observer). o ∷ os) (ap (λ q. record (observer_of queries w) { query = q }) h.0) (same_named queries others ws h.1)
+
+pub more-AreWatchedBy : (queries : ℕ → Query) (t : Table) (ws : List Watcher) (x : Watcher) (place : ℕ) (query : Query) → IsPlaceFor query place t → x.place ≡ place → AreWatchedBy queries t ws
+    → AreWatchedBy (with_query place query queries) (one_more place query t) (ws ++ x ∷ [])
+more-AreWatchedBy queries t ws x place query for at h = record {
+  placed = each_push (IsPlaced (one_more place query t) others) ws x
+      (each_both (IsPlaced t queries) (λ w. others w.place ≡ queries w.place) (IsPlaced (one_more place query t) others) (λ w p same. query_at-more query (queries w.place) place w.place t p ∙ ap (λ q. Some q) (sym same)) ws h.placed sames)
+      (subst (λ n. query_at n (one_more place query t) ≡ Some (others n)) (sym at) (query_at-own query place t h.watches.apart for ∙ ap (λ q. Some q) (sym (with_own place query queries))));
+  watches = subst (λ standing. WatchesStandFor standing (one_more place query t)) (sym (map-append (observer_of others) ws (x ∷ [])))
+      (subst (λ q. WatchesStandFor (map (observer_of others) ws ++ observer_of others x ∷ []) (one_more place q t)) own
+      (more-StandsFor (map (observer_of others) ws) (observer_of others x) place t (subst (λ q. IsPlaceFor q place t) (sym own) for)
+      (subst (λ standing. WatchesStandFor standing t) (sym (same_named queries others ws sames)) h.watches)));
+}
+  where
+    others : ℕ → Query
+    others = with_query place query queries
+
+    sames : AllByRecursion (λ w. others w.place ≡ queries w.place) ws
+    sames = with_same place query queries t ws h.watches.apart for h.placed
+
+    own : others x.place ≡ query
+    own = ap others at ∙ with_own place query queries
+
+pub more-AreWatched : (t : Table) (ws : List Watcher) (x : Watcher) (place : ℕ) (query : Query) → IsPlaceFor query place t → x.place ≡ place → AreWatched t ws → AreWatched (one_more place query t) (ws ++ x ∷ [])
+more-AreWatched t ws x place query for at h = record { queries = with_query place query h.queries; by = more-AreWatchedBy h.queries t ws x place query for at h.by }
