@@ -9,3 +9,4 @@ pub mod WatchingLaws
 mod WatchedLaws
 mod FoundObservers
 mod WatcherParts
+mod WatchingNotes

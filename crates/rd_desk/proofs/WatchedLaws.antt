@@ -115,7 +115,7 @@ fewer-AreWatched t front back x h = record { queries = h.queries; by = fewer-Are
 abbrev pub with_query : ℕ → Query → (ℕ → Query) → ℕ → Query
 with_query place query queries p = cond (p == place) query (queries p)
 
-with_own : (place : ℕ) (query : Query) (queries : ℕ → Query) → with_query place query queries place ≡ query
+pub with_own : (place : ℕ) (query : Query) (queries : ℕ → Query) → with_query place query queries place ≡ query
 with_own place query queries = ap (λ b. cond b query (queries place)) (eqb-refl place)
 
 -- it is the query of its place already, where that is watched

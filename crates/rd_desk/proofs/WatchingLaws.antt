@@ -178,26 +178,26 @@ passed rows s starved w journal desk h =
         ∙ listing_unchanged query (length rows) (entries rows) (now rows) (entries rows) (row_moment rows s) (time_changes query (length rows) (entries rows) (now rows) (row_moment rows s) (order-row rows s) ∙ fails)
 
 -- As time passes before anything is done, the observers are due to whose queries records give lines that lapse meanwhile.
-pub passed-StandsFor : (rows : List Row) (s : Step) (starved : Bool) (from to : ℕ) (t : Table) (w : Watching) → IsDeskJournal rows → is_look s.kind ≡ false → from ≡ now rows → to ≡ row_moment rows s
+pub WatchingStandsFor-passed : (rows : List Row) (s : Step) (starved : Bool) (from to : ℕ) (t : Table) (w : Watching) → IsDeskJournal rows → is_look s.kind ≡ false → from ≡ now rows → to ≡ row_moment rows s
     → t ≡ all_touched_where (λ query. is_lapse_of query from to (replay (entries rows)).records) w.watches → WatchingStandsFor rows w → WatchingStandsFor (making rows s starved nothing) (handed_on t w.observers)
-passed-StandsFor rows s starved from to t w journal desk first last touched h =
+WatchingStandsFor-passed rows s starved from to t w journal desk first last touched h =
     subst (λ x. WatchingStandsFor (making rows s starved nothing) (handed_on x w.observers))
     (sym (touched ∙ ap₂ (λ m n. all_touched_where (λ query. is_lapse_of query m n (replay (entries rows)).records) w.watches) first last))
     (passed rows s starved w journal desk h)
 
 -- Where none lapses, nothing changes.
-pub untouched-StandsFor : (rows : List Row) (s : Step) (starved : Bool) (from to : ℕ) (w : Watching) → IsDeskJournal rows → is_look s.kind ≡ false → from ≡ now rows → to ≡ row_moment rows s
+pub WatchingStandsFor-untouched : (rows : List Row) (s : Step) (starved : Bool) (from to : ℕ) (w : Watching) → IsDeskJournal rows → is_look s.kind ≡ false → from ≡ now rows → to ≡ row_moment rows s
     → w.watches ≡ all_touched_where (λ query. is_lapse_of query from to (replay (entries rows)).records) w.watches → WatchingStandsFor rows w → WatchingStandsFor (making rows s starved nothing) w
-untouched-StandsFor rows s starved from to w journal desk first last touched h =
+WatchingStandsFor-untouched rows s starved from to w journal desk first last touched h =
     subst (WatchingStandsFor (making rows s starved nothing))
     (ap₂ (λ t ws. record { watches = t; observers = ws }) (unmarked_same w.watches h.unmarked) (unmarked_handed w.watches w.observers h.unmarked))
-    (passed-StandsFor rows s starved from to w.watches w journal desk first last touched h)
+    (WatchingStandsFor-passed rows s starved from to w.watches w journal desk first last touched h)
 
 -- An entry is made, and nothing was noted before: the observers are due to whose queries the registration that it is about gives other lines after it than before.
-pub entered-StandsFor : (rows : List Row) (s : Step) (starved : Bool) (done : Effects) (entry : Entry) (old new : Option Record) (w : Watching) → IsDeskJournal rows → is_look s.kind ≡ false → done.notes ≡ []
+pub WatchingStandsFor-entered : (rows : List Row) (s : Step) (starved : Bool) (done : Effects) (entry : Entry) (old new : Option Record) (w : Watching) → IsDeskJournal rows → is_look s.kind ≡ false → done.notes ≡ []
     → IsEntered rows s entry old new → WatchingStandsFor (making rows s starved done) w
     → WatchingStandsFor (making rows s starved (joined done (noting (note.Entered entry ∷ [])))) (handed_on (all_touched old new w.watches) w.observers)
-entered-StandsFor rows s starved done entry old new w journal desk none into h =
+WatchingStandsFor-entered rows s starved done entry old new w journal desk none into h =
     from_parts later (handed_on (all_touched old new w.watches) w.observers)
     (touched_stands test (octets_sent later) (events later) (transitions before) (transitions later) (entries before) (entries later) (now before) (now later) w
     (subst (AllByRecursion IsDueLater) (sym standing) (each_weaker (KnownIn rows) IsDueLater due (observers (events rows)) (desk-AllKnown rows journal)))
