@@ -1,25 +1,29 @@
 -- That each query is watched as often as it is observed: what leaves it so.
 use Rattle.std.proofs.Common.{◌≡◌, ◌⊎◌, inl, inr, ℕ, ◌==◌, Bool, true, false, ◌||◌, cond, List, [], ◌∷◌, ◌++◌, map, Some, None, refl, sym, ap, ap₂, subst, ◌∙◌, eqb-true}
 use Rattle.std.specs.List.{AllByRecursion, list_any}
+use Rattle.std.proofs.lemmas.Bool.{or_parts}
 use Rattle.std.proofs.lemmas.List.{map-append}
+use Rattle.rd_base.specs.declared.peers.Peer.{Peer}
 use Rattle.rd_base.specs.declared.queries.Query.{Query}
 use Rattle.rd_base.specs.declared.queries.Kind.TheVariants as kind
+use Rattle.rd_base.specs.Firsts.{without_first}
 use Rattle.rd_base.proofs.lemmas.Among.{Among, all_among, among_all}
 use Rattle.rd_base.proofs.lemmas.Each.{each_weaker, each_both, each_push}
 use Rattle.rd_base.proofs.lemmas.Numbers.{eqb-refl}
 use Rattle.event_model.specs.declared.notes.Observer.{Observer}
-use Rattle.event_model.specs.Same.{is_same_query}
+use Rattle.event_model.specs.Same.{RequestName, is_same_request, is_same_query}
 use Rattle.event_model.specs.Observers.{is_watched}
-use Rattle.event_model.proofs.SameLaws.{is_same_query-Decides}
+use Rattle.event_model.proofs.SameLaws.{is_same_request-Decides, is_same_query-Decides}
 use Rattle.watch_table.specs.WatchedQueries.{Watched, Table, query_at, one_more, one_fewer, IsPlaceFor}
 use Rattle.watch_table.specs.Watchers.{AreApart, WatchesStandFor}
 use Rattle.watch_table.proofs.PlacedLaws.{query_at-same, query_at-own, query_at-more, query_at-fewer}
 use Rattle.watch_table.proofs.TouchedLaws.{Keeps, kept-StandsFor}
 use Rattle.watch_table.proofs.WatcherLaws.{fewer-StandsFor, more-StandsFor}
-use Rattle.observers.specs.Watchers.{Watcher}
+use Rattle.observers.specs.Watchers.{Watcher, is_named}
 use Rattle.observers.specs.ObserverEvents.{observer_of}
 use Rattle.rd_desk.specs.Marks.{handed}
-use Rattle.rd_desk.specs.Watching.{IsPlaced, AreWatchedBy, AreWatched}
+use Rattle.rd_desk.specs.Watching.{IsPlaced, AreWatchedBy, IsOtherName, HaveOtherNames, AreWatched}
+use Rattle.rd_desk.proofs.FoundObservers.{request_turned}
 use Rattle.rd_desk.proofs.WatchingParts.{placed_kept}
 
 -- no observers
@@ -27,6 +31,7 @@ pub empty-AreWatched : AreWatched [] []
 empty-AreWatched = record {
   queries = λ place. record { kind = kind.Resource; criteria = []; page = None; count = None };
   by = record { placed = tt; watches = record { watchers = λ query. refl; some = tt; apart = tt } };
+  apart = tt;
 }
 
 -- ---- what is watched changes, but for queries and watchers
@@ -35,6 +40,7 @@ pub changed-AreWatched : (change : Watched → Watched) → Keeps change → (t 
 changed-AreWatched change keeps t ws h = record {
   queries = h.queries;
   by = record { placed = placed_kept change keeps h.queries t ws h.by.placed; watches = kept-StandsFor change keeps (map (observer_of h.queries) ws) t h.by.watches };
+  apart = h.apart;
 }
 
 -- ---- observers change, but for who they are
@@ -55,6 +61,24 @@ pub placed_same : (t : Table) (queries : ℕ → Query) (ws : List Watcher) → 
 placed_same t queries [] h = tt
 placed_same t queries (w ∷ ws) h = (h.0, placed_same t queries ws h.1)
 
+names_same : (w : Watcher) (ws others : List Watcher) → map without_notice others ≡ map without_notice ws → AllByRecursion (IsOtherName w) ws → AllByRecursion (IsOtherName w) others
+names_same w [] [] e h = tt
+names_same w [] (x ∷ others) e h = absurd cc
+names_same w (y ∷ ws) [] e h = absurd cc
+names_same w (y ∷ ws) (x ∷ others) e h =
+    let here : without_notice x ≡ without_notice y = cc in
+    let rest : map without_notice others ≡ map without_notice ws = cc in
+    (subst (λ (z : Watcher). is_named w.peer w.token z ≡ false) (sym here) h.0, names_same w ws others rest h.1)
+
+apart_same : (ws others : List Watcher) → map without_notice others ≡ map without_notice ws → HaveOtherNames ws → HaveOtherNames others
+apart_same [] [] e h = tt
+apart_same [] (x ∷ others) e h = absurd cc
+apart_same (y ∷ ws) [] e h = absurd cc
+apart_same (y ∷ ws) (x ∷ others) e h =
+    let here : without_notice x ≡ without_notice y = cc in
+    let rest : map without_notice others ≡ map without_notice ws = cc in
+    (subst (λ (z : Watcher). AllByRecursion (λ v. is_named z.peer z.token v ≡ false) others) (sym here) (names_same y ws others rest h.0), apart_same ws others rest h.1)
+
 pub same-AreWatched : (t : Table) (ws others : List Watcher) → map without_notice others ≡ map without_notice ws → AreWatched t ws → AreWatched t others
 same-AreWatched t ws others same h = record {
   queries = h.queries;
@@ -62,6 +86,7 @@ same-AreWatched t ws others same h = record {
     placed = placed_same t h.queries others (subst (AllByRecursion (IsPlaced t h.queries)) (sym same) (same_placed t h.queries ws h.by.placed));
     watches = subst (λ standing. WatchesStandFor standing t) (same_observers h.queries ws ∙ (ap (map (observer_of h.queries)) (sym same) ∙ sym (same_observers h.queries others))) h.by.watches;
   };
+  apart = apart_same ws others same h.apart;
 }
 
 handed-same : (t : Table) (ws : List Watcher) → map without_notice (map (handed t) ws) ≡ map without_notice ws
@@ -106,8 +131,12 @@ fewer-AreWatchedBy queries t front back x h = record {
     stands : WatchesStandFor (map (observer_of queries) front ++ observer_of queries x ∷ map (observer_of queries) back) t
     stands = subst (λ standing. WatchesStandFor standing t) (map-append (observer_of queries) front (x ∷ back)) h.watches
 
+apart_left : (front back : List Watcher) (x : Watcher) → HaveOtherNames (front ++ x ∷ back) → HaveOtherNames (front ++ back)
+apart_left [] back x h = h.1
+apart_left (w ∷ front) back x h = ((each_left (IsOtherName w) front back x h.0).0, apart_left front back x h.1)
+
 pub fewer-AreWatched : (t : Table) (front back : List Watcher) (x : Watcher) → AreWatched t (front ++ x ∷ back) → AreWatched (one_fewer x.place t) (front ++ back)
-fewer-AreWatched t front back x h = record { queries = h.queries; by = fewer-AreWatchedBy h.queries t front back x h.by }
+fewer-AreWatched t front back x h = record { queries = h.queries; by = fewer-AreWatchedBy h.queries t front back x h.by; apart = apart_left front back x h.apart }
 
 -- ---- one observer more
 
@@ -153,5 +182,36 @@ more-AreWatchedBy queries t ws x place query for at h = record {
     own : others x.place ≡ query
     own = ap others at ∙ with_own place query queries
 
-pub more-AreWatched : (t : Table) (ws : List Watcher) (x : Watcher) (place : ℕ) (query : Query) → IsPlaceFor query place t → x.place ≡ place → AreWatched t ws → AreWatched (one_more place query t) (ws ++ x ∷ [])
-more-AreWatched t ws x place query for at h = record { queries = with_query place query h.queries; by = more-AreWatchedBy h.queries t ws x place query for at h.by }
+-- one of another name than each
+apart_pushed : (ws : List Watcher) (x : Watcher) → list_any (is_named x.peer x.token) ws ≡ false → HaveOtherNames ws → HaveOtherNames (ws ++ x ∷ [])
+apart_pushed [] x new h = (tt, tt)
+apart_pushed (w ∷ ws) x new h =
+    let both = or_parts (is_named x.peer x.token w) (list_any (is_named x.peer x.token) ws) new in
+    (each_push (IsOtherName w) ws x h.0 (request_turned (w.peer, w.token) (x.peer, x.token) ∙ both.0), apart_pushed ws x both.1 h.1)
+
+pub more-AreWatched : (t : Table) (ws : List Watcher) (x : Watcher) (place : ℕ) (query : Query) → IsPlaceFor query place t → x.place ≡ place → list_any (is_named x.peer x.token) ws ≡ false → AreWatched t ws
+    → AreWatched (one_more place query t) (ws ++ x ∷ [])
+more-AreWatched t ws x place query for at new h = record {
+  queries = with_query place query h.queries;
+  by = more-AreWatchedBy h.queries t ws x place query for at h.by;
+  apart = apart_pushed ws x new h.apart;
+}
+
+-- ---- names
+
+-- where the one of a name is taken out, none has it
+pub apart_absent : (peer : Peer) (token : List ℕ) (ws : List Watcher) → HaveOtherNames ws → list_any (is_named peer token) (without_first (is_named peer token) ws) ≡ false
+unfolding without_first
+apart_absent peer token [] h = refl
+apart_absent peer token (w ∷ ws) h = by (is_named peer token w) refl (apart_absent peer token ws h.1)
+  where
+    none : (xs : List Watcher) → is_named peer token w ≡ true → AllByRecursion (IsOtherName w) xs → list_any (is_named peer token) xs ≡ false
+    none [] e o = refl
+    none (x ∷ xs) e o =
+        let same = (is_same_request-Decides (peer, token) (w.peer, w.token)).0 e in
+        let other : is_same_request (peer, token) (x.peer, x.token) ≡ false = ap (λ (n : RequestName). is_same_request n (x.peer, x.token)) same ∙ o.0 in
+        rw other (none xs e o.1)
+
+    by : (b : Bool) → is_named peer token w ≡ b → list_any (is_named peer token) (without_first (is_named peer token) ws) ≡ false → list_any (is_named peer token) (cond b ws (w ∷ without_first (is_named peer token) ws)) ≡ false
+    by true e more = none ws e h.0
+    by false e more = rw e more

@@ -6,5 +6,7 @@ pub mod Writing
 pub mod Watching
 pub mod Marks
 pub mod Entering
+pub mod Joining
+pub mod Noticing
 pub mod Desks
 pub mod UnderWay

@@ -1,5 +1,5 @@
 -- What the watched queries and their observers show together, and the journal that they stand for (RFC 7641 section 4).
-use Rattle.std.specs.Prelude.{◌≡◌, ℕ, Bool, true, false, List, Some, map}
+use Rattle.std.specs.Prelude.{◌≡◌, ℕ, true, false, List, [], ◌∷◌, Some, map}
 use Rattle.std.specs.List.{AllByRecursion}
 use Rattle.rd_base.specs.declared.queries.Query.{Query}
 use Rattle.history_model.specs.Listing.{listing}
@@ -11,7 +11,7 @@ use Rattle.journal_model.specs.Ticks.{octets_sent, is_confirmable_with}
 use Rattle.watch_table.specs.WatchedQueries as watched
 use Rattle.watch_table.specs.WatchedQueries.{Watched, query_at}
 use Rattle.watch_table.specs.Watchers.{WatchesStandFor}
-use Rattle.observers.specs.Watchers.{Watcher}
+use Rattle.observers.specs.Watchers.{Watcher, is_named}
 use Rattle.observers.specs.ObserverEvents.{observer_of, ObserversStandFor}
 
 -- the watched queries at their places, and the observers, each with the place of its query
@@ -28,10 +28,20 @@ pub record AreWatchedBy (queries : ℕ → Query) (t : watched.Table) (ws : List
   pub placed : AllByRecursion (IsPlaced t queries) ws
   pub watches : WatchesStandFor (map (observer_of queries) ws) t
 
--- each query is watched as often as it is observed
+-- two observers have not the same peer and token
+abbrev pub IsOtherName : Watcher → Watcher → Type 0
+IsOtherName w other = is_named w.peer w.token other ≡ false
+
+-- no two have (RFC 7641 section 4.1)
+abbrev pub HaveOtherNames : List Watcher → Type 0
+HaveOtherNames [] = Unit {0}
+HaveOtherNames (w ∷ ws) = AllByRecursion (IsOtherName w) ws × HaveOtherNames ws
+
+-- each query is watched as often as it is observed, and no two observers have the same peer and token
 pub record AreWatched (t : watched.Table) (ws : List Watcher) : Type 0 where
   pub queries : ℕ → Query
   pub by : AreWatchedBy queries t ws
+  pub apart : HaveOtherNames ws
 
 -- a body that is set is the listing of its query
 abbrev pub HasListing : List Row → ℕ × Watched → Type 0

@@ -3,6 +3,7 @@
 
 mod bodies;
 mod empty_messages;
+mod joining;
 mod marks;
 mod mids;
 mod outbox;
