@@ -10,3 +10,4 @@ mod WatchedLaws
 mod FoundObservers
 mod WatcherParts
 mod WatchingNotes
+mod JoiningLaws

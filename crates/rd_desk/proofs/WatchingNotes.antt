@@ -40,6 +40,7 @@ use Rattle.watch_table.specs.WatchedQueries.{Table, one_more, one_fewer, without
 use Rattle.observers.specs.Watchers.{Watcher, is_named, has_notice, is_awaited, noticed, seen, landed, kept_of, timed, changed_at}
 use Rattle.observers.specs.ObserverEvents.{observer_of, ObserversStandFor}
 use Rattle.observers.proofs.StandLaws.{observers-StandsFor, dropped-StandsFor, reset-StandsFor, removed-StandsFor, unchanged-StandsFor, formed-StandsFor, landed-StandsFor, again-StandsFor, added-StandsFor}
+use Rattle.rd_desk.specs.Noticing.{forming, sending_again}
 use Rattle.rd_desk.specs.Watching.{Watching, IsConfirmable, WatchingStandsFor}
 use Rattle.rd_desk.proofs.FoundObservers.{Cut, cut_first, cut_at, changed_first-unfound, each_changed_first, each_changed_at, map-changed_first, map-changed_at, in_list, waited_for-StandsFor, is_observer-found, found_named}
 use Rattle.rd_desk.proofs.WatchedLaws.{without_notice, with_query, with_own, with_same}
@@ -191,7 +192,7 @@ WatchingStandsFor-timed_out rows s starved done i x w there h =
 -- ---- one is added
 
 -- the observer that the table keeps, by its query
-abbrev pub observer_with : Query → Watcher → Observer
+abbrev observer_with : Query → Watcher → Observer
 observer_with query x = record { peer = x.peer; token = x.token; query = query; key = x.key; szx = x.szx }
 
 -- An observer is added, for which a body was formed, at the place of its query.
@@ -259,14 +260,6 @@ WatchingStandsFor-unchanged rows s starved done i x w there h =
   where
     later : List Row
     later = making rows s starved (joined done (noting (note.Unchanged x.peer x.token ∷ [])))
-
--- a notice for an observer: it is sent and noted, and draws a Message ID
-abbrev pub forming : Watcher → List ℕ → Sent → Effects
-forming x body sent = record { sent = (x.peer, sent.octets) ∷ []; notes = note.Formed x.peer x.token body (Some sent.mid) ∷ []; drew = 1 }
-
--- a notice that is sent again
-abbrev pub sending_again : Watcher → Sent → Effects
-sending_again x sent = record { sent = (x.peer, sent.octets) ∷ []; notes = note.Again x.peer sent.mid ∷ []; drew = 0 }
 
 -- where a row sent no such message before, its last one is found
 last_sent : (rows : List Row) (s : Step) (starved : Bool) (done more : Effects) (peer : Peer) (mid : ℕ) (octets : List ℕ) → more.sent ≡ (peer, octets) ∷ []
