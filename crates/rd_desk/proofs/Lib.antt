@@ -11,3 +11,4 @@ mod FoundObservers
 mod WatcherParts
 mod WatchingNotes
 mod JoiningLaws
+mod TickLaws

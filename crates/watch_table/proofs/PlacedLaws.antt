@@ -1,4 +1,4 @@
--- For the crate above: the query that is watched at a place, after one watcher more and after one fewer.
+-- For the crate above: the query that is watched at a place, after one watcher more, after one fewer, and after a body was set.
 use Rattle.std.proofs.Common.{◌≡◌, ℕ, ◌+◌, ◌-◌, ◌<◌, ◌≤◌, nat_eq, nat_le, Bool, true, false, cond, List, [], ◌∷◌, ◌++◌, Some, None, Option, option_map, refl, sym, ap, subst, ◌∙◌, arith, eqb-true}
 use Rattle.std.specs.Map.{lookup, remove_entry, set_value}
 use Rattle.std.proofs.lemmas.Bool.{false≢true, leb-true}
@@ -8,7 +8,7 @@ use Rattle.event_model.specs.declared.notes.Observer.{Observer}
 use Rattle.event_model.specs.Same.{is_same_query}
 use Rattle.event_model.specs.Observers.{is_watched}
 use Rattle.event_model.proofs.SameLaws.{is_same_query-Decides}
-use Rattle.watch_table.specs.WatchedQueries.{Watched, Table, watched_at, query_at, place_of, watched_first, one_more, more_at, one_fewer, fewer_at, fewer_of, IsPlaceOf, IsPlaceFor}
+use Rattle.watch_table.specs.WatchedQueries.{Watched, Table, watched_at, query_at, place_of, watched_first, one_more, more_at, one_fewer, fewer_at, fewer_of, body_set, with_body, IsPlaceOf, IsPlaceFor}
 use Rattle.watch_table.specs.Watchers.{AreApart, watchers_of, observers_of, WatchesStandFor}
 use Rattle.watch_table.proofs.WatcherLaws.{one, observers-between, place_of-found, counted_at, any_counts}
 
@@ -149,3 +149,20 @@ query_at-fewer front back o own place other t at is observed h = by (watched_at 
     by : (x : Option Watched) → watched_at place t ≡ x → option_map (λ (w : Watched). w.query) x ≡ Some o.query → query_at other (fewer_at x place t) ≡ Some own
     by None e g = absurd cc
     by (Some w) e g = let same : w.query ≡ o.query = cc in by_place w (nat_eq place other) e same refl
+
+-- ---- bodies
+
+-- a body leaves each query at its place
+pub query_at-body : (place other : ℕ) (body : List ℕ) (t : Table) → query_at other (with_body place body t) ≡ query_at other t
+query_at-body place other body t = by (watched_at place t) refl
+  where
+    set : (w : Watched) (b : Bool) → watched_at place t ≡ Some w → nat_eq place other ≡ b → query_of (lookup (nat_eq other) (set_value (nat_eq place) t (record w { body = Some body }))) ≡ query_at other t
+    set w false e apart = ap query_of (set_other place other t (record w { body = Some body }) apart)
+    set w true e same =
+        let here = eqb-true place other same in
+        ap (λ n. query_of (lookup (nat_eq n) (set_value (nat_eq place) t (record w { body = Some body })))) (sym here)
+        ∙ (ap query_of (found_set place t w (record w { body = Some body }) e) ∙ (sym (ap query_of e) ∙ ap (λ n. query_at n t) here))
+
+    by : (o : Option Watched) → watched_at place t ≡ o → query_at other (body_set o place body t) ≡ query_at other t
+    by None e = refl
+    by (Some w) e = set w (nat_eq place other) e refl
