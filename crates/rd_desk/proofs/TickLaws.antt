@@ -1,17 +1,29 @@
 -- What a tick asks of the watched queries and their observers: the query of an observer and the body that is kept for it, and which observer comes next.
-use Rattle.std.proofs.Common.{◌≡◌, ℕ, ◌+◌, ◌<◌, zero, suc, nat_eq, Bool, true, false, not, ◌&&◌, cond, List, [], ◌∷◌, length, map, drop, slice_get, Option, Some, None, IsSome, IfSome, option_map, option_and_then, refl, sym, ap, ap₂, subst, ◌∙◌, arith}
+use Rattle.std.proofs.Common.{◌≡◌, ℕ, ◌+◌, ◌<◌, zero, suc, nat_eq, Bool, true, false, not, ◌&&◌, cond, List, [], ◌∷◌, length, map, find, drop, slice_get, Option, Some, None, IsSome, option_map, option_and_then, unwrap_or, refl, sym, ap, ap₂, subst, ◌∙◌, arith}
 use Rattle.std.specs.List.{AllByRecursion}
 use Rattle.std.specs.Map.{lookup, set_value}
+use Rattle.std.proofs.lemmas.Bool.{false≢true, and_parts}
+use Rattle.rd_base.specs.declared.peers.Peer.{Peer}
 use Rattle.rd_base.specs.declared.queries.Query.{Query}
 use Rattle.rd_base.proofs.lemmas.Each.{each_weaker}
+use Rattle.rd_base.proofs.lemmas.Options.{some_same}
 use Rattle.history_model.specs.Listing.{listing}
+use Rattle.event_model.specs.declared.notes.Note.{Note}
+use Rattle.event_model.specs.declared.notes.Note.TheVariants as note
 use Rattle.event_model.specs.declared.notes.Observer.{Observer}
-use Rattle.event_model.specs.Observers.{observers}
-use Rattle.event_model.specs.Flights.{is_waited_for}
+use Rattle.event_model.specs.Same.{is_same_peer}
+use Rattle.event_model.specs.Observers.{name_of, observers, last_body_formed}
+use Rattle.event_model.specs.Flights.{Sent, Flight, flight, is_waited_for, notice_sent, waiting_notice}
 use Rattle.event_model.specs.Due.{Watching as Shown, is_due, watching, observers_standing}
+use Rattle.event_model.proofs.SameLaws.{is_same_peer-Decides}
+use Rattle.journal_model.specs.declared.steps.Step.{Step}
 use Rattle.journal_model.specs.declared.rows.Row.{Row}
-use Rattle.journal_model.specs.Journal.{events, entries, now, transitions}
-use Rattle.journal_model.specs.Ticks.{octets_sent}
+use Rattle.journal_model.specs.Effects.{Effects}
+use Rattle.journal_model.specs.Journal.{events, entries, now, row_at, transitions}
+use Rattle.journal_model.specs.Rows.{row_with, row_moment}
+use Rattle.journal_model.specs.Ticks.{is_confirmable_with, confirmable_sent, octets_sent, sent_again, repeating}
+use Rattle.journal_model.specs.UnfinishedRow.{making}
+use Rattle.journal_model.proofs.observers.SentOctets.{octets_sent-before}
 use Rattle.watch_table.specs.WatchedQueries.{Watched, Table, watched_at, query_at, body_at, body_set, with_body}
 use Rattle.watch_table.specs.Watchers.{WatchesStandFor}
 use Rattle.watch_table.proofs.EntryLaws.{each_found, each_set}
@@ -19,10 +31,10 @@ use Rattle.watch_table.proofs.PlacedLaws.{query_at-body}
 use Rattle.watch_table.proofs.TouchedLaws.{with_body-StandsFor}
 use Rattle.observers.specs.Watchers.{Watcher, is_awaited, is_ready, first_from, next_ready}
 use Rattle.observers.specs.ObserverEvents.{observer_of, shown}
-use Rattle.observers.proofs.StandLaws.{observers-StandsFor}
+use Rattle.observers.proofs.StandLaws.{observers-StandsFor, length-StandsFor as length_shown, same_at as shown_at}
 use Rattle.observers.proofs.MarkLaws.{awaited-StandsFor}
-use Rattle.rd_desk.specs.Noticing.{first_observer, next_noticed}
-use Rattle.rd_desk.specs.Watching.{Watching, IsPlaced, HasListing, IsUnmarked, AreWatched, WatchingStandsFor}
+use Rattle.rd_desk.specs.Noticing.{sending_again, first_observer, next_noticed}
+use Rattle.rd_desk.specs.Watching.{Watching, IsConfirmable, IsPlaced, HasListing, IsUnmarked, AreWatched, WatchingStandsFor}
 
 -- ---- the observer with an index
 
@@ -150,3 +162,78 @@ next-StandsFor rows w from h = sym (dropped from (observers (events rows)) w.obs
     dropped (suc k) [] (x ∷ xs) e = absurd cc
     dropped (suc k) (o ∷ os) [] e = absurd cc
     dropped (suc k) (o ∷ os) (x ∷ xs) e = let rest : map (watching (octets_sent rows) (events rows) (transitions rows)) os ≡ map (shown h.queries) xs = cc in dropped k os xs rest
+
+-- ---- what is kept of an observer
+
+-- it is the observer of the events, with what they say of it
+pub record IsKeptAs (rows : List Row) (o : Observer) (x : Watcher) : Type 0 where
+  pub peer : o.peer ≡ x.peer
+  pub token : o.token ≡ x.token
+  pub key : o.key ≡ x.key
+  pub szx : o.szx ≡ x.szx
+  pub due : is_due o (events rows) (transitions rows) ≡ x.due
+  pub last : last_body_formed (name_of o) (events rows) ≡ Some x.last
+  pub waits : waiting_notice (octets_sent rows) (events rows) o ≡ x.flight
+
+-- For the tick: each observer is kept at the index that it has by the events.
+pub kept-StandsFor : (rows : List Row) (w : Watching) (i : ℕ) (o : Observer) (x : Watcher) → WatchingStandsFor rows w → slice_get (observers (events rows)) i ≡ Some o → slice_get w.observers i ≡ Some x → IsKeptAs rows o x
+kept-StandsFor rows w i o x h at there = record {
+  peer = ap (λ (y : Shown). y.observer.peer) here;
+  token = ap (λ (y : Shown). y.observer.token) here;
+  key = ap (λ (y : Shown). y.observer.key) here;
+  szx = ap (λ (y : Shown). y.observer.szx) here;
+  due = ap (λ (y : Shown). y.due) here;
+  last = ap (λ (y : Shown). y.last_body) here;
+  waits = ap (λ (y : Shown). y.waits) here;
+}
+  where
+    here : watching (octets_sent rows) (events rows) (transitions rows) o ≡ shown h.queries x
+    here = shown_at h.queries (octets_sent rows) (events rows) (transitions rows) w.observers i o x h.observers at there
+
+pub length-StandsFor : (rows : List Row) (w : Watching) → WatchingStandsFor rows w → length (observers (events rows)) ≡ length w.observers
+length-StandsFor rows w h = length_shown h.queries (octets_sent rows) (events rows) (transitions rows) w.observers h.observers
+
+-- ---- notices that are sent again
+
+-- the message that a row before sent is found by its octets
+found_again : (r : Option Row) (peer : Peer) (mid : ℕ) (octets : List ℕ) (n : Note) → octets ≡ unwrap_or (option_map (λ d. d.1) (confirmable_sent r peer mid)) [] → is_confirmable_with mid octets ≡ true
+    → sent_again (confirmable_sent r peer mid) n ≡ record { sent = (peer, octets) ∷ []; notes = n ∷ []; drew = 0 }
+found_again None peer mid octets n is fits = absurd (false≢true (ap (is_confirmable_with mid) (sym is) ∙ fits))
+found_again (Some r) peer mid octets n is fits = by (find test r.sent) refl is
+  where
+    test : Peer × List ℕ → Bool
+    test = λ d. is_same_peer d.0 peer && is_confirmable_with mid d.1
+
+    passes : (ds : List (Peer × List ℕ)) (d : Peer × List ℕ) → find test ds ≡ Some d → test d ≡ true
+    passes [] d e = absurd cc
+    passes (y ∷ ds) d e = one (test y) refl e (passes ds d)
+      where
+        one : (b : Bool) → test y ≡ b → cond b (Some y) (find test ds) ≡ Some d → (find test ds ≡ Some d → test d ≡ true) → test d ≡ true
+        one true g f more = let same : y ≡ d = cc in subst (λ z. test z ≡ true) same g
+        one false g f more = more f
+
+    by : (d : Option (Peer × List ℕ)) → find test r.sent ≡ d → octets ≡ unwrap_or (option_map (λ (y : Peer × List ℕ). y.1) d) [] → sent_again d n ≡ record { sent = (peer, octets) ∷ []; notes = n ∷ []; drew = 0 }
+    by None e g = absurd (false≢true (ap (is_confirmable_with mid) (sym g) ∙ fits))
+    by (Some d) e g =
+        let named = (is_same_peer-Decides d.0 peer).0 (and_parts (is_same_peer d.0 peer) (is_confirmable_with mid d.1) (passes r.sent d e)).0 in
+        ap₂ (λ (p : Peer) (o : List ℕ). record { sent = (p, o) ∷ []; notes = n ∷ []; drew = 0 }) named (sym g)
+
+-- For the tick: what is sent again of a notice that an earlier row formed is what the table keeps of it.
+pub again-StandsFor : (rows : List Row) (s : Step) (starved : Bool) (done : Effects) (w : Watching) (i : ℕ) (o : Observer) (x : Watcher) (f : Flight) (sent : Sent) → WatchingStandsFor (making rows s starved done) w
+    → slice_get (observers (events (making rows s starved done))) i ≡ Some o → slice_get w.observers i ≡ Some x → flight o (events (making rows s starved done)) ≡ Some f → x.flight ≡ Some sent → f.formed.place < length rows
+    → repeating rows f.formed.place o.peer f.mid (note.Again o.peer f.mid) ≡ sending_again x sent
+unfolding waiting_notice octets_sent
+again-StandsFor rows s starved done w i o x f sent h at there flies kept below =
+    found_again (row_at f.formed.place rows) o.peer f.mid sent.octets (note.Again o.peer f.mid)
+    (sym (ap (λ (y : Sent). y.octets) same) ∙ octets_sent-before rows (row_with s (row_moment rows s) starved done) f.formed.place o.peer f.mid below)
+    (subst (λ mid. is_confirmable_with mid sent.octets ≡ true) (sym (ap (λ (y : Sent). y.mid) same)) (each_at IsConfirmable w.observers i x h.confirmable there sent kept))
+    ∙ ap₂ (λ (p : Peer) (mid : ℕ). record { sent = (p, sent.octets) ∷ []; notes = note.Again p mid ∷ []; drew = 0 }) it.peer (ap (λ (y : Sent). y.mid) same)
+  where
+    it : IsKeptAs (making rows s starved done) o x
+    it = kept-StandsFor (making rows s starved done) w i o x h at there
+
+    found : Some (notice_sent (octets_sent (making rows s starved done)) o.peer f) ≡ Some sent
+    found = sym (ap (option_map (notice_sent (octets_sent (making rows s starved done)) o.peer)) flies) ∙ (it.waits ∙ kept)
+
+    same : notice_sent (octets_sent (making rows s starved done)) o.peer f ≡ sent
+    same = some_same found

@@ -30,7 +30,7 @@ use Rattle.journal_model.specs.declared.steps.Step.{Step}
 use Rattle.journal_model.specs.declared.rows.Row.{Row}
 use Rattle.journal_model.specs.DeskJournal.{IsDeskJournal}
 use Rattle.journal_model.specs.Effects.{Effects, nothing, joined, noting}
-use Rattle.journal_model.specs.Journal.{is_look, is_desk_row, events, entries, now, latest, row_at, transitions}
+use Rattle.journal_model.specs.Journal.{is_look, is_desk_row, transition_of, events, entries, now, latest, row_at, transitions}
 use Rattle.journal_model.specs.Rows.{row_with, row_moment}
 use Rattle.journal_model.specs.Ticks.{is_confirmable_with, confirmable_sent, octets_sent}
 use Rattle.journal_model.specs.UnfinishedRow.{making}
@@ -125,6 +125,29 @@ WatchingStandsFor-aside rows s starved done more w aside none h =
   where
     later : List Row
     later = making rows s starved (joined done more)
+
+-- A row of a look leaves what they stand for.
+pub WatchingStandsFor-looked : (rows : List Row) (r : Row) (w : Watching) → is_desk_row r ≡ false → r.notes ≡ [] → WatchingStandsFor rows w → WatchingStandsFor (r ∷ rows) w
+unfolding entries now
+WatchingStandsFor-looked rows r w look none h =
+    from_parts (r ∷ rows) w
+    (subst (λ past. StandsOver (octets_sent (r ∷ rows)) past (transitions (r ∷ rows)) (entries (r ∷ rows)) (now (r ∷ rows)) w) (sym past)
+    (subst (λ seen. StandsOver (octets_sent (r ∷ rows)) (events rows) seen (entries (r ∷ rows)) (now (r ∷ rows)) w) (sym seen)
+    (subst (λ history. StandsOver (octets_sent (r ∷ rows)) (events rows) (transitions rows) history (now (r ∷ rows)) w) (sym history)
+    (subst (λ moment. StandsOver (octets_sent (r ∷ rows)) (events rows) (transitions rows) (entries rows) moment w) (sym moment)
+    (shown_same (octets_sent rows) (octets_sent (r ∷ rows)) (events rows) (events rows) (transitions rows) (transitions rows) (entries rows) (now rows) w (observers_standing-row rows r (transitions rows)) (to_parts rows w h))))))
+  where
+    past : events (r ∷ rows) ≡ events rows
+    past = events-row rows r ∙ ap (λ (ns : List Note). noted (length rows) r.moment.0 r.step.word ns (events rows)) none
+
+    seen : transitions (r ∷ rows) ≡ transitions rows
+    seen = transitions-row rows r ∙ ap (λ b. cond b (transition_of r rows ∷ transitions rows) (transitions rows)) look
+
+    history : entries rows ++ entries_in r.notes ≡ entries rows
+    history = ap (λ ns. entries rows ++ entries_in ns) none ∙ append-nil (entries rows)
+
+    moment : cond (is_desk_row r) r.moment.0 (now rows) ≡ now rows
+    moment = ap (λ b. cond b r.moment.0 (now rows)) look
 
 -- ---- changes of the registrations
 
