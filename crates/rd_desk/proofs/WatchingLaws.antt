@@ -6,6 +6,7 @@ use Rattle.std.proofs.lemmas.Bool.{false≢true, not-false}
 use Rattle.std.proofs.lemmas.List.Folds.{find-append}
 use Rattle.rd_base.specs.declared.peers.Peer.{Peer}
 use Rattle.rd_base.specs.declared.queries.Query.{Query}
+use Rattle.rd_base.specs.declared.queries.Kind.TheVariants as kind
 use Rattle.rd_base.specs.declared.records.Record.{Record}
 use Rattle.rd_base.proofs.lemmas.Each.{each_weaker}
 use Rattle.record_model.specs.ListingLines.{shown as listed}
@@ -43,6 +44,7 @@ use Rattle.journal_model.proofs.observers.ObserversKnow.{desk-AllKnown}
 use Rattle.journal_model.proofs.observers.SentOctets.{observers_standing-row}
 use Rattle.watch_table.specs.WatchedQueries.{Table, all_touched, all_unmarked}
 use Rattle.observers.specs.Watchers.{Watcher}
+use Rattle.observers.proofs.StandLaws.{empty-StandsFor}
 use Rattle.rd_desk.specs.Entering.{IsEntered}
 use Rattle.rd_desk.specs.Marks.{all_touched_where, handed}
 use Rattle.rd_desk.specs.Watching.{Watching, WatchingStandsFor}
@@ -59,6 +61,19 @@ to_parts rows w h = record { queries = h.queries; placed = h.placed; watches = h
 
 pub from_parts : (rows : List Row) (w : Watching) → StandsIn rows w → WatchingStandsFor rows w
 from_parts rows w h = record { queries = h.queries; placed = h.placed; watches = h.watches; observers = h.observers; confirmable = h.confirmable; unmarked = h.unmarked; bodies = h.bodies }
+
+-- no observers, in the journal without a row
+pub WatchingStandsFor-empty : WatchingStandsFor [] (record { watches = []; observers = [] })
+unfolding events transitions observers
+WatchingStandsFor-empty = record {
+  queries = λ place. record { kind = kind.Resource; criteria = []; page = None; count = None };
+  placed = tt;
+  watches = record { watchers = λ query. refl; some = tt; apart = tt };
+  observers = empty-StandsFor (λ place. record { kind = kind.Resource; criteria = []; page = None; count = None }) (octets_sent []);
+  confirmable = tt;
+  unmarked = tt;
+  bodies = tt;
+}
 
 -- ---- one thing more that enters nothing
 

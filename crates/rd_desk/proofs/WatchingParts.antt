@@ -99,7 +99,7 @@ noted_aside octets past seen history moment w place at word notes none h =
 -- ---- changes of the registrations
 
 -- marks and bodies leave queries and watchers
-touched_where-Keeps : (test : Query → Bool) → Keeps (touched_where test)
+pub touched_where-Keeps : (test : Query → Bool) → Keeps (touched_where test)
 touched_where-Keeps test = record { query = λ w. query w (test w.query); watchers = λ w. watchers w (test w.query) }
   where
     query : (w : Watched) (b : Bool) → (cond b (record w { marked = true; body = None }) w).query ≡ w.query
@@ -122,7 +122,7 @@ pub placed_kept : (change : Watched → Watched) → Keeps change → (queries :
 placed_kept change keeps queries t ws placed =
     each_weaker (IsPlaced t queries) (IsPlaced (map (λ (e : ℕ × Watched). (e.0, change e.1)) t) queries) (λ x p. query_kept change keeps x.place t ∙ p) ws placed
 
-unmarked-Keeps : Keeps unmarked
+pub unmarked-Keeps : Keeps unmarked
 unmarked-Keeps = record { query = λ w. refl; watchers = λ w. refl }
 
 -- the query of an observer is marked exactly where it passes
