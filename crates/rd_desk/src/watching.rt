@@ -162,7 +162,8 @@ impl Watching {
         requires { index < length self.now.observers }
         ensures { (rows : List Row) (o : Observed) → WatchingStandsFor rows self.now → slice_get (observers (events rows)) index ≡ Some o → result.now ≡ o.query }
     {
-        self.watches.query(joining::place_at(&self.observers, index))
+        self.watches
+            .query(joining::place_at(&self.observers, index))
     }
 
     /// The body of the query of the observer with an index, where one is kept: it is the listing now.

@@ -1,4 +1,4 @@
-use Rattle.std.proofs.Common.{map, refl, sym, ap, subst, ◌∙◌}
+use Rattle.std.proofs.Common.{map, refl, sym, subst, ◌∙◌}
 use Rattle.event_model.specs.declared.notes.Note.TheVariants as note
 use Rattle.event_model.specs.declared.notes.Observer.{Observer}
 use Rattle.journal_model.specs.Effects.{joined, noting}

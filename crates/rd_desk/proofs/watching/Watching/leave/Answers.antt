@@ -1,13 +1,11 @@
-use Rattle.std.proofs.Common.{List, Bool, find, option_map, sym, ap, ap₂, subst, ◌∙◌}
-use Rattle.rd_base.specs.Firsts.{without_first}
+use Rattle.std.proofs.Common.{sym, ap₂, subst, ◌∙◌}
 use Rattle.journal_model.specs.Effects.{joined, noting}
 use Rattle.journal_model.specs.Journal.{events}
 use Rattle.journal_model.specs.Lookups.{removal}
 use Rattle.journal_model.specs.UnfinishedRow.{making}
 use Rattle.event_model.specs.Observers.{observers}
-use Rattle.watch_table.specs.WatchedQueries.{without}
 use Rattle.observers.specs.Watchers.{is_named}
-use Rattle.rd_desk.specs.Watching.{Watching, AreWatched, WatchingStandsFor}
+use Rattle.rd_desk.specs.Watching.{WatchingStandsFor}
 use Rattle.rd_desk.proofs.JoiningLaws.{is_observer-StandsFor}
 use Rattle.rd_desk.proofs.WatchedLaws.{left-AreWatched, both-AreWatched}
 use Rattle.rd_desk.proofs.WatchingNotes.{WatchingStandsFor-left}

@@ -6,7 +6,7 @@ use Rattle.journal_model.specs.EmptyMessages.{waited_for}
 use Rattle.journal_model.specs.Journal.{events}
 use Rattle.journal_model.specs.UnfinishedRow.{making}
 use Rattle.observers.specs.Watchers.{has_notice}
-use Rattle.rd_desk.specs.Watching.{Watching, WatchingStandsFor}
+use Rattle.rd_desk.specs.Watching.{WatchingStandsFor}
 use Rattle.rd_desk.proofs.JoiningLaws.{is_waited-StandsFor}
 use Rattle.rd_desk.proofs.WatchedLaws.{left-AreWatched, both-AreWatched}
 use Rattle.rd_desk.proofs.WatchingNotes.{WatchingStandsFor-reset}
