@@ -1,4 +1,5 @@
-use Rattle.std.proofs.Common.{refl, arith}
+use Rattle.std.proofs.Common.{◌≡◌, refl, arith}
+use Rattle.message_model.specs.Blocks.{block_size}
 use Rattle.rd_desk.proofs.ReplySizes.{block_short}
 use Rattle.rd_desk.proofs.bodies.body_reply.Goals as goal
 
