@@ -19,16 +19,6 @@ find-later test xs i x there fails =
     let next : i + 1 ≡ suc i = omega arith in
     ap (λ n. find test (drop n xs)) next ∙ (sym (ap (λ b. cond b (Some x) (find test (drop (suc i) xs))) fails) ∙ sym (ap (find test) (from_index xs i x there)))
 
-drop_past : (xs : List Watcher) (i : ℕ) → length xs ≤ i → drop i xs ≡ []
-drop_past [] zero past = refl
-drop_past [] (suc i) past = refl
-drop_past (x ∷ xs) zero past = absurd (omega (arith, past))
-drop_past (x ∷ xs) (suc i) past = drop_past xs i (omega (arith, past))
-
--- at the end of the walk
-pub find-past : (test : Watcher → Bool) (xs : List Watcher) (i : ℕ) → length xs ≤ i → find test (drop i xs) ≡ None
-find-past test xs i past = ap (find test) (drop_past xs i past)
-
 -- an index past all
 pub past-all : (xs : List Watcher) (i : ℕ) → None ≡ slice_get xs i → length xs ≤ i
 past-all [] i none = omega arith

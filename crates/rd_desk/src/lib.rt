@@ -19,3 +19,5 @@ pub use requests::is_look;
 
 #[cfg(test)]
 mod tests;
+#[cfg(test)]
+mod watching_tests;
