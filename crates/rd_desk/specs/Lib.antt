@@ -4,5 +4,9 @@ pub mod Sendings
 pub mod Asking
 pub mod Writing
 pub mod Watching
+pub mod Marks
+pub mod Entering
+pub mod Joining
+pub mod Noticing
 pub mod Desks
 pub mod UnderWay

@@ -3,12 +3,15 @@
 
 mod bodies;
 mod empty_messages;
+mod joining;
+mod marks;
 mod mids;
 mod outbox;
 mod refusals;
 mod refused_requests;
 mod replies;
 mod requests;
+mod watching;
 
 pub use mids::Mids;
 pub use outbox::Outbox;
@@ -16,3 +19,5 @@ pub use requests::is_look;
 
 #[cfg(test)]
 mod tests;
+#[cfg(test)]
+mod watching_tests;
