@@ -5,9 +5,9 @@ use Rattle.history_model.specs.declared.entries.Entry.{Entry}
 use Rattle.history_model.specs.Versions.{Version, VersionStandsFor}
 use Rattle.event_model.specs.declared.notes.Note.{Note}
 use Rattle.event_model.specs.Events.{Event, noted}
-use Rattle.event_model.specs.Observers.{observe_values_sent}
+use Rattle.event_model.specs.Observers.{is_forming, observe_values_sent}
 use Rattle.event_model.proofs.AsideLaws.{notes_aside}
-use Rattle.event_model.proofs.AsideTables.{about_exchanges, about_observers, exchanges_at-noted}
+use Rattle.event_model.proofs.AsideTables.{about_exchanges, exchanges_at-noted}
 use Rattle.event_model.proofs.CounterLaws.{observe_values_sent-event}
 use Rattle.journal_model.specs.declared.steps.Step.{Step}
 use Rattle.journal_model.specs.declared.rows.Row.{Row}
@@ -19,7 +19,6 @@ use Rattle.exchange_core.specs.Table as exchanges
 use Rattle.exchange_core.specs.ExchangeEvents.{ExchangesStandFor}
 use Rattle.rd_desk.specs.Desks.{DirectoryStandsFor}
 use Rattle.rd_desk.proofs.MakingLaws.{now-making_joined, entries-making_joined}
-use Rattle.rd_desk.proofs.NoteTopics.{no_forming}
 
 -- the directory
 pub DirectoryStandsFor-aside : (rows : List Row) (s : Step) (starved : Bool) (done more : Effects) (v : Version) → entries_in more.notes ≡ []
@@ -38,10 +37,10 @@ pub ExchangesStandFor-noted : (at place moment word : ℕ) (notes : List Note) (
 ExchangesStandFor-noted at place moment word notes past t none stands = record { kept = stands.kept ∙ sym (exchanges_at-noted at place moment word notes past none) }
 
 -- the count of Observe values
-pub observe_values_sent-aside : (count place moment word : ℕ) (notes : List Note) (past : List Event) → list_any about_observers notes ≡ false
+pub observe_values_sent-aside : (count place moment word : ℕ) (notes : List Note) (past : List Event) → list_any is_forming notes ≡ false
     → count ≡ observe_values_sent past → count ≡ observe_values_sent (noted place moment word notes past)
-observe_values_sent-aside count place moment word notes past none h = notes_aside about_observers (λ before. count ≡ observe_values_sent before) one place moment word notes past none h
+observe_values_sent-aside count place moment word notes past none h = notes_aside is_forming (λ before. count ≡ observe_values_sent before) one place moment word notes past none h
   where
-    one : (e : Event) (before : List Event) → about_observers e.note ≡ false → count ≡ observe_values_sent before → count ≡ observe_values_sent (e ∷ before)
+    one : (e : Event) (before : List Event) → is_forming e.note ≡ false → count ≡ observe_values_sent before → count ≡ observe_values_sent (e ∷ before)
     one e before other g =
-        g ∙ sym (observe_values_sent-event e before ∙ ap (λ b. cond b ((observe_values_sent before + 1) % 2 ^ 64) (observe_values_sent before)) (no_forming e.note other))
+        g ∙ sym (observe_values_sent-event e before ∙ ap (λ b. cond b ((observe_values_sent before + 1) % 2 ^ 64) (observe_values_sent before)) other)

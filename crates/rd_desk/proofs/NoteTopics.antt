@@ -148,6 +148,9 @@ no_requests e none = each_failing about_fetches (IsRequestSent e.sent) by e.note
     by _ h = tt
 
 -- and notes that are not about observers form no body
-pub no_forming : (n : Note) → about_observers n ≡ false → is_forming n ≡ false
-no_forming (note.Formed peer token body mid) h = absurd (false≢true (sym h))
-no_forming _ h = refl
+pub no_bodies : (one : Topic) (notes : List Note) → differ observers one ≡ true → AreAbout one notes → list_any is_forming notes ≡ false
+no_bodies one notes other h = none_pass about_observers is_forming by notes (no_observers one notes other h)
+  where
+    by : (n : Note) → about_observers n ≡ false → is_forming n ≡ false
+    by (note.Formed peer token body mid) g = absurd (false≢true (sym g))
+    by _ g = refl

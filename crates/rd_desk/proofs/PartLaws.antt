@@ -1,9 +1,9 @@
 -- A part of a step that changes one table of a desk alone, or none.
-use Rattle.std.proofs.Common.{◌≡◌, ℕ, Bool, true, List, [], length, refl, sym, ap, subst}
+use Rattle.std.proofs.Common.{◌≡◌, ℕ, Bool, true, false, List, [], length, refl, sym, ap, subst}
 use Rattle.std.specs.List.{list_any}
 use Rattle.rd_base.specs.declared.peers.Peer.{Peer}
 use Rattle.history_model.specs.Versions.{Version}
-use Rattle.event_model.specs.Observers.{observe_values_sent}
+use Rattle.event_model.specs.Observers.{is_forming, observe_values_sent}
 use Rattle.journal_model.specs.declared.steps.Step.{Step}
 use Rattle.journal_model.specs.declared.rows.Row.{Row}
 use Rattle.journal_model.specs.Effects.{Effects, joined}
@@ -26,7 +26,7 @@ use Rattle.rd_desk.specs.UnderWay.{UnderWay}
 use Rattle.rd_desk.specs.Watching.{Watching, WatchingStandsFor}
 use Rattle.rd_desk.proofs.AsideLaws.{DirectoryStandsFor-aside, ExchangesStandFor-noted, observe_values_sent-aside}
 use Rattle.rd_desk.proofs.NoteTopics as topic
-use Rattle.rd_desk.proofs.NoteTopics.{Topic, differ, AreAbout, no_exchanges, no_uploads, no_answers, no_observers, no_fetches, no_entries, no_requests}
+use Rattle.rd_desk.proofs.NoteTopics.{Topic, differ, AreAbout, no_exchanges, no_uploads, no_answers, no_observers, no_fetches, no_entries, no_requests, no_bodies}
 use Rattle.rd_desk.proofs.WatchingLaws.{WatchingStandsFor-aside}
 use Rattle.rd_desk.proofs.WayLaws.{noting_more, more}
 
@@ -48,10 +48,9 @@ left_fetches : (one : Topic) (rows : List Row) (s : Step) (starved : Bool) (done
 left_fetches one rows s starved done e t other alone stands =
     FetchesStandFor-noted (octets_sent (making rows s starved (joined done e))) t (length rows) (row_moment rows s) s.word e.notes (events (making rows s starved done)) (no_fetches one e.notes other alone) stands
 
-left_observed : (one : Topic) (rows : List Row) (s : Step) (starved : Bool) (done e : Effects) (count : ℕ) → differ topic.observers one ≡ true → AreAbout one e.notes
+left_observed : (rows : List Row) (s : Step) (starved : Bool) (done e : Effects) (count : ℕ) → list_any is_forming e.notes ≡ false
     → count ≡ observe_values_sent (events (making rows s starved done)) → count ≡ observe_values_sent (noting_more rows s e.notes (events (making rows s starved done)))
-left_observed one rows s starved done e count other alone h =
-    observe_values_sent-aside count (length rows) (row_moment rows s) s.word e.notes (events (making rows s starved done)) (no_observers one e.notes other alone) h
+left_observed rows s starved done e count none h = observe_values_sent-aside count (length rows) (row_moment rows s) s.word e.notes (events (making rows s starved done)) none h
 
 left_directory : (one : Topic) (rows : List Row) (s : Step) (starved : Bool) (done e : Effects) (v : Version) → differ topic.registrations one ≡ true → AreAbout one e.notes
     → DirectoryStandsFor (making rows s starved done) v → DirectoryStandsFor (making rows s starved (joined done e)) v
@@ -77,7 +76,7 @@ more_exchanges rows s starved done e x d t out sent mids_before mids seen alone 
     (left_transfers topic.exchanges rows s starved done e x.transfers refl alone)
     (left_watching topic.exchanges rows s starved done e x.watching refl refl alone)
     (left_fetches topic.exchanges rows s starved done e x.fetches refl alone)
-    (left_observed topic.exchanges rows s starved done e x.observed refl alone)
+    (left_observed rows s starved done e x.observed (no_bodies topic.exchanges e.notes refl alone))
     (no_requests e (no_fetches topic.exchanges e.notes refl alone)) sends
     (subst (λ (y : Seen). UnderWay rows s starved done y out mids_before) (sym seen) way)
 
@@ -94,11 +93,11 @@ more_transfers rows s starved done e x d t out sent mids_before mids seen alone 
     stands
     (left_watching topic.transfers rows s starved done e x.watching refl refl alone)
     (left_fetches topic.transfers rows s starved done e x.fetches refl alone)
-    (left_observed topic.transfers rows s starved done e x.observed refl alone)
+    (left_observed rows s starved done e x.observed (no_bodies topic.transfers e.notes refl alone))
     (no_requests e (no_fetches topic.transfers e.notes refl alone)) sends
     (subst (λ (y : Seen). UnderWay rows s starved done y out mids_before) (sym seen) way)
 
--- about the observers alone; Observe values may be given
+-- about the observers alone; an Observe value may be given
 pub more_watching : (rows : List Row) (s : Step) (starved : Bool) (done e : Effects) (x d : Seen) (w : Watching) (count : ℕ) (out sent : List (Peer × List ℕ)) (mids_before mids : Mids) → x ≡ d
     → AreAbout topic.observers e.notes
     → (WatchingStandsFor (making rows s starved done) x.watching → WatchingStandsFor (making rows s starved (joined done e)) w)
@@ -115,6 +114,14 @@ more_watching rows s starved done e x d w count out sent mids_before mids seen a
     (no_requests e (no_fetches topic.observers e.notes refl alone)) sends
     (subst (λ (y : Seen). UnderWay rows s starved done y out mids_before) (sym seen) way)
 
+-- and none is, where no body is formed
+pub more_unformed : (rows : List Row) (s : Step) (starved : Bool) (done e : Effects) (x d : Seen) (w : Watching) (out sent : List (Peer × List ℕ)) (mids_before mids : Mids) → x ≡ d
+    → AreAbout topic.observers e.notes → list_any is_forming e.notes ≡ false
+    → (WatchingStandsFor (making rows s starved done) x.watching → WatchingStandsFor (making rows s starved (joined done e)) w)
+    → Sends e out sent mids_before mids → UnderWay rows s starved done d out mids_before → UnderWay rows s starved (joined done e) (record x { watching = w }) sent mids
+more_unformed rows s starved done e x d w out sent mids_before mids seen alone none stands sends way =
+    more_watching rows s starved done e x d w x.observed out sent mids_before mids seen alone stands (left_observed rows s starved done e x.observed none) sends way
+
 -- about the fetches alone; their octets are those that the rows sent with this part
 pub more_fetches : (rows : List Row) (s : Step) (starved : Bool) (done e : Effects) (x d : Seen) (t : fetches.Table) (out sent : List (Peer × List ℕ)) (mids_before mids : Mids) → x ≡ d
     → AreAbout topic.fetches e.notes
@@ -128,7 +135,7 @@ more_fetches rows s starved done e x d t out sent mids_before mids seen alone st
     (left_transfers topic.fetches rows s starved done e x.transfers refl alone)
     (left_watching topic.fetches rows s starved done e x.watching refl refl alone)
     stands
-    (left_observed topic.fetches rows s starved done e x.observed refl alone)
+    (left_observed rows s starved done e x.observed (no_bodies topic.fetches e.notes refl alone))
     requests sends
     (subst (λ (y : Seen). UnderWay rows s starved done y out mids_before) (sym seen) way)
 
@@ -145,7 +152,7 @@ more_registrations rows s starved done e x d v w out sent mids_before mids seen 
     (left_transfers topic.registrations rows s starved done e x.transfers refl alone)
     watching
     (left_fetches topic.registrations rows s starved done e x.fetches refl alone)
-    (left_observed topic.registrations rows s starved done e x.observed refl alone)
+    (left_observed rows s starved done e x.observed (no_bodies topic.registrations e.notes refl alone))
     (no_requests e (no_fetches topic.registrations e.notes refl alone)) sends
     (subst (λ (y : Seen). UnderWay rows s starved done y out mids_before) (sym seen) way)
 
