@@ -3,3 +3,13 @@ mod ReplySizes
 mod AskedLaws
 mod SendingLaws
 mod RefusalLaws
+mod EffectLaws
+mod MakingLaws
+mod FetchLaws
+mod NoteTopics
+mod AsideLaws
+mod WayLaws
+mod PartLaws
+mod DeskLaws
+mod WriteLaws
+mod EmptyMessageLaws

@@ -4,5 +4,7 @@ pub mod Sendings
 pub mod Asking
 pub mod Writing
 pub mod Watching
+pub mod WriteJobs
+pub mod Admitting
 pub mod Desks
 pub mod UnderWay
