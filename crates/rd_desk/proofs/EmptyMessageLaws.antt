@@ -142,3 +142,41 @@ reset_parts peer mid past answer is = ap (λ (ns : List Note). noting (removals 
     by : (b : Bool) → note_if b (note.Ceased peer) ≡ (if b then note.Ceased peer ∷ [] else [])
     by true = refl
     by false = refl
+
+-- the step of an acknowledgement, by what the watched queries and the fetches ensure
+pub acknowledged_more : (rows : List Row) (s : Step) (starved : Bool) (x d : Seen) (w : Watching) (t : Table) (out : List (Peer × List ℕ)) (mids : Mids) (peer : Peer) (mid : ℕ) (answer : Bool) → x ≡ d → s.peer ≡ peer
+    → ((done : Effects) → WatchingStandsFor (making rows s starved done) x.watching
+    → WatchingStandsFor (making rows s starved (joined done (noting (landings peer mid (waited_for peer mid (events (making rows s starved done))))))) w)
+    → ((octets : OctetsSent) (past : List Event) → FetchesStandFor octets past x.fetches → answer ≡ is_last_request peer mid past)
+    → ((octets : OctetsSent) (past : List Event) (e : Event) → FetchesStandFor octets past x.fetches → answer ≡ true → e.note ≡ note.Waiting peer → FetchesStandFor octets (e ∷ past) t) → (answer ≡ false → t ≡ x.fetches)
+    → UnderWay rows s starved nothing d out mids → UnderWay rows s starved (acknowledged s.peer mid (events rows)) (record x { watching = w; fetches = t }) out mids
+acknowledged_more rows s starved x d w t out mids peer mid answer seen of stands answered told kept way =
+    let begun : List Event = events (making rows s starved nothing) in
+    let landed : Effects = joined nothing (noting (landings peer mid (waited_for peer mid begun))) in
+    let first = landed_more rows s starved nothing x d w out mids peer mid (waited_for peer mid begun) seen (stands nothing) way in
+    let second = fetch_more rows s starved landed (record x { watching = w }) (record x { watching = w }) t out mids (note.Waiting peer) answer refl refl tt told kept first in
+    let same : begun ≡ events rows = events-making_nothing rows s starved in
+    let last : answer ≡ is_last_request peer mid begun =
+    answered (octets_sent (making rows s starved landed)) (events (making rows s starved landed)) first.stands.fetches
+    ∙ (last_request-landed rows s starved peer mid peer (waited_for peer mid begun) ∙ ap (is_last_request peer mid) (sym same)) in
+    subst (λ (e : Effects). UnderWay rows s starved e (record x { watching = w; fetches = t }) out mids)
+    (acknowledged_parts peer mid begun answer last ∙ (ap (acknowledged peer mid) same ∙ ap (λ (p : Peer). acknowledged p mid (events rows)) (sym of))) second
+
+-- and that of a Reset
+pub reset_more : (rows : List Row) (s : Step) (starved : Bool) (x d : Seen) (w : Watching) (t : Table) (out : List (Peer × List ℕ)) (mids : Mids) (peer : Peer) (mid : ℕ) (answer : Bool) → x ≡ d → s.peer ≡ peer
+    → ((done : Effects) → WatchingStandsFor (making rows s starved done) x.watching
+    → WatchingStandsFor (making rows s starved (joined done (noting (removals (waited_for peer mid (events (making rows s starved done))))))) w)
+    → ((octets : OctetsSent) (past : List Event) → FetchesStandFor octets past x.fetches → answer ≡ is_last_request peer mid past)
+    → ((octets : OctetsSent) (past : List Event) (e : Event) → FetchesStandFor octets past x.fetches → answer ≡ true → e.note ≡ note.Ceased peer → FetchesStandFor octets (e ∷ past) t) → (answer ≡ false → t ≡ x.fetches)
+    → UnderWay rows s starved nothing d out mids → UnderWay rows s starved (reset s.peer mid (events rows)) (record x { watching = w; fetches = t }) out mids
+reset_more rows s starved x d w t out mids peer mid answer seen of stands answered told kept way =
+    let begun : List Event = events (making rows s starved nothing) in
+    let removed : Effects = joined nothing (noting (removals (waited_for peer mid begun))) in
+    let first = removed_more rows s starved nothing x d w out mids (waited_for peer mid begun) seen (stands nothing) way in
+    let second = fetch_more rows s starved removed (record x { watching = w }) (record x { watching = w }) t out mids (note.Ceased peer) answer refl refl tt told kept first in
+    let same : begun ≡ events rows = events-making_nothing rows s starved in
+    let last : answer ≡ is_last_request peer mid begun =
+    answered (octets_sent (making rows s starved removed)) (events (making rows s starved removed)) first.stands.fetches
+    ∙ (last_request-removed rows s starved peer mid (waited_for peer mid begun) ∙ ap (is_last_request peer mid) (sym same)) in
+    subst (λ (e : Effects). UnderWay rows s starved e (record x { watching = w; fetches = t }) out mids)
+    (reset_parts peer mid begun answer last ∙ (ap (reset peer mid) same ∙ ap (λ (p : Peer). reset p mid (events rows)) (sym of))) second

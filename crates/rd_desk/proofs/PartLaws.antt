@@ -6,7 +6,7 @@ use Rattle.history_model.specs.Versions.{Version}
 use Rattle.event_model.specs.Observers.{is_forming, observe_values_sent}
 use Rattle.journal_model.specs.declared.steps.Step.{Step}
 use Rattle.journal_model.specs.declared.rows.Row.{Row}
-use Rattle.journal_model.specs.Effects.{Effects, joined}
+use Rattle.journal_model.specs.Effects.{Effects, nothing, joined}
 use Rattle.journal_model.specs.Journal.{events}
 use Rattle.journal_model.specs.Rows.{row_moment}
 use Rattle.journal_model.specs.Ticks.{octets_sent}
@@ -28,7 +28,7 @@ use Rattle.rd_desk.proofs.AsideLaws.{DirectoryStandsFor-aside, ExchangesStandFor
 use Rattle.rd_desk.proofs.NoteTopics as topic
 use Rattle.rd_desk.proofs.NoteTopics.{Topic, differ, AreAbout, no_exchanges, no_uploads, no_answers, no_observers, no_fetches, no_entries, no_requests, no_bodies}
 use Rattle.rd_desk.proofs.WatchingLaws.{WatchingStandsFor-aside}
-use Rattle.rd_desk.proofs.WayLaws.{noting_more, more}
+use Rattle.rd_desk.proofs.WayLaws.{noting_more, more, only}
 
 -- what a part leaves whose notes are about one thing alone
 left_exchanges : (one : Topic) (rows : List Row) (s : Step) (starved : Bool) (done e : Effects) (t : exchanges.Table) → differ topic.exchanges one ≡ true → AreAbout one e.notes
@@ -162,3 +162,8 @@ pub more_silent : (rows : List Row) (s : Step) (starved : Bool) (done e : Effect
 more_silent rows s starved done e d out sent mids_before mids silent sends way =
     more_exchanges rows s starved done e d d d.exchanges out sent mids_before mids refl (ap (list_any (topic.is_beside topic.exchanges)) silent)
     (left_exchanges topic.transfers rows s starved done e d.exchanges refl (ap (list_any (topic.is_beside topic.transfers)) silent)) sends way
+
+-- and where it is the whole step
+pub only_silent : (rows : List Row) (s : Step) (starved : Bool) (e : Effects) (d : Seen) (out sent : List (Peer × List ℕ)) (mids_before mids : Mids) → e.notes ≡ []
+    → Sends e out sent mids_before mids → UnderWay rows s starved nothing d out mids_before → UnderWay rows s starved e d sent mids
+only_silent rows s starved e d out sent mids_before mids silent sends way = only rows s starved e d sent mids (more_silent rows s starved nothing e d out sent mids_before mids silent sends way)

@@ -27,7 +27,7 @@ use Rattle.rd_desk.specs.Desks.{Seen, DirectoryStandsFor, StandsFor}
 use Rattle.rd_desk.specs.Sendings.{IsStepOf, Sends, AreRequestsSent}
 use Rattle.rd_desk.specs.UnderWay.{UnderWay, IsCalled, Made}
 use Rattle.rd_desk.specs.Watching.{Watching, WatchingStandsFor}
-use Rattle.rd_desk.proofs.EffectLaws.{drawing-more}
+use Rattle.rd_desk.proofs.EffectLaws.{joined-nothing_first, drawing-more}
 use Rattle.rd_desk.proofs.FetchLaws.{FetchesStandFor-sent}
 use Rattle.rd_desk.proofs.MakingLaws.{entries-making_nothing, now-making_joined, requests-joined}
 
@@ -155,6 +155,10 @@ stood rows s starved done before after out mids goes way = record {
   worker = way.worker;
   drawn = way.drawn;
 }
+
+-- what was done after nothing is all that was done
+pub only : (rows : List Row) (s : Step) (starved : Bool) (e : Effects) (d : Seen) (out : List (Peer × List ℕ)) (mids : Mids) → UnderWay rows s starved (joined nothing e) d out mids → UnderWay rows s starved e d out mids
+only rows s starved e d out mids way = subst (λ (f : Effects). UnderWay rows s starved f d out mids) (joined-nothing_first e) way
 
 -- ---- it ends
 

@@ -9,7 +9,7 @@ use Rattle.event_model.specs.Repeats.{repeated, settled, is_full_of_exchanges}
 use Rattle.event_model.proofs.NotedLaws.{event_at}
 use Rattle.journal_model.specs.declared.steps.Step.{Step}
 use Rattle.journal_model.specs.declared.rows.Row.{Row}
-use Rattle.journal_model.specs.Effects.{Effects, nothing, noting, sending, diagnostic, answering}
+use Rattle.journal_model.specs.Effects.{Effects, nothing, noting, sending, diagnostic, answering, without_memory}
 use Rattle.journal_model.specs.Journal.{events}
 use Rattle.journal_model.specs.Rows.{row_moment}
 use Rattle.journal_model.specs.UnfinishedRow.{IsReady, making}
@@ -24,11 +24,11 @@ use Rattle.rd_desk.specs.declared.mids.Mids.{Mids}
 use Rattle.rd_desk.specs.Desks.{Seen}
 use Rattle.rd_desk.specs.Sendings.{Sends}
 use Rattle.rd_desk.specs.UnderWay.{UnderWay}
-use Rattle.rd_desk.proofs.EffectLaws.{joined-nothing_first}
+use Rattle.rd_desk.specs.WriteJobs.{Write}
 use Rattle.rd_desk.proofs.NoteTopics as topic
 use Rattle.rd_desk.proofs.NoteTopics.{AreAbout}
 use Rattle.rd_desk.proofs.PartLaws.{more_exchanges}
-use Rattle.rd_desk.proofs.WayLaws.{noting_more, way_moment}
+use Rattle.rd_desk.proofs.WayLaws.{noting_more, way_moment, only}
 
 -- what is done for each answer
 abbrev pub done_for : Keyed → Step → Message → Effects
@@ -114,6 +114,19 @@ pub write_more : (rows : List Row) (s : Step) (starved : Bool) (m : Message) (se
 write_more rows s starved m sender x d after answer is out sent mids_before mids seen keys which of sends way =
     let here = subst (λ (y : Seen). UnderWay rows s starved nothing y out mids_before) (sym seen) way in
     subst (λ (e : Effects). UnderWay rows s starved e (record x { exchanges = after }) sent mids)
-    (joined-nothing_first (done_for is s m) ∙ sym (write_is rows s starved m sender x d after answer is out mids_before seen keys which of way))
+    (sym (write_is rows s starved m sender x d after answer is out mids_before seen keys which of way))
+    (only rows s starved (done_for is s m) (record x { exchanges = after }) sent mids
     (more_exchanges rows s starved nothing (done_for is s m) x d after out sent mids_before mids seen (about_write is s m)
-    (λ before. stands_after rows s starved m sender x after answer is out mids_before keys which of here) sends way)
+    (λ before. stands_after rows s starved m sender x after answer is out mids_before keys which of here) sends way))
+
+-- the job of a write, by its parts
+pub job_same : (one other : Write) → one.peer ≡ other.peer → one.datagram ≡ other.datagram → one.admitted ≡ other.admitted → one ≡ other
+job_same one other peer datagram admitted =
+    let made = λ (p : Peer) (xs : List ℕ) (n : ℕ). let w : Write = record { peer = p; datagram = xs; admitted = n } in w in
+    ap (λ (p : Peer). made p one.datagram one.admitted) peer
+    ∙ (ap (λ (xs : List ℕ). made other.peer xs one.admitted) datagram ∙ ap (λ (n : ℕ). made other.peer other.datagram n) admitted)
+
+-- out of memory a request is answered, and nothing is noted
+pub without_memory-notes : (s : Step) (m : Message) → (without_memory s m).notes ≡ []
+unfolding answering
+without_memory-notes s m = refl

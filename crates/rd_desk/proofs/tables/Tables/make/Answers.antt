@@ -1,0 +1,10 @@
+use Rattle.std.proofs.Common.{◌≡◌, [], refl, sym, ap, subst, ◌∙◌}
+use Rattle.history_model.specs.Versions.{Version, VersionStandsFor}
+use Rattle.rd_desk.proofs.DeskLaws.{StandsFor-none}
+use Rattle.rd_desk.proofs.tables.Tables.make.Goals as goal
+
+pub returns : goal.returns
+returns c =
+    let same = c.in_ok-version.ensures.ok in
+    StandsFor-none _ refl (subst (VersionStandsFor 0 []) (sym same) c.in_ok-empty.ensures.stands) (ap (λ (v : Version). v.swept) same ∙ c.in_ok-empty.ensures.unswept) c.in_ok-exchanges.ensures.stands
+    c.in_ok-transfers.ensures c.in_ok-watching.ensures c.in_ok-fetches.ensures refl
