@@ -13,3 +13,12 @@ mod PartLaws
 mod DeskLaws
 mod WriteLaws
 mod EmptyMessageLaws
+mod MarkLaws
+pub mod WatchingParts
+pub mod WatchingLaws
+mod WatchedLaws
+mod FoundObservers
+mod WatcherParts
+mod WatchingNotes
+mod JoiningLaws
+mod TickLaws

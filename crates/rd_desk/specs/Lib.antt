@@ -6,5 +6,9 @@ pub mod Writing
 pub mod Watching
 pub mod WriteJobs
 pub mod Admitting
+pub mod Marks
+pub mod Entering
+pub mod Joining
+pub mod Noticing
 pub mod Desks
 pub mod UnderWay

@@ -6,6 +6,8 @@ mod bodies;
 mod empty_messages;
 mod heard_empties;
 mod heard_writes;
+mod joining;
+mod marks;
 mod mids;
 mod outbox;
 mod refusals;
