@@ -13,6 +13,7 @@ mod PartLaws
 mod DeskLaws
 mod WriteLaws
 mod EmptyMessageLaws
+mod AdmissionLaws
 mod MarkLaws
 pub mod WatchingParts
 pub mod WatchingLaws
