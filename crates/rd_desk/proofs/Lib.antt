@@ -7,6 +7,17 @@ mod ReplySizes
 mod AskedLaws
 mod SendingLaws
 mod RefusalLaws
+mod EffectLaws
+mod MakingLaws
+mod FetchLaws
+mod NoteTopics
+mod AsideLaws
+mod WayLaws
+mod PartLaws
+mod DeskLaws
+mod WriteLaws
+mod EmptyMessageLaws
+mod AdmissionLaws
 mod MarkLaws
 mod WalkLaws
 mod FoundObservers

@@ -4,6 +4,8 @@ pub mod Sendings
 pub mod Asking
 pub mod Writing
 pub mod Watching
+pub mod WriteJobs
+pub mod Admitting
 pub mod Marks
 pub mod Entering
 pub mod Joining
