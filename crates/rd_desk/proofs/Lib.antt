@@ -3,3 +3,4 @@ mod ReplySizes
 mod AskedLaws
 mod SendingLaws
 mod RefusalLaws
+mod LookLaws

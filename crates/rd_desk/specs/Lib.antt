@@ -6,3 +6,5 @@ pub mod Writing
 pub mod Watching
 pub mod Desks
 pub mod UnderWay
+pub mod Jobs
+pub mod Looking

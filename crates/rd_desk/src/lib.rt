@@ -3,6 +3,8 @@
 
 mod bodies;
 mod empty_messages;
+mod jobs;
+mod looks;
 mod mids;
 mod outbox;
 mod refusals;
@@ -10,6 +12,8 @@ mod refused_requests;
 mod replies;
 mod requests;
 
+pub use jobs::KeepJob;
+pub use looks::{Looked, look};
 pub use mids::Mids;
 pub use outbox::Outbox;
 pub use requests::is_look;
