@@ -29,7 +29,6 @@ impl Directory {
         ensures listing { (first : ℕ) (history : List Entry) → VersionStandsFor first history self.now → IfOk result (λ octets. octets ≡ listing query.now history now.0) }
         ensures counted { (entries : List index.Entry) (criterion : Criterion) → AreEntriesOf self.now.records entries → Contains (attribute_criteria query.now.criteria) criterion → steps.new ≤ steps.old + length (attribute_criteria query.now.criteria) * (length (index.carriers_of criterion.name criterion.pattern entries) + 1) }
     {
-        let _ = (query, now, steps);
         Err(Starved)
     }
 }
