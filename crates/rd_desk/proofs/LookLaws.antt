@@ -2,6 +2,9 @@
 use Rattle.std.proofs.Common.{◌≡◌, ℕ, Bool, true, false, not, ◌&&◌, ◌||◌, List, Option, Some, None, option_map, option_and_then, is_some, is_none, Result, Ok, Err, refl, sym, ap, subst, ◌∙◌}
 use Rattle.std.proofs.lemmas.Bool.{and_parts}
 use Rattle.rd_base.specs.declared.peers.Peer.{Peer}
+use Rattle.rd_base.specs.declared.queries.Kind.{Kind}
+use Rattle.rd_base.specs.declared.queries.Query.{Query}
+use Rattle.message_model.specs.declared.blocks.Block.{Block}
 use Rattle.message_model.specs.declared.messages.Role.{Role}
 use Rattle.message_model.specs.declared.messages.Role.TheVariants as role
 use Rattle.message_model.specs.declared.messages.Unread.{Unread}
@@ -13,18 +16,18 @@ use Rattle.message_model.specs.Reading.{reading}
 use Rattle.message_model.specs.Refusals.{refusal_of}
 use Rattle.message_model.specs.Request.{path_in, queries_in, observe_in}
 use Rattle.record_model.specs.Faults.{Fault}
-use Rattle.record_model.specs.Criteria.{lookup_fault, fault_of}
+use Rattle.record_model.specs.Parameters.{unless_fault}
+use Rattle.record_model.specs.Criteria.{lookup_fault, lookup_values, lookup_query, fault_of}
 use Rattle.record_model.specs.Discovery.{discovery}
 use Rattle.history_model.specs.declared.entries.Entry.{Entry}
 use Rattle.history_model.specs.Listing.{listing, tag}
-use Rattle.event_model.specs.KeptAnswers.{Answer}
 use Rattle.journal_model.specs.declared.steps.Step.{Step}
-use Rattle.journal_model.specs.Effects.{Effects, without_memory}
-use Rattle.journal_model.specs.Requests.{reading_of, has_bad_query, is_lookup, is_discovery, is_later_block, is_heeded, only_looks, query_of, asked_block, refusal_of_request, refusal_or_next, is_look_request}
+use Rattle.journal_model.specs.Effects.{Reply, without_memory}
+use Rattle.journal_model.specs.Requests.{reading_of, has_bad_query, is_lookup, is_discovery, is_later_block, is_heeded, only_looks, kind_of, query_of, asked_block, refusal_of_request, refusal_or_next, is_look_request}
 use Rattle.journal_model.specs.Bodies.{body_reply, is_long}
 use Rattle.journal_model.specs.Machine.{is_look_message, is_look_reading, is_look_datagram}
 use Rattle.journal_model.specs.Sought.{sought_at}
-use Rattle.journal_model.specs.Looks.{Look, answered, names_tag, still_valid, unless_long, unless_valid, found_under, look_for, look, look_sent, look_effects, looked, body_held, held_after}
+use Rattle.journal_model.specs.Looks.{Look, answered, held, names_tag, still_valid, unless_long, unless_valid, found_under, look_for, look, look_sent, look_effects, looked, body_held, held_after}
 use Rattle.rd_desk.specs.declared.looks.Looked.TheVariants as ended
 use Rattle.rd_desk.specs.Looking.{look_done, look_left, IsHeld}
 
@@ -47,6 +50,21 @@ good_at path.Other m first plain looks good = cc
 
 pub good_query : (m : Message) → only_looks m ≡ true → has_bad_query m ≡ false → lookup_fault (queries_in m) ≡ None
 good_query m looks good = good_at (path_in m) m (not (is_later_block m)) (not (is_heeded (observe_in m))) looks good
+
+-- what the query options say: what the request asks for
+pub query_meant : (m : Message) (kind : Kind) (left : List (List ℕ)) → kind ≡ kind_of (path_in m) → left ≡ queries_in m → only_looks m ≡ true → has_bad_query m ≡ false → lookup_query kind left ≡ Ok (query_of m)
+unfolding lookup_query
+query_meant m kind left by all looks good =
+    ap (λ (k : Kind). lookup_query k left) by ∙ (ap (λ (queries : List (List ℕ)). lookup_query (kind_of (path_in m)) queries) all
+    ∙ ap (λ (fault : Option Fault). unless_fault fault (lookup_values (kind_of (path_in m)) (queries_in m))) (good_query m looks good))
+
+-- so it is read as that
+pub query_read : (m : Message) (query : Query) (meant : Result Query Fault) → meant ≡ Ok (query_of m) → meant ≡ Ok query → query ≡ query_of m
+query_read m query meant same read = let both : ◌≡◌ {A = Result Query Fault} (Ok query) (Ok (query_of m)) = sym read ∙ same in cc
+
+-- and not as a fault
+pub query_faulty : (m : Message) (fault : Fault) (meant : Result Query Fault) → meant ≡ Ok (query_of m) → meant ≡ Err fault → ⊥
+query_faulty m fault meant same faulty = let both : ◌≡◌ {A = Result Query Fault} (Err fault) (Ok (query_of m)) = sym faulty ∙ same in cc
 
 -- discovery finds the links of the directory itself
 pub discovered : (history : List Entry) (moment : ℕ) (m : Message) (octets : List ℕ) → is_discovery (path_in m) ≡ true → octets ≡ discovery (query_of m)
@@ -89,6 +107,32 @@ found_whole m given current octets what same whole unnamed =
     subst (λ (t : List ℕ). found_under (Some t) m what ≡ unless_long (is_long (asked_block m) octets) m (record { body = octets; tag = given })) same
     (subst (λ (w : List ℕ). found_under (Some given) m w ≡ unless_long (is_long (asked_block m) octets) m (record { body = octets; tag = given })) whole
     (ap (λ b. unless_valid b m (record { body = octets; tag = given })) unnamed))
+
+-- ---- what is given
+
+-- it was told whether the listing is long
+is_measured : (m : Message) (octets shown : List ℕ) (asked : Option Block) (long : Bool) → asked ≡ asked_block m → shown ≡ octets → long ≡ is_long asked shown → long ≡ is_long (asked_block m) octets
+is_measured m octets shown asked long same all measured =
+    measured ∙ (ap (λ (b : Option Block). is_long b shown) same ∙ ap (λ (body : List ℕ). is_long (asked_block m) body) all)
+
+-- a listing that is not long
+pub given_whole : (m : Message) (octets current shown body : List ℕ) (asked : Option Block) (long : Bool) (reply : Reply) → asked ≡ asked_block m → shown ≡ octets → long ≡ is_long asked shown → long ≡ false → body ≡ octets
+    → reply ≡ body_reply (Some current) None asked body → answered reply ≡ unless_long (is_long (asked_block m) octets) m (record { body = octets; tag = current })
+given_whole m octets current shown body asked long reply same all measured short whole said =
+    ap (λ (r : Reply). answered r) (said ∙ (ap (λ (b : Option Block). body_reply (Some current) None b body) same ∙ ap (λ (b : List ℕ). body_reply (Some current) None (asked_block m) b) whole))
+    ∙ ap (λ (b : Bool). unless_long b m (record { body = octets; tag = current })) (sym short ∙ is_measured m octets shown asked long same all measured)
+
+-- one that is
+pub given_held : (m : Message) (octets current shown : List ℕ) (asked : Option Block) (long : Bool) → asked ≡ asked_block m → shown ≡ octets → long ≡ is_long asked shown → long ≡ true
+    → held (record { body = octets; tag = current }) ≡ unless_long (is_long (asked_block m) octets) m (record { body = octets; tag = current })
+given_held m octets current shown asked long same all measured yes_long =
+    ap (λ (b : Bool). unless_long b m (record { body = octets; tag = current })) (sym yes_long ∙ is_measured m octets shown asked long same all measured)
+
+-- the links of the directory itself
+pub given_links : (m : Message) (octets body : List ℕ) (asked : Option Block) (reply : Reply) → asked ≡ asked_block m → body ≡ octets → reply ≡ body_reply None None asked body
+    → reply ≡ body_reply None None (asked_block m) octets
+given_links m octets body asked reply same whole said =
+    said ∙ (ap (λ (b : Option Block). body_reply None None b body) same ∙ ap (λ (b : List ℕ). body_reply None None (asked_block m) b) whole)
 
 -- nothing is there
 none_there : {A : Type 0} (o : Option A) → is_none o ≡ true → o ≡ None

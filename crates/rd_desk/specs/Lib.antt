@@ -6,5 +6,5 @@ pub mod Writing
 pub mod Watching
 pub mod Desks
 pub mod UnderWay
-pub mod Jobs
+pub mod KeepJobs
 pub mod Looking

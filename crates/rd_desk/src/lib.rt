@@ -3,7 +3,7 @@
 
 mod bodies;
 mod empty_messages;
-mod jobs;
+mod keep_jobs;
 mod looks;
 mod mids;
 mod outbox;
@@ -11,8 +11,9 @@ mod refusals;
 mod refused_requests;
 mod replies;
 mod requests;
+mod server_errors;
 
-pub use jobs::KeepJob;
+pub use keep_jobs::KeepJob;
 pub use looks::{Looked, look};
 pub use mids::Mids;
 pub use outbox::Outbox;

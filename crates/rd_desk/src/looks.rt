@@ -17,8 +17,9 @@ ghost use Rattle.rd_desk.specs.Replies.{IsReply, reply_said};
 ghost use Rattle.rd_desk.specs.Sendings.{IsStepOf, Sends};
 
 use crate::bodies::{body_reply, is_long};
-use crate::replies::{Reply, answer, answer_starved};
+use crate::replies::{Reply, answer};
 use crate::requests::{asked, asked_block, is_discovery};
+use crate::server_errors::answer_starved;
 use crate::{KeepJob, Mids, Outbox};
 use coap_message::view;
 use coap_options::{Meaning, Path, etags, queries};
@@ -90,8 +91,7 @@ fn query_of(alloc: Global, meaning: &Meaning<'_>) -> Result<Query, Starved>
 fn names_tag(meaning: &Meaning<'_>, tag: Tag) -> bool
     ensures { result ≡ looks_of.names_tag tag.0 (message_in meaning.now.view) }
 {
-    let mut left = etags(meaning);
-    'tags: while let Some(named) = left.next() {
+    'tags: for named in etags(meaning) {
         if tag.0.as_slice() == named {
             return true;
         }

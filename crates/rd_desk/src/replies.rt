@@ -11,7 +11,7 @@ ghost use Rattle.coap_message.specs.Views.{message_in};
 ghost use Rattle.event_model.specs.declared.notes.Note.{Note};
 ghost use Rattle.journal_model.specs.declared.steps.Step.{Step};
 ghost use Rattle.journal_model.specs.Effects as effects;
-ghost use Rattle.journal_model.specs.Effects.{answering, drawn_for, without_memory};
+ghost use Rattle.journal_model.specs.Effects.{answering, drawn_for};
 ghost use Rattle.journal_model.specs.UnfinishedRow.{drawing};
 ghost use Rattle.rd_desk.specs.Outboxes.{most_datagrams};
 ghost use Rattle.rd_desk.specs.Replies.{IsReply, reply_said, options_of, tag_octets, location_option, format_option, block1_options};
@@ -293,13 +293,4 @@ pub(crate) fn answer(
         unreachable!()
     };
     out.push(peer, datagram);
-}
-
-/// A request is answered 5.00, since memory ran out (RFC 7252 section 5.9.3.1).
-pub(crate) fn answer_starved(mids: &mut Mids, peer: Peer, view: &View<'_>, out: &mut Outbox)
-    requires token { length view.now.token.now ≤ longest_token }
-    requires room { length out.old < most_datagrams }
-    ensures sends { (s : Step) → IsStepOf s peer mids.old → Sends (without_memory s (message_in view.now)) out.old out.new mids.old mids.new }
-{
-    answer(mids, peer, view, &Reply::plain(160, b""), out);
 }

@@ -1,4 +1,4 @@
-//! What a step leaves its worker with, to be done by a later step.
+//! The job that a look leaves its worker with.
 ghost use Rattle.std.specs.Prelude.{◌≡◌, true, IfOk};
 ghost use Rattle.journal_model.specs.Machine.{is_look_datagram};
 
@@ -24,7 +24,7 @@ impl Model for KeepJob {
     ghost use Rattle.std.specs.Prelude.{◌≡◌, true};
     ghost use Rattle.std.specs.Arc.{arc_value};
     ghost use Rattle.journal_model.specs.Machine.{is_look_datagram};
-    ghost use Rattle.rd_desk.specs.Jobs.{Keep};
+    ghost use Rattle.rd_desk.specs.KeepJobs.{Keep};
 
     ghost Value = { Keep };
 
