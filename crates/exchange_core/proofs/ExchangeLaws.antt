@@ -11,7 +11,8 @@ use Rattle.event_model.specs.declared.notes.Note.TheVariants as note
 use Rattle.event_model.specs.Same.{is_same_peer}
 use Rattle.event_model.specs.Events.{Event, is_young, or_else, last_said}
 use Rattle.event_model.specs.Repeats.{is_admission_of, answer_noted, settled, Exchange, exchange_admitted, exchange_of, is_admitting}
-use Rattle.exchange_core.specs.Table.{is_with, is_admitted_at, young, answered, answered_first, without_first}
+use Rattle.rd_base.specs.Firsts.{changed_first, without_first}
+use Rattle.exchange_core.specs.Table.{is_with, is_admitted_at, young, answered}
 use Rattle.event_model.specs.AdmissionOrder.{is_admitted_event}
 use Rattle.exchange_core.proofs.FilterLemmas.{any_known}
 use Rattle.exchange_core.proofs.RepeatLaws.{admits, eqb-differs, admission_is, Follows}
@@ -148,8 +149,8 @@ each_matches place peer mid moment (x ∷ rest) pairs there =
 
 -- it changes no age
 pub young-answered : (moment : ℕ) (peer : Peer) (mid at : ℕ) (reply : List ℕ) (xs : List Exchange)
-    → young moment (answered_first (is_admitted_at peer mid at) reply xs) ≡ answered_first (is_admitted_at peer mid at) reply (young moment xs)
-unfolding answered_first
+    → young moment (changed_first (is_admitted_at peer mid at) (answered reply) xs) ≡ changed_first (is_admitted_at peer mid at) (answered reply) (young moment xs)
+unfolding changed_first
 young-answered moment peer mid at reply [] = refl
 young-answered moment peer mid at reply (x ∷ xs) = by (test x) (is_young moment x.moment) refl refl (young-answered moment peer mid at reply xs)
   where
@@ -157,20 +158,20 @@ young-answered moment peer mid at reply (x ∷ xs) = by (test x) (is_young momen
     test y = is_admitted_at peer mid at y
 
     -- where that moment is old
-    none_left : (ys : List Exchange) → is_young moment at ≡ false → answered_first test reply (young moment ys) ≡ young moment ys
+    none_left : (ys : List Exchange) → is_young moment at ≡ false → changed_first test (answered reply) (young moment ys) ≡ young moment ys
     none_left [] old = refl
     none_left (y ∷ ys) old = here (is_young moment y.moment) (test y) refl refl (none_left ys old)
       where
-        here : (g t : Bool) → is_young moment y.moment ≡ g → test y ≡ t → answered_first test reply (young moment ys) ≡ young moment ys
-            → answered_first test reply (cond g (y ∷ young moment ys) (young moment ys)) ≡ cond g (y ∷ young moment ys) (young moment ys)
+        here : (g t : Bool) → is_young moment y.moment ≡ g → test y ≡ t → changed_first test (answered reply) (young moment ys) ≡ young moment ys
+            → changed_first test (answered reply) (cond g (y ∷ young moment ys) (young moment ys)) ≡ cond g (y ∷ young moment ys) (young moment ys)
         here true true g t more =
             let parts = and_parts (is_with peer mid y) (y.moment == at) t in
             absurd (false≢true (sym old ∙ (ap (is_young moment) (sym (eqb-true y.moment at parts.1)) ∙ g)))
         here true false g t more = rw t (ap (λ rest. y ∷ rest) more)
         here false t g u more = more
 
-    by : (t g : Bool) → test x ≡ t → is_young moment x.moment ≡ g → young moment (answered_first test reply xs) ≡ answered_first test reply (young moment xs)
-        → young moment (cond t (answered reply x ∷ xs) (x ∷ answered_first test reply xs)) ≡ answered_first test reply (cond g (x ∷ young moment xs) (young moment xs))
+    by : (t g : Bool) → test x ≡ t → is_young moment x.moment ≡ g → young moment (changed_first test (answered reply) xs) ≡ changed_first test (answered reply) (young moment xs)
+        → young moment (cond t (answered reply x ∷ xs) (x ∷ changed_first test (answered reply) xs)) ≡ changed_first test (answered reply) (cond g (x ∷ young moment xs) (young moment xs))
     by true true t g more = rw (g, t) refl
     by true false t g more =
         let parts = and_parts (is_with peer mid x) (x.moment == at) t in
@@ -182,8 +183,8 @@ young-answered moment peer mid at reply (x ∷ xs) = by (test x) (is_young momen
 -- it is that of the place
 pub answered-exchanges : (place : ℕ) (peer : Peer) (mid moment : ℕ) (reply : List ℕ) (e : Event) (events admitted : List Event) → e.note ≡ note.Settled place reply
     → PairsByRecursion Follows admitted → AllByRecursion (Matches place peer mid moment) admitted
-    → answered_first (is_admitted_at peer mid moment) reply (filter_map (exchange_of events) admitted) ≡ filter_map (exchange_of (e ∷ events)) admitted
-unfolding answered_first settled last_said Matches
+    → changed_first (is_admitted_at peer mid moment) (answered reply) (filter_map (exchange_of events) admitted) ≡ filter_map (exchange_of (e ∷ events)) admitted
+unfolding changed_first settled last_said Matches
 answered-exchanges place peer mid moment reply e events [] is pairs matches = refl
 answered-exchanges place peer mid moment reply e events (a ∷ rest) is pairs matches =
     by a.note refl (place == a.place) refl matches.0 (answered-exchanges place peer mid moment reply e events rest is pairs.1 matches.1)
@@ -215,8 +216,8 @@ answered-exchanges place peer mid moment reply e events (a ∷ rest) is pairs ma
         none no_match = rw no_match refl
 
     by : (n : Note) → a.note ≡ n → (p : Bool) → (place == a.place) ≡ p → (is_admission_of peer mid a.note && a.moment == moment) ≡ (place == a.place)
-        → answered_first test reply others ≡ others_now
-        → answered_first test reply (cons_option (exchange_admitted a.moment (settled a.place events) n) others)
+        → changed_first test (answered reply) others ≡ others_now
+        → changed_first test (answered reply) (cons_option (exchange_admitted a.moment (settled a.place events) n) others)
         ≡ cons_option (exchange_admitted a.moment (or_else (answer_noted a.place e.note) (settled a.place events)) n) others_now
     by (note.Admitted q m) n true p it more =
         let now : answer_noted a.place e.note ≡ Some reply = said ∙ rw p refl in

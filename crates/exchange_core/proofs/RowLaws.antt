@@ -1,108 +1,23 @@
--- Laws of the exchanges of a table.
-use Rattle.std.proofs.Common.{◌≡◌, ℕ, ◌+◌, ◌-◌, ◌<◌, ◌≤◌, zero, suc, Bool, true, false, not, cond, ltb, List, [], ◌∷◌, ◌++◌, length, get_or, set, take, find, Some, None, option_map, option_and_then, refl, sym, ap, ◌∙◌, arith}
-use Rattle.std.specs.List.{position, position_or_len, remove}
+-- Laws of the exchanges of a table: what a repeat finds, their order, and which are young.
+use Rattle.std.proofs.Common.{◌≡◌, ℕ, ◌+◌, ◌-◌, ◌<◌, ◌≤◌, Bool, true, false, cond, List, [], ◌∷◌, ◌++◌, length, get_or, take, find, Some, None, option_map, option_and_then, refl, sym, ap, ◌∙◌, arith}
+use Rattle.std.specs.List.{position}
 use Rattle.std.proofs.lemmas.List.{take_more, take_all}
-use Rattle.std.proofs.lemmas.List.Quantifiers.{position-Some}
 use Rattle.rd_base.specs.declared.peers.Peer.{Peer}
+use Rattle.rd_base.specs.Firsts.{changed_first, without_first}
 use Rattle.rd_base.proofs.lemmas.Filters.{length-filter-le}
+use Rattle.rd_base.proofs.lemmas.Firsts.{find-at, find-nowhere}
 use Rattle.event_model.specs.Events.{is_young}
 use Rattle.exchange_core.specs.declared.writes.Keyed.{Keyed}
 use Rattle.event_model.specs.Repeats.{Exchange}
-use Rattle.exchange_core.specs.Table.{is_with, young, InOrder, repeating, repeating_young, repeat_among, answered, answered_first, without_first}
+use Rattle.exchange_core.specs.Table.{is_with, young, InOrder, repeating, repeating_young, repeat_among, answered}
 
--- ---- the first that passes a test
-
--- it is at an index
-answered_at : (test : Exchange → Bool) (reply : List ℕ) (xs : List Exchange) (i : ℕ) (d : Exchange) → i < length xs → test (get_or xs i d) ≡ true → ((k : ℕ) → k < i → test (get_or xs k d) ≡ false)
-    → set xs i (answered reply (get_or xs i d)) ≡ answered_first test reply xs
-unfolding answered_first
-answered_at test reply [] i d inside it others = absurd (omega (arith, inside))
-answered_at test reply (x ∷ xs) zero d inside it others = rw it refl
-answered_at test reply (x ∷ xs) (suc i) d inside it others =
-    let no : test x ≡ false = others zero (omega arith) in
-    rw no (ap (λ rest. x ∷ rest) (answered_at test reply xs i d (omega (arith, inside)) it (λ k below. others (suc k) (omega (arith, below)))))
-
-without_at : (test : Exchange → Bool) (xs : List Exchange) (i : ℕ) (d : Exchange) → i < length xs → test (get_or xs i d) ≡ true → ((k : ℕ) → k < i → test (get_or xs k d) ≡ false)
-    → remove xs i ≡ without_first test xs
-unfolding without_first
-without_at test [] i d inside it others = absurd (omega (arith, inside))
-without_at test (x ∷ xs) zero d inside it others = rw it refl
-without_at test (x ∷ xs) (suc i) d inside it others =
-    let no : test x ≡ false = others zero (omega arith) in
-    rw no (ap (λ rest. x ∷ rest) (without_at test xs i d (omega (arith, inside)) it (λ k below. others (suc k) (omega (arith, below)))))
-
-pub answered_first-at : (test : Exchange → Bool) (reply : List ℕ) (xs : List Exchange) (i : ℕ) (d : Exchange) → position test xs ≡ Some i → set xs i (answered reply (get_or xs i d)) ≡ answered_first test reply xs
-answered_first-at test reply xs i d there =
-    let found = position-Some test xs i d there in
-    answered_at test reply xs i d found.0 found.1 found.2
-
-pub without_first-at : (test : Exchange → Bool) (xs : List Exchange) (i : ℕ) → position test xs ≡ Some i → remove xs i ≡ without_first test xs
-without_first-at test [] i there = absurd cc
-without_first-at test (x ∷ xs) i there =
-    let found = position-Some test (x ∷ xs) i x there in
-    without_at test (x ∷ xs) i x found.0 found.1 found.2
-
--- its index is within
-pub index_within : (test : Exchange → Bool) (xs : List Exchange) (i : ℕ) → position test xs ≡ Some i → i < length xs
-index_within test [] i there = absurd cc
-index_within test (x ∷ xs) i there = (position-Some test (x ∷ xs) i x there).0
-
--- it is nowhere
-nowhere : (test : Exchange → Bool) (xs : List Exchange) → position test xs ≡ None → length xs ≤ position_or_len test xs
-nowhere test xs none = by (ltb (position_or_len test xs) (length xs)) refl none
-  where
-    by : (b : Bool) → ltb (position_or_len test xs) (length xs) ≡ b → cond b (Some (position_or_len test xs)) None ≡ None → length xs ≤ position_or_len test xs
-    by true e h = absurd cc
-    by false e h = grind (arith, e)
-
-answered_past : (test : Exchange → Bool) (reply : List ℕ) (xs : List Exchange) → length xs ≤ position_or_len test xs → xs ≡ answered_first test reply xs
-unfolding answered_first
-answered_past test reply [] h = refl
-answered_past test reply (x ∷ xs) h = by (test x) refl h (answered_past test reply xs)
-  where
-    by : (b : Bool) → test x ≡ b → length (x ∷ xs) ≤ cond (not b) (1 + position_or_len test xs) 0 → (length xs ≤ position_or_len test xs → xs ≡ answered_first test reply xs)
-        → x ∷ xs ≡ cond b (answered reply x ∷ xs) (x ∷ answered_first test reply xs)
-    by true e g more = absurd (omega (arith, g))
-    by false e g more = ap (λ rest. x ∷ rest) (more (omega (arith, g)))
-
-without_past : (test : Exchange → Bool) (xs : List Exchange) → length xs ≤ position_or_len test xs → xs ≡ without_first test xs
-unfolding without_first
-without_past test [] h = refl
-without_past test (x ∷ xs) h = by (test x) refl h (without_past test xs)
-  where
-    by : (b : Bool) → test x ≡ b → length (x ∷ xs) ≤ cond (not b) (1 + position_or_len test xs) 0 → (length xs ≤ position_or_len test xs → xs ≡ without_first test xs)
-        → x ∷ xs ≡ cond b xs (x ∷ without_first test xs)
-    by true e g more = absurd (omega (arith, g))
-    by false e g more = ap (λ rest. x ∷ rest) (more (omega (arith, g)))
-
-pub answered_first-nowhere : (test : Exchange → Bool) (reply : List ℕ) (xs : List Exchange) → position test xs ≡ None → xs ≡ answered_first test reply xs
-answered_first-nowhere test reply xs none = answered_past test reply xs (nowhere test xs none)
-
-pub without_first-nowhere : (test : Exchange → Bool) (xs : List Exchange) → position test xs ≡ None → xs ≡ without_first test xs
-without_first-nowhere test xs none = without_past test xs (nowhere test xs none)
-
--- it is found
-found_at : (test : Exchange → Bool) (xs : List Exchange) (i : ℕ) (d : Exchange) → i < length xs → test (get_or xs i d) ≡ true → ((k : ℕ) → k < i → test (get_or xs k d) ≡ false) → find test xs ≡ Some (get_or xs i d)
-found_at test [] i d inside it others = absurd (omega (arith, inside))
-found_at test (x ∷ xs) zero d inside it others = rw it refl
-found_at test (x ∷ xs) (suc i) d inside it others =
-    let no : test x ≡ false = others zero (omega arith) in
-    rw no (found_at test xs i d (omega (arith, inside)) it (λ k below. others (suc k) (omega (arith, below))))
-
-nothing_past : (test : Exchange → Bool) (xs : List Exchange) → length xs ≤ position_or_len test xs → find test xs ≡ None
-nothing_past test [] h = refl
-nothing_past test (x ∷ xs) h = by (test x) refl h (nothing_past test xs)
-  where
-    by : (b : Bool) → test x ≡ b → length (x ∷ xs) ≤ cond (not b) (1 + position_or_len test xs) 0 → (length xs ≤ position_or_len test xs → find test xs ≡ None) → cond b (Some x) (find test xs) ≡ None
-    by true e g more = absurd (omega (arith, g))
-    by false e g more = more (omega (arith, g))
+-- ---- what a repeat finds
 
 -- how a write is answered that repeats the exchange at an index, which is young or old, or none
 repeat_among-at : (now : ℕ) (peer : Peer) (mid : ℕ) (xs : List Exchange) (i : ℕ) (x : Exchange) → Some i ≡ position (is_with peer mid) xs → x ≡ get_or xs i x → repeat_among now peer mid xs ≡ repeating_young now x
 unfolding repeat_among
 repeat_among-at now peer mid xs i x there is =
-    let found = position-Some (is_with peer mid) xs i x (sym there) in
-    ap (option_and_then (repeating_young now)) (found_at (is_with peer mid) xs i x found.0 found.1 found.2) ∙ ap (repeating_young now) (sym is)
+    ap (option_and_then (repeating_young now)) (find-at (is_with peer mid) xs i x (sym there) is)
 
 pub repeat_among-young_at : (now : ℕ) (peer : Peer) (mid : ℕ) (xs : List Exchange) (i : ℕ) (x : Exchange) → Some i ≡ position (is_with peer mid) xs → x ≡ get_or xs i x → is_young now x.moment ≡ true
     → Some (repeating x.reply) ≡ repeat_among now peer mid xs
@@ -114,7 +29,7 @@ repeat_among-old_at now peer mid xs i x there is old = sym (repeat_among-at now 
 
 pub repeat_among-nowhere : (now : ℕ) (peer : Peer) (mid : ℕ) (xs : List Exchange) → None ≡ position (is_with peer mid) xs → None ≡ repeat_among now peer mid xs
 unfolding repeat_among
-repeat_among-nowhere now peer mid xs none = sym (ap (option_and_then (repeating_young now)) (nothing_past (is_with peer mid) xs (nowhere (is_with peer mid) xs (sym none))))
+repeat_among-nowhere now peer mid xs none = sym (ap (option_and_then (repeating_young now)) (find-nowhere (is_with peer mid) xs (sym none)))
 
 -- ---- their order
 
@@ -122,12 +37,12 @@ pub InOrder-later : (last later : ℕ) (xs : List Exchange) → last ≤ later �
 InOrder-later last later [] h order = tt
 InOrder-later last later (x ∷ xs) h order = (let first = order.0 in omega (arith, h, first), order.1)
 
-pub InOrder-answered : (test : Exchange → Bool) (reply : List ℕ) (last : ℕ) (xs : List Exchange) → InOrder last xs → InOrder last (answered_first test reply xs)
-unfolding answered_first
+pub InOrder-answered : (test : Exchange → Bool) (reply : List ℕ) (last : ℕ) (xs : List Exchange) → InOrder last xs → InOrder last (changed_first test (answered reply) xs)
+unfolding changed_first
 InOrder-answered test reply last [] order = tt
 InOrder-answered test reply last (x ∷ xs) order = by (test x) (InOrder-answered test reply x.moment xs order.1)
   where
-    by : (b : Bool) → InOrder x.moment (answered_first test reply xs) → InOrder last (cond b (answered reply x ∷ xs) (x ∷ answered_first test reply xs))
+    by : (b : Bool) → InOrder x.moment (changed_first test (answered reply) xs) → InOrder last (cond b (answered reply x ∷ xs) (x ∷ changed_first test (answered reply) xs))
     by true more = order
     by false more = (order.0, more)
 
@@ -211,21 +126,3 @@ repeat_among-young now peer mid last (x ∷ xs) order =
 -- how many are left
 pub length-young : (now : ℕ) (xs : List Exchange) → length (young now xs) ≤ length xs
 length-young now xs = length-filter-le (λ x. is_young now x.moment) xs
-
-pub length-answered : (test : Exchange → Bool) (reply : List ℕ) (xs : List Exchange) → length (answered_first test reply xs) ≡ length xs
-unfolding answered_first
-length-answered test reply [] = refl
-length-answered test reply (x ∷ xs) = by (test x) (length-answered test reply xs)
-  where
-    by : (b : Bool) → length (answered_first test reply xs) ≡ length xs → length (cond b (answered reply x ∷ xs) (x ∷ answered_first test reply xs)) ≡ length (x ∷ xs)
-    by true more = refl
-    by false more = ap (λ n. suc n) more
-
-pub length-without : (test : Exchange → Bool) (xs : List Exchange) → length (without_first test xs) ≤ length xs
-unfolding without_first
-length-without test [] = omega arith
-length-without test (x ∷ xs) = by (test x) (length-without test xs)
-  where
-    by : (b : Bool) → length (without_first test xs) ≤ length xs → length (cond b xs (x ∷ without_first test xs)) ≤ length (x ∷ xs)
-    by true more = omega arith
-    by false more = omega (arith, more)

@@ -12,7 +12,8 @@ use Rattle.event_model.specs.Events.{Event, is_young, exchange_lifetime, or_else
 use Rattle.event_model.specs.Repeats.{admission_noted, is_failure_of, admissions, kept, repeated, answer_noted, settled, is_full_of_exchanges, Exchange, exchange_admitted, exchange_of, exchanges_at, is_admitting}
 use Rattle.exchange_core.specs.declared.writes.Keyed.{Keyed}
 use Rattle.exchange_core.specs.declared.writes.Keyed.TheVariants as keyed
-use Rattle.exchange_core.specs.Table.{Table, is_with, is_admitted_at, young, InOrder, repeating, repeating_young, repeat_among, answered_first, without_first}
+use Rattle.rd_base.specs.Firsts.{changed_first, without_first}
+use Rattle.exchange_core.specs.Table.{Table, is_with, is_admitted_at, young, InOrder, repeating, repeating_young, repeat_among, answered}
 use Rattle.event_model.specs.AdmissionOrder.{NoneAfter, IsNewPlace, IsOrderly, HasAdmission, is_aside}
 use Rattle.exchange_core.specs.ExchangeEvents.{ExchangesStandFor, keyed_new, keyed_as, keyed_after}
 use Rattle.exchange_core.proofs.RowLaws.{repeat_among-young}
@@ -223,13 +224,13 @@ ExchangesStandFor-admitted now peer mid e events t more is at new added stands =
 
 -- one that settles a write
 pub ExchangesStandFor-settled : (at place : ℕ) (peer : Peer) (mid admitted : ℕ) (reply : List ℕ) (e : Event) (events : List Event) (t more : Table) → e.note ≡ note.Settled place reply → IsOrderly events
-    → HasAdmission place peer mid admitted events → more.exchanges ≡ answered_first (is_admitted_at peer mid admitted) reply t.exchanges → ExchangesStandFor at events t → ExchangesStandFor at (e ∷ events) more
+    → HasAdmission place peer mid admitted events → more.exchanges ≡ changed_first (is_admitted_at peer mid admitted) (answered reply) t.exchanges → ExchangesStandFor at events t → ExchangesStandFor at (e ∷ events) more
 unfolding exchanges_at kept admissions
 ExchangesStandFor-settled at place peer mid admitted reply e events t more is orderly there changed stands = record {
   kept =
       ap (young at) changed
       ∙ (young-answered at peer mid admitted reply t.exchanges
-      ∙ (ap (answered_first (is_admitted_at peer mid admitted) reply) stands.kept
+      ∙ (ap (changed_first (is_admitted_at peer mid admitted) (answered reply)) stands.kept
       ∙ (answered-exchanges place peer mid admitted reply e events here is (pairs_filter Follows (λ a. is_young at a.moment) (admissions events) pairs)
       (each_filter (Matches place peer mid admitted) (λ a. is_young at a.moment) (admissions events) (each_matches place peer mid admitted (admissions events) pairs there))
       ∙ sym same)));

@@ -55,13 +55,3 @@ repeat_among now peer mid xs = option_and_then (repeating_young now) (find (is_w
 -- an exchange with its reply
 abbrev pub answered : List ℕ → Exchange → Exchange
 answered reply x = record x { reply = Some reply }
-
--- the first that passes a test gets this reply
-unfoldable pub answered_first : (Exchange → Bool) → List ℕ → List Exchange → List Exchange
-answered_first test reply [] = []
-answered_first test reply (x ∷ xs) = if test x then answered reply x ∷ xs else x ∷ answered_first test reply xs
-
--- the first that passes a test is gone
-unfoldable pub without_first : (Exchange → Bool) → List Exchange → List Exchange
-without_first test [] = []
-without_first test (x ∷ xs) = if test x then xs else x ∷ without_first test xs

@@ -3,7 +3,8 @@ ghost use Rattle.std.specs.Prelude.{◌≡◌, ◌≢◌, ℕ, ◌≤◌, [], �
 ghost use Rattle.rd_base.specs.declared.peers.Peer.{Peer};
 ghost use Rattle.event_model.specs.declared.notes.Note.TheVariants as note;
 ghost use Rattle.event_model.specs.Events.{Event};
-ghost use Rattle.exchange_core.specs.Table.{is_with, is_admitted_at, InOrder, young, repeat_among, answered_first, without_first};
+ghost use Rattle.rd_base.specs.Firsts.{changed_first, without_first};
+ghost use Rattle.exchange_core.specs.Table.{is_with, is_admitted_at, InOrder, young, repeat_among, answered};
 ghost use Rattle.event_model.specs.AdmissionOrder.{IsOpen};
 ghost use Rattle.exchange_core.specs.ExchangeEvents.{ExchangesStandFor, IsKeyedAt};
 
@@ -65,7 +66,7 @@ impl Exchanges {
     /// Keeps the reply of the write that was admitted at a moment, where it is still there. Takes no memory.
     pub fn settle(&mut self, peer: Peer, mid: u16, admitted: Moment, reply: Reply)
         ensures stands { (at : ℕ) (events : List Event) (e : Event) (place : ℕ) → IsOpen place peer mid admitted.0 events → e.note ≡ note.Settled place reply → ExchangesStandFor at events self.old → ExchangesStandFor at (e ∷ events) self.new }
-        ensures answered { self.new.exchanges ≡ answered_first (is_admitted_at peer mid admitted.0) reply self.old.exchanges }
+        ensures answered { self.new.exchanges ≡ changed_first (is_admitted_at peer mid admitted.0) (answered reply) self.old.exchanges }
         ensures moment { self.new.moment ≡ self.old.moment }
     {
         answer_first(&mut self.queue, peer, mid, admitted, reply);
@@ -122,7 +123,7 @@ fn drop_old(queue: &mut ExchangeQueue, now: Moment)
 
 /// Keeps the reply of the write that was admitted at a moment.
 fn answer_first(queue: &mut ExchangeQueue, peer: Peer, mid: u16, admitted: Moment, reply: Reply)
-    ensures { queue.new ≡ answered_first (is_admitted_at peer mid admitted.0) reply queue.old }
+    ensures { queue.new ≡ changed_first (is_admitted_at peer mid admitted.0) (answered reply) queue.old }
 {
     if let Some(index) = queue.index_of(peer, mid, Some(admitted)) {
         queue.answer(index, reply);

@@ -1,28 +1,29 @@
 -- The events that a table of observers stands for, after each change of the table.
-use Rattle.std.proofs.Common.{if◌then◌else◌, ◌≡◌, ◌≢◌, ℕ, ◌+◌, ◌*◌, ◌^◌, ◌<◌, ◌≤◌, ◌==◌, zero, suc, Bool, true, false, not, ◌&&◌, ◌||◌, cond, List, [], ◌∷◌, ◌++◌, map, filter, find, length, slice_get, take, drop, Option, Some, None, is_some, option_map, option_and_then, refl, sym, ap, ap₂, subst, ◌∙◌, arith, eqb-true}
+use Rattle.std.proofs.Common.{if◌then◌else◌, ◌≡◌, ◌≢◌, ℕ, ◌+◌, ◌==◌, zero, suc, Bool, true, false, not, ◌&&◌, cond, List, [], ◌∷◌, ◌++◌, map, filter, find, length, slice_get, Option, Some, None, is_some, option_map, refl, sym, ap, ap₂, subst, ◌∙◌, arith}
 use Rattle.std.specs.List.{AllByRecursion, list_any, remove}
 use Rattle.std.proofs.lemmas.Bool.{false≢true, and_parts, and_from, or_parts}
 use Rattle.std.proofs.lemmas.List.{map-append}
 use Rattle.rd_base.specs.declared.peers.Peer.{Peer}
 use Rattle.rd_base.specs.declared.queries.Query.{Query}
-use Rattle.rd_base.proofs.lemmas.Each.{each_weaker, each_both, each_one, each_map, each_push}
-use Rattle.rd_base.proofs.lemmas.Pairs.{PairsByRecursion, pairs_weaker, pairs_filter, pairs_map, pairs_push, pairs_both, pairs_known}
+use Rattle.rd_base.proofs.lemmas.Each.{each_weaker, each_one}
+use Rattle.rd_base.proofs.lemmas.Pairs.{PairsByRecursion, pairs_weaker, pairs_filter, pairs_map, pairs_push, pairs_both}
 use Rattle.event_model.specs.declared.notes.Note.{Note}
 use Rattle.event_model.specs.declared.notes.Note.TheVariants as note
 use Rattle.event_model.specs.declared.notes.Observer.{Observer}
 use Rattle.event_model.specs.Same.{RequestName, is_same_peer, is_same_request}
 use Rattle.event_model.specs.Events.{Event}
 use Rattle.event_model.specs.Observers.{name_of, observers}
-use Rattle.event_model.specs.Flights.{Retransmission, Sent, OctetsSent, Flight, retransmission, flight, notice_sent, waiting_notice, is_waited_for}
+use Rattle.event_model.specs.Flights.{Retransmission, Sent, OctetsSent, Flight, retransmission, flight, notice_sent, waiting_notice}
 use Rattle.event_model.specs.Due.{Transition, Watching, watching, observers_standing}
 use Rattle.event_model.proofs.NotedLaws.{event_at}
-use Rattle.event_model.proofs.ObserverLaws.{Apart, apart-sym, observers-apart}
+use Rattle.event_model.proofs.ObserverLaws.{Apart, observers-apart}
 use Rattle.event_model.proofs.SameLaws.{is_same_peer-Decides, is_same_peer-refl, is_same_request-Decides, is_same_request-refl}
 use Rattle.exchange_core.specs.declared.resends.Again.{Again}
 use Rattle.exchange_core.specs.declared.resends.Again.TheVariants as again
-use Rattle.exchange_core.specs.Retransmissions.{Resends, kept_due, kept_after}
+use Rattle.exchange_core.specs.Retransmissions.{Resends, kept_due}
 use Rattle.exchange_core.proofs.ResendLaws.{kept_due-deadline, kept_after-unsent}
-use Rattle.observers.specs.Watchers.{Watcher, is_named, is_sent_as, has_notice, is_awaited, noticed, seen, landed, due_of, kept_of, timed, changed_at, changed_first, without_first}
+use Rattle.rd_base.specs.Firsts.{changed_first, without_first}
+use Rattle.observers.specs.Watchers.{Watcher, is_named, is_sent_as, has_notice, is_awaited, noticed, seen, landed, due_of, kept_of, timed, changed_at}
 use Rattle.observers.specs.ObserverEvents.{observer_of, shown, AwaitsOne, EachAwaitsOne, ObserversStandFor, NoneLater, notice_due}
 use Rattle.observers.proofs.EventLaws.{parts, formed_for, message_formed, seen_for, sent_again, again_for, landed_for, added, standing-unwatched, standing-formed, standing-unchanged, standing-again, standing-landed, standing-added}
 

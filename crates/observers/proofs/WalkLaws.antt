@@ -1,113 +1,27 @@
--- Walks over observers: the first that passes a test, the one with an index, and the next that is due.
-use Rattle.std.proofs.Common.{◌≡◌, ℕ, ◌+◌, ◌-◌, ◌<◌, ◌≤◌, zero, suc, Bool, true, false, not, ◌||◌, cond, ltb, List, [], ◌∷◌, ◌++◌, length, get_or, set, take, drop, find, slice_get, IfSome, IfNone, subst, ◌&&◌, Some, None, Option, refl, sym, ap, ◌∙◌, arith}
-use Rattle.std.specs.List.{AllByRecursion, list_any, position, position_or_len, remove}
+-- Walks over observers: whether one passes a test, the one with an index, and the next that is due.
+use Rattle.std.proofs.Common.{◌≡◌, ℕ, ◌+◌, ◌-◌, ◌<◌, ◌≤◌, zero, suc, Bool, true, false, not, ◌||◌, cond, List, [], ◌∷◌, length, get_or, set, drop, find, slice_get, IfSome, IfNone, subst, Some, None, Option, is_some, refl, sym, ap, ◌∙◌, arith}
+use Rattle.std.specs.List.{list_any, position}
 use Rattle.std.proofs.lemmas.Bool.{and_parts}
-use Rattle.std.proofs.lemmas.List.Quantifiers.{position-Some}
-use Rattle.observers.specs.Watchers.{Watcher, is_awaited, is_ready, first_from, next_ready, changed_at, changed_first, without_first}
+use Rattle.rd_base.specs.Firsts.{without_first}
+use Rattle.rd_base.proofs.lemmas.Firsts.{find-or, find-nowhere, without_first-unfound}
+use Rattle.observers.specs.Watchers.{Watcher, is_awaited, is_ready, first_from, next_ready, changed_at}
 
--- ---- the first that passes a test, at its index
+-- ---- whether one passes a test
 
-first_removed : (test : Watcher → Bool) (xs : List Watcher) (i : ℕ) (d : Watcher) → i < length xs → test (get_or xs i d) ≡ true → ((k : ℕ) → k < i → test (get_or xs k d) ≡ false) → remove xs i ≡ without_first test xs
-unfolding without_first
-first_removed test [] i d inside it others = absurd (omega (arith, inside))
-first_removed test (x ∷ xs) zero d inside it others = rw it refl
-first_removed test (x ∷ xs) (suc i) d inside it others =
-    let no : test x ≡ false = others zero (omega arith) in
-    rw no (ap (λ rest. x ∷ rest) (first_removed test xs i d (omega (arith, inside)) it (λ k below. others (suc k) (omega (arith, below)))))
-
-first_changed : (test : Watcher → Bool) (change : Watcher → Watcher) (xs : List Watcher) (i : ℕ) (d : Watcher) → i < length xs → test (get_or xs i d) ≡ true → ((k : ℕ) → k < i → test (get_or xs k d) ≡ false)
-    → set xs i (change (get_or xs i d)) ≡ changed_first test change xs
-unfolding changed_first
-first_changed test change [] i d inside it others = absurd (omega (arith, inside))
-first_changed test change (x ∷ xs) zero d inside it others = rw it refl
-first_changed test change (x ∷ xs) (suc i) d inside it others =
-    let no : test x ≡ false = others zero (omega arith) in
-    rw no (ap (λ rest. x ∷ rest) (first_changed test change xs i d (omega (arith, inside)) it (λ k below. others (suc k) (omega (arith, below)))))
-
-first_found : (test : Watcher → Bool) (xs : List Watcher) (i : ℕ) (d : Watcher) → i < length xs → test (get_or xs i d) ≡ true → ((k : ℕ) → k < i → test (get_or xs k d) ≡ false) → Some (get_or xs i d) ≡ find test xs
-first_found test [] i d inside it others = absurd (omega (arith, inside))
-first_found test (x ∷ xs) zero d inside it others = rw it refl
-first_found test (x ∷ xs) (suc i) d inside it others =
-    let no : test x ≡ false = others zero (omega arith) in
-    rw no (first_found test xs i d (omega (arith, inside)) it (λ k below. others (suc k) (omega (arith, below))))
-
-first_any : (test : Watcher → Bool) (xs : List Watcher) (i : ℕ) (d : Watcher) → i < length xs → test (get_or xs i d) ≡ true → true ≡ list_any test xs
-first_any test [] i d inside it = absurd (omega (arith, inside))
-first_any test (x ∷ xs) zero d inside it = rw it refl
-first_any test (x ∷ xs) (suc i) d inside it = by (test x) (first_any test xs i d (omega (arith, inside)) it)
+any_found : (test : Watcher → Bool) (xs : List Watcher) → list_any test xs ≡ is_some (find test xs)
+any_found test [] = refl
+any_found test (x ∷ xs) = by (test x) (any_found test xs)
   where
-    by : (b : Bool) → true ≡ list_any test xs → true ≡ (b || list_any test xs)
+    by : (b : Bool) → list_any test xs ≡ is_some (find test xs) → (b || list_any test xs) ≡ is_some (cond b (Some x) (find test xs))
     by true more = refl
     by false more = more
 
-pub removed-first : (test : Watcher → Bool) (xs : List Watcher) (i : ℕ) → Some i ≡ position test xs → remove xs i ≡ without_first test xs
-removed-first test [] i there = absurd cc
-removed-first test (x ∷ xs) i there = let found = position-Some test (x ∷ xs) i x (sym there) in first_removed test (x ∷ xs) i x found.0 found.1 found.2
-
-pub found-first : (test : Watcher → Bool) (xs : List Watcher) (i : ℕ) (w : Watcher) → Some i ≡ position test xs → w ≡ get_or xs i w → Some w ≡ find test xs
-found-first test [] i w there is = absurd cc
-found-first test (x ∷ xs) i w there is = let found = position-Some test (x ∷ xs) i w (sym there) in ap (λ y. Some y) is ∙ first_found test (x ∷ xs) i w found.0 found.1 found.2
-
-pub changed-first : (test : Watcher → Bool) (change : Watcher → Watcher) (xs : List Watcher) (i : ℕ) (w : Watcher) → Some i ≡ position test xs → w ≡ get_or xs i w → set xs i (change w) ≡ changed_first test change xs
-changed-first test change [] i w there is = absurd cc
-changed-first test change (x ∷ xs) i w there is = let found = position-Some test (x ∷ xs) i w (sym there) in ap (λ y. set (x ∷ xs) i (change y)) is ∙ first_changed test change (x ∷ xs) i w found.0 found.1 found.2
-
-pub any-first : (test : Watcher → Bool) (xs : List Watcher) (i : ℕ) → Some i ≡ position test xs → true ≡ list_any test xs
+pub any-first : (test : Watcher → Bool) (xs : List Watcher) (i : ℕ) → position test xs ≡ Some i → true ≡ list_any test xs
 any-first test [] i there = absurd cc
-any-first test (x ∷ xs) i there = let found = position-Some test (x ∷ xs) i x (sym there) in first_any test (x ∷ xs) i x found.0 found.1
+any-first test (x ∷ xs) i there = sym (any_found test (x ∷ xs) ∙ ap is_some (find-or test (x ∷ xs) i x there))
 
--- its index is within
-pub index_within : (test : Watcher → Bool) (xs : List Watcher) (i : ℕ) → Some i ≡ position test xs → i < length xs
-index_within test [] i there = absurd cc
-index_within test (x ∷ xs) i there = (position-Some test (x ∷ xs) i x (sym there)).0
-
--- ---- none passes
-
-past : (test : Watcher → Bool) (xs : List Watcher) → length xs ≤ position_or_len test xs → AllByRecursion (λ x. test x ≡ false) xs
-past test [] h = tt
-past test (x ∷ xs) h = by (test x) refl h (past test xs)
-  where
-    by : (b : Bool) → test x ≡ b → length (x ∷ xs) ≤ cond (not b) (1 + position_or_len test xs) 0 → (length xs ≤ position_or_len test xs → AllByRecursion (λ (y : Watcher). test y ≡ false) xs)
-        → AllByRecursion (λ (y : Watcher). test y ≡ false) (x ∷ xs)
-    by true e g more = absurd (omega (arith, g))
-    by false e g more = (e, more (omega (arith, g)))
-
-none_pass : (test : Watcher → Bool) (xs : List Watcher) → None ≡ position test xs → AllByRecursion (λ x. test x ≡ false) xs
-none_pass test xs none = by (ltb (position_or_len test xs) (length xs)) refl (sym none)
-  where
-    by : (b : Bool) → ltb (position_or_len test xs) (length xs) ≡ b → cond b (Some (position_or_len test xs)) None ≡ None → AllByRecursion (λ (y : Watcher). test y ≡ false) xs
-    by true e h = absurd cc
-    by false e h = past test xs (grind (arith, e))
-
-kept_all : (test : Watcher → Bool) (xs : List Watcher) → AllByRecursion (λ x. test x ≡ false) xs → xs ≡ without_first test xs
-unfolding without_first
-kept_all test [] h = refl
-kept_all test (x ∷ xs) h = rw h.0 (ap (λ rest. x ∷ rest) (kept_all test xs h.1))
-
-same_all : (test : Watcher → Bool) (change : Watcher → Watcher) (xs : List Watcher) → AllByRecursion (λ x. test x ≡ false) xs → xs ≡ changed_first test change xs
-unfolding changed_first
-same_all test change [] h = refl
-same_all test change (x ∷ xs) h = rw h.0 (ap (λ rest. x ∷ rest) (same_all test change xs h.1))
-
-find_none : (test : Watcher → Bool) (xs : List Watcher) → AllByRecursion (λ x. test x ≡ false) xs → None ≡ find test xs
-find_none test [] h = refl
-find_none test (x ∷ xs) h = rw h.0 (find_none test xs h.1)
-
-any_none : (test : Watcher → Bool) (xs : List Watcher) → AllByRecursion (λ x. test x ≡ false) xs → false ≡ list_any test xs
-any_none test [] h = refl
-any_none test (x ∷ xs) h = rw h.0 (any_none test xs h.1)
-
-pub removed-nowhere : (test : Watcher → Bool) (xs : List Watcher) → None ≡ position test xs → xs ≡ without_first test xs
-removed-nowhere test xs none = kept_all test xs (none_pass test xs none)
-
-pub found-nowhere : (test : Watcher → Bool) (xs : List Watcher) → None ≡ position test xs → None ≡ find test xs
-found-nowhere test xs none = find_none test xs (none_pass test xs none)
-
-pub changed-nowhere : (test : Watcher → Bool) (change : Watcher → Watcher) (xs : List Watcher) → None ≡ position test xs → xs ≡ changed_first test change xs
-changed-nowhere test change xs none = same_all test change xs (none_pass test xs none)
-
-pub any-nowhere : (test : Watcher → Bool) (xs : List Watcher) → None ≡ position test xs → false ≡ list_any test xs
-any-nowhere test xs none = any_none test xs (none_pass test xs none)
+pub any-nowhere : (test : Watcher → Bool) (xs : List Watcher) → position test xs ≡ None → false ≡ list_any test xs
+any-nowhere test xs none = sym (any_found test xs ∙ ap is_some (find-nowhere test xs none))
 
 -- ---- the one with an index
 
@@ -220,22 +134,10 @@ next-free from ws (Some i) w is = λ there.
     one : {x y : Watcher} → Some x ≡ Some y → x ≡ y
     one e = cc
 
--- ---- one that is not found
-
-find_fails : (test : Watcher → Bool) (xs : List Watcher) → None ≡ find test xs → AllByRecursion (λ x. test x ≡ false) xs
-find_fails test [] none = tt
-find_fails test (x ∷ xs) none = by (test x) refl none (find_fails test xs)
-  where
-    by : (b : Bool) → test x ≡ b → None ≡ cond b (Some x) (find test xs) → (None ≡ find test xs → AllByRecursion (λ (y : Watcher). test y ≡ false) xs) → AllByRecursion (λ (y : Watcher). test y ≡ false) (x ∷ xs)
-    by true e g more = absurd cc
-    by false e g more = (e, more g)
-
 -- where none was found to be taken out, none is there
 pub absent-after : (test : Watcher → Bool) (xs after : List Watcher) (r : Option Watcher) → r ≡ find test xs → after ≡ without_first test xs → IfNone r (list_any test after ≡ false)
 absent-after test xs after (Some w) is left = tt
-absent-after test xs after None is left =
-    let fails = find_fails test xs is in
-    ap (list_any test) (left ∙ sym (kept_all test xs fails)) ∙ sym (any_none test xs fails)
+absent-after test xs after None is left = ap (list_any test) (left ∙ without_first-unfound test xs (sym is)) ∙ (any_found test xs ∙ ap is_some (sym is))
 
 pub get-slice : (xs : List Watcher) (i : ℕ) (w : Watcher) → i < length xs → w ≡ get_or xs i w → slice_get xs i ≡ Some w
 get-slice [] i w inside is = absurd (omega (arith, inside))

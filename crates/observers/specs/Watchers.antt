@@ -1,5 +1,5 @@
 -- The observers of a table: which is found, and what changes (RFC 7641 section 4).
-use Rattle.std.specs.Prelude.{◌≡◌, ℕ, ◌+◌, zero, suc, Bool, true, false, not, ◌&&◌, ◌||◌, ◌==◌, List, [], ◌∷◌, drop, Option, Some, None, is_some, if◌then◌else◌}
+use Rattle.std.specs.Prelude.{ℕ, ◌+◌, zero, suc, Bool, false, not, ◌&&◌, ◌||◌, ◌==◌, List, [], ◌∷◌, drop, Option, Some, None, is_some, if◌then◌else◌}
 use Rattle.std.specs.List.{list_any}
 use Rattle.rd_base.specs.declared.peers.Peer.{Peer}
 use Rattle.event_model.specs.Same.{is_same_peer, is_same_request}
@@ -84,13 +84,3 @@ abbrev pub changed_at : (Watcher → Watcher) → ℕ → List Watcher → List 
 changed_at change i [] = []
 changed_at change zero (w ∷ ws) = change w ∷ ws
 changed_at change (suc i) (w ∷ ws) = w ∷ changed_at change i ws
-
--- the first that passes a test changes
-unfoldable pub changed_first : (Watcher → Bool) → (Watcher → Watcher) → List Watcher → List Watcher
-changed_first test change [] = []
-changed_first test change (w ∷ ws) = if test w then change w ∷ ws else w ∷ changed_first test change ws
-
--- the first that passes a test is gone
-unfoldable pub without_first : (Watcher → Bool) → List Watcher → List Watcher
-without_first test [] = []
-without_first test (w ∷ ws) = if test w then ws else w ∷ without_first test ws

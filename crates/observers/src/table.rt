@@ -10,7 +10,8 @@ ghost use Rattle.event_model.specs.Observers.{observers, max_observers};
 ghost use Rattle.event_model.specs.Flights.{OctetsSent, Sent as Message, flight, is_waited_for};
 ghost use Rattle.event_model.specs.Due.{Transition};
 ghost use Rattle.exchange_core.specs.Retransmissions.{Resends};
-ghost use Rattle.observers.specs.Watchers.{Watcher, is_named, has_notice, is_awaited, next_ready, marked, noticed, seen, landed, due_of, timed, changed_at, changed_first, without_first};
+ghost use Rattle.rd_base.specs.Firsts.{changed_first, without_first};
+ghost use Rattle.observers.specs.Watchers.{Watcher, is_named, has_notice, is_awaited, next_ready, marked, noticed, seen, landed, due_of, timed, changed_at};
 ghost use Rattle.observers.specs.ObserverEvents.{observer_of, ObserversStandFor, NoneLater, notice_due};
 
 use crate::Observer;

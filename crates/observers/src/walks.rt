@@ -4,7 +4,8 @@ ghost use Rattle.std.specs.List.{list_any, position};
 ghost use Rattle.std.specs.Arc.{arc_value};
 ghost use Rattle.event_model.specs.Same.{is_same_peer};
 ghost use Rattle.observers.specs.AwaitedPeers.{awaited_of, Tells};
-ghost use Rattle.observers.specs.Watchers.{Watcher, is_named, has_notice, is_awaited, is_ready, next_ready, marked, noticed, seen, landed, due_of, timed, changed_at, changed_first, without_first};
+ghost use Rattle.rd_base.specs.Firsts.{changed_first, without_first};
+ghost use Rattle.observers.specs.Watchers.{Watcher, is_named, has_notice, is_awaited, is_ready, next_ready, marked, noticed, seen, landed, due_of, timed, changed_at};
 
 use crate::Observer;
 use exchange_core::{Again, Sent, Token};

@@ -10,13 +10,16 @@ use Rattle.journal_model.specs.Effects.{Effects}
 use Rattle.journal_model.specs.UnfinishedRow.{making, drawing}
 use Rattle.rd_desk.specs.declared.mids.Mids.{Mids}
 use Rattle.rd_desk.specs.Desks.{Seen, StandsFor}
+use Rattle.rd_desk.specs.Sendings.{AreRequestsSent}
 
--- the step is under way after a journal of a desk: the desk stands for the journal with a row that did this so far, which is what was sent and drawn
+-- the step is under way after a journal of a desk: the desk stands for the journal with a row that did this so far, which is what was sent and drawn; the requests
+-- of fetches that the row noted are among what it sent
 pub record UnderWay (rows : List Row) (s : Step) (starved : Bool) (done : Effects) (desk : Seen) (out : List (Peer × List ℕ)) (mids : Mids) : Type 0 where
   pub journal : IsDeskJournal rows
   pub no_later_look : NoLaterLook s.handed.0 rows
   pub no_look : is_look s.kind ≡ false
   pub stands : StandsFor (making rows s starved done) desk
+  pub requests : AreRequestsSent done
   pub sent : out ≡ done.sent
   pub worker : mids.worker ≡ s.worker
   pub drawn : mids.drawn ≡ drawing done.drew s.drawn

@@ -1,21 +1,19 @@
 -- What the calls on a table answer and leave, from what is kept.
-use Rattle.std.proofs.Common.{◌≡◌, ◌≢◌, ℕ, ◌+◌, ◌<◌, ◌≤◌, ◌==◌, ◌&&◌, ◌%◌, ◌^◌, Bool, true, false, cond, List, [], ◌∷◌, ◌++◌, length, set, get_or, find, Option, Some, None, option_map, option_and_then, refl, sym, ap, subst, ◌∙◌, lt-ltb, arith}
+use Rattle.std.proofs.Common.{◌≡◌, ◌≢◌, ℕ, ◌+◌, ◌<◌, ◌≤◌, ◌==◌, ◌&&◌, ◌%◌, ◌^◌, Bool, true, false, List, [], ◌∷◌, ◌++◌, length, set, get_or, find, Option, Some, None, option_map, option_and_then, refl, sym, ap, subst, ◌∙◌, arith}
 use Rattle.std.specs.Prelude.{is_some, nat_le}
-use Rattle.std.specs.List.{position, remove, slice_get, count_by}
+use Rattle.std.specs.List.{position, slice_get, count_by}
 use Rattle.std.specs.Int.{bytes_high_first}
-use Rattle.std.proofs.lemmas.Bool.{false≢true, and_parts}
+use Rattle.std.proofs.lemmas.Bool.{false≢true}
 use Rattle.std.proofs.lemmas.List.{set-get_or}
-use Rattle.std.proofs.lemmas.Option.{slice_get-map, slice_get_read}
+use Rattle.std.proofs.lemmas.Option.{slice_get_read}
 use Rattle.rd_base.specs.declared.peers.Peer.{Peer}
 use Rattle.rd_base.specs.declared.parameters.RegParams.{RegParams}
 use Rattle.message_model.specs.declared.blocks.Block.{Block}
 use Rattle.message_model.specs.Message.{Message}
-use Rattle.message_model.specs.Spelling.{spelling}
 use Rattle.event_model.specs.declared.notes.Note.TheVariants as note
 use Rattle.event_model.specs.Events.{Event}
 use Rattle.event_model.specs.Flights.{OctetsSent}
-use Rattle.event_model.specs.Fetches.{max_fetches, fetches, is_fetching, is_start, next_token, fetches_started, Request, request_noted, last_request, Fetch, fetch_asked, fetch_of, fetches_running}
-use Rattle.journal_model.specs.Commits.{fetch_request}
+use Rattle.event_model.specs.Fetches.{max_fetches, fetches, is_fetching, is_start, next_token, fetches_started, Request, request_noted, last_request, Fetch, fetch_asked, fetch_of}
 use Rattle.journal_model.specs.Responses.{request_of, block_in, tag_in, is_elsewhere}
 use Rattle.journal_model.specs.EmptyMessages.{is_last_request}
 use Rattle.exchange_core.specs.declared.resends.Again.{Again}
@@ -27,13 +25,14 @@ use Rattle.simple_registration.specs.declared.starts.StartFault.TheVariants as f
 use Rattle.simple_registration.specs.Responses.{ends_by, request_after, heard_part, heard_block, heard_by}
 use Rattle.simple_registration.specs.Running.{is_answered_by, heard_of, with_next, with_request, with_block, awaiting, due_of, after_due}
 use Rattle.simple_registration.specs.Hearing.{IsLeftBy, fetch_started, first_octets}
-use Rattle.simple_registration.specs.Table.{Table, is_of, some_passes, belongs_among, changed_first, without_first, IsKeptAfter}
+use Rattle.rd_base.specs.Firsts.{changed_first, without_first}
+use Rattle.simple_registration.specs.Table.{Table, is_of, some_passes, belongs_among, IsKeptAfter}
 use Rattle.simple_registration.specs.FetchEvents.{FetchesStandFor, start_refusal, belongs_after, heard_after, fetch_due}
-use Rattle.simple_registration.proofs.RowLaws.{changed_first-at, without_first-at, find-at, find-or, find-nowhere}
-use Rattle.simple_registration.proofs.RunningLaws.{running-peers, running-found, running-at, running-set}
+use Rattle.rd_base.proofs.lemmas.Firsts.{changed_first-at, find-at, find-or, find-nowhere}
+use Rattle.simple_registration.proofs.RunningLaws.{running-at, running-set}
 use Rattle.simple_registration.proofs.TokenLaws.{octets_after}
 use Rattle.simple_registration.proofs.RuleLaws.{due_is}
-use Rattle.simple_registration.proofs.TableLaws.{found_running, none_running, running_length, running_passes, names_passed, mid_passed, IsShown, is_shown, stands-started, stands-resent, stands-waiting, stands-ceased, stands-next}
+use Rattle.simple_registration.proofs.TableLaws.{found_running, none_running, running_length, running_passes, names_passed, mid_passed, is_shown, stands-started, stands-resent, stands-waiting, stands-ceased, stands-next}
 
 -- a table of these
 abbrev pub table_of : List Fetch → ℕ → Table

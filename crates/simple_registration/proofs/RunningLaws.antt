@@ -1,6 +1,6 @@
 -- The fetches that run, as a list: whose they are, which is found, and what an event changes of the list.
-use Rattle.std.proofs.Common.{◌≡◌, ℕ, zero, suc, set, ◌==◌, ◌||◌, ◌&&◌, Bool, true, false, not, cond, List, [], ◌∷◌, ◌++◌, length, map, filter, find, Option, Some, None, option_map, option_and_then, refl, sym, ap, subst, ◌∙◌, arith}
-use Rattle.std.specs.Prelude.{is_some, IsSome}
+use Rattle.std.proofs.Common.{◌≡◌, ℕ, zero, suc, set, ◌||◌, Bool, true, false, not, cond, List, [], ◌∷◌, map, filter, find, Option, Some, None, option_map, option_and_then, refl, sym, ap, subst, ◌∙◌}
+use Rattle.std.specs.Prelude.{is_some}
 use Rattle.std.specs.List.{cons_option, filter_map, list_any, AllByRecursion, slice_get}
 use Rattle.std.proofs.lemmas.Bool.{false≢true}
 use Rattle.rd_base.specs.declared.peers.Peer.{Peer}
@@ -10,7 +10,8 @@ use Rattle.event_model.specs.Events.{Event}
 use Rattle.event_model.specs.Flights.{OctetsSent}
 use Rattle.event_model.specs.Fetches.{fetches, is_fetching, Request, request_noted, last_request, Fetch, fetch_asked, fetch_of, fetches_running}
 use Rattle.event_model.proofs.SameLaws.{is_same_peer-Decides, is_same_peer-refl}
-use Rattle.simple_registration.specs.Table.{is_of, changed_first, without_first}
+use Rattle.rd_base.specs.Firsts.{changed_first, without_first}
+use Rattle.simple_registration.specs.Table.{is_of}
 use Rattle.simple_registration.proofs.PeerLaws.{AreApart, fetches-apart, requested, request_made, other_peer-symmetric}
 
 -- ---- the fetch of a peer is its own

@@ -1,7 +1,7 @@
 -- What a table of fetches stands for, as it is used and changed.
-use Rattle.std.proofs.Common.{◌≡◌, ℕ, ◌+◌, ◌<◌, ◌≤◌, ◌==◌, ◌||◌, ◌&&◌, Bool, true, false, not, cond, List, [], ◌∷◌, ◌++◌, length, map, set, get_or, find, Option, Some, None, option_map, option_and_then, refl, sym, ap, subst, ◌∙◌, append-nil, zero-add, arith, ◌%◌, ◌^◌, count_by, ap₂}
+use Rattle.std.proofs.Common.{◌≡◌, ℕ, ◌+◌, ◌==◌, ◌||◌, ◌&&◌, Bool, true, false, cond, List, [], ◌∷◌, ◌++◌, length, find, Option, Some, None, option_map, option_and_then, refl, sym, ap, subst, ◌∙◌, zero-add, arith, ◌%◌, ◌^◌, count_by, ap₂}
 use Rattle.std.specs.Prelude.{is_some}
-use Rattle.std.specs.List.{cons_option, filter_map, list_any, AllByRecursion, slice_get}
+use Rattle.std.specs.List.{cons_option, filter_map, list_any, AllByRecursion}
 use Rattle.std.proofs.lemmas.Bool.{false≢true, ne_eqb}
 use Rattle.std.proofs.lemmas.List.{length-map}
 use Rattle.std.proofs.lemmas.List.Sums.{sum_by-cons}
@@ -9,22 +9,22 @@ use Rattle.std.proofs.lemmas.List.Elements.{filter_map-append}
 use Rattle.rd_base.specs.declared.peers.Peer.{Peer}
 use Rattle.message_model.specs.Message.{Message}
 use Rattle.rd_base.specs.declared.parameters.RegParams.{RegParams}
-use Rattle.event_model.specs.declared.notes.Note.{Note}
 use Rattle.event_model.specs.declared.notes.Note.TheVariants as note
 use Rattle.event_model.specs.Same.{is_same_peer}
 use Rattle.event_model.specs.Events.{Event}
 use Rattle.event_model.specs.Flights.{OctetsSent}
-use Rattle.event_model.specs.Fetches.{fetches, is_fetching, Request, request_noted, last_request, gathered, collected, tag_of_first, Fetch, fetch_asked, fetch_of, fetches_running, is_start, fetches_started}
+use Rattle.event_model.specs.Fetches.{fetches, is_fetching, Request, request_noted, last_request, Fetch, fetch_asked, fetch_of, fetches_running, is_start, fetches_started}
 use Rattle.event_model.proofs.SameLaws.{is_same_peer-refl}
 use Rattle.event_model.proofs.NotedLaws.{event_at}
 use Rattle.journal_model.specs.Responses.{request_of}
 use Rattle.journal_model.specs.EmptyMessages.{is_request_of, made_request}
 use Rattle.exchange_core.specs.declared.resends.Again.TheVariants as again
 use Rattle.simple_registration.specs.Running.{is_answered_by, with_block, with_request, awaiting, after_due, sent_first}
-use Rattle.simple_registration.specs.Table.{Table, is_of, some_passes, changed_first, without_first}
+use Rattle.rd_base.specs.Firsts.{changed_first, without_first}
+use Rattle.simple_registration.specs.Table.{Table, is_of, some_passes}
 use Rattle.simple_registration.specs.FetchEvents.{FetchesStandFor, has_names_of_request}
 use Rattle.simple_registration.proofs.NoteLaws.{IsAside, fetch_of-aside, other_Asked, other_Gathered, other_Resent, other_Waiting, any_Ceased, fetch_of-Gathered, fetch_of-Resent, fetch_of-Waiting, fetch_of-Asked, fetch_of-start}
-use Rattle.simple_registration.proofs.PeerLaws.{fetches-aside, fetches-Ceased, fetches-start, same_peer-symmetric}
+use Rattle.simple_registration.proofs.PeerLaws.{fetches-aside, fetches-Ceased, fetches-start}
 use Rattle.simple_registration.proofs.RunningLaws.{running-peers, running-found, running-changed, running-dropped, running-there, fetch_of-peer, same_for, changed_twice}
 
 -- ---- the fetch of a peer

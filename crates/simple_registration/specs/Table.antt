@@ -1,5 +1,5 @@
 -- The fetches of the table, in the order in which they started: which is found, and what changes.
-use Rattle.std.specs.Prelude.{◌≡◌, ℕ, Bool, false, List, [], ◌∷◌, find, Option, Some, None, if◌then◌else◌}
+use Rattle.std.specs.Prelude.{◌≡◌, ℕ, Bool, false, List, find, Option, Some, None}
 use Rattle.rd_base.specs.declared.peers.Peer.{Peer}
 use Rattle.message_model.specs.Message.{Message}
 use Rattle.event_model.specs.Same.{is_same_peer}
@@ -25,16 +25,6 @@ some_passes test (Some f) = test f
 -- a response belongs to one of the fetches
 abbrev pub belongs_among : Peer → Message → List Fetch → Bool
 belongs_among peer m fs = some_passes (is_answered_by m) (find (is_of peer) fs)
-
--- the first that passes a test changes
-unfoldable pub changed_first : (Fetch → Bool) → (Fetch → Fetch) → List Fetch → List Fetch
-changed_first test change [] = []
-changed_first test change (f ∷ fs) = if test f then change f ∷ fs else f ∷ changed_first test change fs
-
--- the first that passes a test is gone
-unfoldable pub without_first : (Fetch → Bool) → List Fetch → List Fetch
-without_first test [] = []
-without_first test (f ∷ fs) = if test f then fs else f ∷ without_first test fs
 
 -- after a response the table is as before, unless the next block is asked for or the fetch ends
 abbrev pub IsKeptAfter : Heard → Table → Table → Type 0

@@ -13,7 +13,8 @@ ghost use Rattle.event_model.specs.Fetches.{Request, fetches, next_token, last_r
 ghost use Rattle.journal_model.specs.Commits.{fetch_request};
 ghost use Rattle.journal_model.specs.Responses.{request_of, block_in, tag_in};
 ghost use Rattle.journal_model.specs.EmptyMessages.{is_last_request};
-ghost use Rattle.simple_registration.specs.Table.{is_of, some_passes, belongs_among, without_first, IsKeptAfter};
+ghost use Rattle.rd_base.specs.Firsts.{without_first};
+ghost use Rattle.simple_registration.specs.Table.{is_of, some_passes, belongs_among, IsKeptAfter};
 ghost use Rattle.simple_registration.specs.FetchEvents.{FetchesStandFor, start_refusal, IsRefusedAs, belongs_after, heard_after, fetch_due};
 
 use crate::running::Fetch;

@@ -2,6 +2,7 @@
 use Rattle.std.proofs.Common.{◌≡◌, ℕ, zero, suc, Bool, true, false, not, ◌||◌, ◌&&◌, cond, List, [], ◌∷◌, ◌++◌, length, map, take, filter, find, Option, Some, None, option_map, option_and_then, refl, sym, ap, ap₂, subst, ◌∙◌, arith}
 use Rattle.std.specs.List.{AllByRecursion}
 use Rattle.std.proofs.lemmas.Bool.{false≢true, or_parts}
+use Rattle.std.proofs.lemmas.List.{take_all}
 use Rattle.rd_base.specs.declared.peers.Peer.{Peer}
 use Rattle.rd_base.proofs.lemmas.Filters.{filter_all}
 use Rattle.rd_base.proofs.lemmas.Each.{each_weaker, each_passes}
@@ -15,9 +16,10 @@ use Rattle.event_model.specs.KeptAnswers.{max_answers, Answer, answer_kept, used
 use Rattle.event_model.proofs.SameLaws.{is_same_request-Decides, is_same_request-refl}
 use Rattle.event_model.proofs.NotedLaws.{event_at}
 use Rattle.event_model.proofs.AsideTables.{about_answers}
-use Rattle.transfers.specs.Keeping.{NamedAnswer, is_kept_as, live_kept, without_first, used, kept_at, used_at, kept_each}
+use Rattle.rd_base.specs.Firsts.{without_first}
+use Rattle.transfers.specs.Keeping.{NamedAnswer, is_kept_as, live_kept, used, kept_at, used_at, kept_each}
 use Rattle.transfers.specs.TransferEvents.{answer_of, AnswersStandFor, kept_note}
-use Rattle.transfers.proofs.KeptLists.{take_whole, length-take_le}
+use Rattle.transfers.proofs.KeptLists.{length-take_le}
 
 -- the tests of names
 same_names : (name other : RequestName) → is_same_request name other ≡ true → name ≡ other
@@ -215,7 +217,7 @@ fewer f named name keep tests (suc n) (m ∷ ns) (x ∷ xs) pairs are =
         rw same (ap₂ (λ y ys. y ∷ ys) first more)
     by false k first rest more =
         let same : is_same_request name x.name ≡ true = ap (is_same_request name) (named m x (sym first)) ∙ (tests m ∙ ap not k) in
-        let whole : take (suc n) xs ≡ xs = take_whole (suc n) xs (let le = length-take_le (suc n) ns in let e = length-some f xs (take (suc n) ns) rest in omega (arith, le, e)) in
+        let whole : take (suc n) xs ≡ xs = take_all (suc n) xs (let le = length-take_le (suc n) ns in let e = length-some f xs (take (suc n) ns) rest in omega (arith, le, e)) in
         let here : name ≡ m = same_names name m (tests m ∙ ap not k) in
         let all : filter keep ns ≡ ns = filter_all keep ns (each_weaker (Differ m) (λ y. keep y ≡ true)
         (λ y d. not_true (keep y) (sym (tests y) ∙ subst (λ z. is_same_request z y ≡ false) (sym here) d)) ns pairs.0) in

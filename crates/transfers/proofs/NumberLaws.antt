@@ -3,6 +3,7 @@ use Rattle.std.proofs.Common.{◌≡◌, ℕ, ◌+◌, ◌-◌, ◌<◌, ◌≤�
 use Rattle.std.specs.List.{AllByRecursion, IsDistinct}
 use Rattle.std.specs.Option.{option_map_or}
 use Rattle.std.specs.Map.{keys_of, lookup, lookup_entry, remove_entry}
+use Rattle.std.proofs.lemmas.List.{take_all}
 use Rattle.rd_base.proofs.lemmas.Options.{none_some, some_same}
 use Rattle.rd_base.proofs.lemmas.Numbers.{eqb-refl}
 use Rattle.rd_base.proofs.lemmas.Each.{each_weaker}
@@ -12,8 +13,9 @@ use Rattle.event_model.specs.Events.{is_young}
 use Rattle.event_model.specs.Same.{RequestName}
 use Rattle.event_model.specs.KeptAnswers.{KeptAnswer}
 use Rattle.event_model.proofs.SameLaws.{is_same_request-Decides}
-use Rattle.transfers.specs.Keeping.{is_kept_as, without_first, used, used_at, values, AreBelow, live_kept, number_for}
-use Rattle.transfers.proofs.KeptLists.{take_whole, length-without, without-none}
+use Rattle.rd_base.specs.Firsts.{without_first}
+use Rattle.rd_base.proofs.lemmas.Firsts.{length-without_found, without_first-unfound}
+use Rattle.transfers.specs.Keeping.{is_kept_as, used, used_at, values, AreBelow, live_kept, number_for}
 
 -- pairs of numbers and answers
 abbrev Pairs : Type 0
@@ -89,10 +91,10 @@ unfolding used
 put_first name pairs p x distinct few there named =
     let found = found_entry (is_kept_as name) pairs p distinct there in
     let there_too : find (is_kept_as name) (values pairs) ≡ Some p.1 = find-values (is_kept_as name) pairs ∙ ap (option_map (λ (q : ℕ × KeptAnswer). q.1)) there in
-    let one_fewer = length-without (is_kept_as name) (values pairs) p.1 there_too in
+    let one_fewer = length-without_found (is_kept_as name) (values pairs) p.1 there_too in
     let as_many = length-values pairs in
     let short : length (without_first (is_kept_as name) (values pairs)) ≤ 63 = omega (arith, one_fewer, as_many, few) in
-    ap (λ xs. x ∷ xs) (found.1 ∙ sym (take_whole 63 (without_first (is_kept_as name) (values pairs)) short))
+    ap (λ xs. x ∷ xs) (found.1 ∙ sym (take_all 63 (without_first (is_kept_as name) (values pairs)) short))
     ∙ ap (λ (n : RequestName). x ∷ take 63 (without_first (is_kept_as n) (values pairs))) (sym named)
 
 found_name : (name : RequestName) (pairs : Pairs) (p : ℕ × KeptAnswer) → find (λ q. is_kept_as name q.1) pairs ≡ Some p → p.1.name ≡ name
@@ -140,7 +142,7 @@ after c n kept o is = rw is refl
 
 new_first : (kept : KeptAnswer) (pairs : Pairs) → find (is_kept_as kept.name) (values pairs) ≡ None → kept ∷ values (take 63 pairs) ≡ used kept (values pairs)
 unfolding used
-new_first kept pairs none = ap (λ xs. kept ∷ xs) (values-take 63 pairs ∙ ap (take 63) (sym (without-none (is_kept_as kept.name) (values pairs) none)))
+new_first kept pairs none = ap (λ xs. kept ∷ xs) (values-take 63 pairs ∙ ap (take 63) (sym (without_first-unfound (is_kept_as kept.name) (values pairs) none)))
 
 pub keep-values : (c : LruCache ℕ KeptAnswer) (number : ℕ) (kept : KeptAnswer) → IsDistinct nat_eq (keys_of c.entries) → length c.entries ≤ c.cap → c.cap ≡ 64 → AreBelow number c.entries
     → values (put_entries nat_eq c (number_for kept.name number c.entries) kept) ≡ used kept (values c.entries)
@@ -220,7 +222,7 @@ pub put-new : (c : LruCache ℕ KeptAnswer) (number : ℕ) (x : KeptAnswer) → 
 put-new c number x below room few =
     after c number x None (absent number c.entries below)
     ∙ (ap (λ n. (number, x) ∷ take (n - 1) c.entries) room
-    ∙ ap (λ ps. (number, x) ∷ ps) (take_whole 63 c.entries (omega (arith, few))))
+    ∙ ap (λ ps. (number, x) ∷ ps) (take_all 63 c.entries (omega (arith, few))))
 
 -- the last of what is left goes before what was copied
 pub moved-last : (left rest copy : Pairs) (p : ℕ × KeptAnswer) → left ≡ rest ++ p ∷ [] → values left ++ values copy ≡ values rest ++ (p.1 ∷ values copy)

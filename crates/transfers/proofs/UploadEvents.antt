@@ -17,7 +17,8 @@ use Rattle.event_model.specs.Uploads.{collected_after, upload, is_piece_of, is_l
 use Rattle.event_model.proofs.SameLaws.{is_same_request-Decides, is_same_request-refl}
 use Rattle.event_model.proofs.NotedLaws.{event_at}
 use Rattle.event_model.proofs.AsideTables.{about_uploads, uploads_at-noted}
-use Rattle.transfers.specs.Uploading.{is_of, is_live_as, live_body, young_uploads, other_uploads, without_upload, first_block, with_block, grown_first, begun, gone_on}
+use Rattle.rd_base.specs.Firsts.{changed_first}
+use Rattle.transfers.specs.Uploading.{is_of, is_live_as, live_body, young_uploads, other_uploads, without_upload, first_block, with_block, begun, gone_on}
 use Rattle.transfers.specs.TransferEvents.{UploadsStandFor}
 
 -- an event by its parts
@@ -396,8 +397,8 @@ uploads-differ (e ∷ before) = by e.note (uploads-differ before)
 
 -- the one that gets a further block is the only one of its name
 young-grown : (now : ℕ) (name : RequestName) (octets : List ℕ) (us : List Upload)
-    → young_uploads now (grown_first (is_live_as now name) octets now us) ≡ grown_first (is_of name) octets now (young_uploads now us)
-unfolding grown_first
+    → young_uploads now (changed_first (is_live_as now name) (with_block octets now) us) ≡ changed_first (is_of name) (with_block octets now) (young_uploads now us)
+unfolding changed_first
 young-grown now name octets [] = refl
 young-grown now name octets (u ∷ us) = by (is_young now u.moment) (is_of name u) refl refl (young-grown now name octets us)
   where
@@ -405,10 +406,10 @@ young-grown now name octets (u ∷ us) = by (is_young now u.moment) (is_of name 
     young = young_uploads now us
 
     grown : List Upload
-    grown = grown_first (is_live_as now name) octets now us
+    grown = changed_first (is_live_as now name) (with_block octets now) us
 
-    by : (y o : Bool) → is_young now u.moment ≡ y → is_of name u ≡ o → young_uploads now grown ≡ grown_first (is_of name) octets now young
-        → young_uploads now (cond (o && y) (with_block octets now u ∷ us) (u ∷ grown)) ≡ grown_first (is_of name) octets now (cond y (u ∷ young) young)
+    by : (y o : Bool) → is_young now u.moment ≡ y → is_of name u ≡ o → young_uploads now grown ≡ changed_first (is_of name) (with_block octets now) young
+        → young_uploads now (cond (o && y) (with_block octets now u ∷ us) (u ∷ grown)) ≡ changed_first (is_of name) (with_block octets now) (cond y (u ∷ young) young)
     by true true y o more = rw (young_now now, o) refl
     by true false y o more = rw (y, o) (ap (λ rest. u ∷ rest) more)
     by false true y o more = rw y more
@@ -416,8 +417,8 @@ young-grown now name octets (u ∷ us) = by (is_young now u.moment) (is_of name 
 
 grown_shown : (name : RequestName) (octets : List ℕ) (now : ℕ) (f g : RequestName → Option Upload) → ((n : RequestName) (u : Upload) → f n ≡ Some u → u.name ≡ n)
     → ((n : RequestName) → is_same_request name n ≡ false → g n ≡ f n) → (was : Upload) → f name ≡ Some was → g name ≡ Some (with_block octets now was) → (ns : List RequestName) → PairsByRecursion Differ ns
-    → grown_first (is_of name) octets now (filter_map f ns) ≡ filter_map g ns
-unfolding grown_first
+    → changed_first (is_of name) (with_block octets now) (filter_map f ns) ≡ filter_map g ns
+unfolding changed_first
 grown_shown name octets now f g named same was there grown [] pairs = refl
 grown_shown name octets now f g named same was there grown (n ∷ ns) pairs =
     by (is_same_request name n) refl (f n) refl (grown_shown name octets now f g named same was there grown ns pairs.1)
@@ -427,8 +428,8 @@ grown_shown name octets now f g named same was there grown (n ∷ ns) pairs =
     rest_same [] each = refl
     rest_same (m ∷ ms) each = rw (same m each.0) (ap (λ us. cons_option (f m) us) (rest_same ms each.1))
 
-    by : (s : Bool) → is_same_request name n ≡ s → (o : Option Upload) → f n ≡ o → grown_first (is_of name) octets now (filter_map f ns) ≡ filter_map g ns
-        → grown_first (is_of name) octets now (cons_option o (filter_map f ns)) ≡ cons_option (g n) (filter_map g ns)
+    by : (s : Bool) → is_same_request name n ≡ s → (o : Option Upload) → f n ≡ o → changed_first (is_of name) (with_block octets now) (filter_map f ns) ≡ filter_map g ns
+        → changed_first (is_of name) (with_block octets now) (cons_option o (filter_map f ns)) ≡ cons_option (g n) (filter_map g ns)
     by true s None e more = let h : None ≡ Some was = sym e ∙ (ap f (sym (same_names name n s)) ∙ there) in absurd (none_some h)
     by true s (Some u) e more =
         let here : name ≡ n = same_names name n s in
@@ -467,7 +468,7 @@ goes_on : (now place word : ℕ) (peer : Peer) (key : List ℕ) (number : ℕ) (
 unfolding gone_on uploads_at uploads
 goes_on now place word peer key number octets events us body z there stands =
     young-grown now name octets us
-    ∙ (ap (grown_first (is_of name) octets now) stands.live
+    ∙ (ap (changed_first (is_of name) (with_block octets now)) stands.live
     ∙ (grown_shown name octets now (upload_of now events) f (λ n u h. (upload_of-shows now events n u h).0)
     (λ n s. other_upload now e events n (piece_of_other peer key number octets n s) s) was shows.1 grown (uploads events) (uploads-differ events)
     ∙ rw z (ap (filter_map f) (sym (append-nil (filter (λ n. true) (uploads events)) ∙ filter_all (λ n. true) (uploads events) (each_one (λ n. true ≡ true) (λ n. refl) (uploads events)))))))

@@ -1,6 +1,7 @@
 -- The kept answers of a table, that of the latest use first: which is found, and what keeping and reading change (RFC 7959 section 2.4).
 use Rattle.std.specs.Prelude.{ℕ, ◌<◌, Bool, List, [], ◌∷◌, take, find, map, Option, Some, None, option_map, option_and_then, unwrap_or, if◌then◌else◌}
 use Rattle.std.specs.List.{AllByRecursion}
+use Rattle.rd_base.specs.Firsts.{without_first}
 use Rattle.event_model.specs.Same.{RequestName, is_same_request}
 use Rattle.event_model.specs.Events.{is_young}
 use Rattle.event_model.specs.KeptAnswers.{max_answers, Answer, KeptAnswer}
@@ -17,11 +18,6 @@ is_kept_as name x = is_same_request name x.name
 -- the kept answer of a name, where its last use is young enough
 unfoldable pub live_kept : ℕ → RequestName → List KeptAnswer → Option KeptAnswer
 live_kept now name xs = option_and_then (λ x. if is_young now x.moment then Some x else None) (find (is_kept_as name) xs)
-
--- the first that passes a test is gone
-unfoldable pub without_first : (KeptAnswer → Bool) → List KeptAnswer → List KeptAnswer
-without_first test [] = []
-without_first test (x ∷ xs) = if test x then xs else x ∷ without_first test xs
 
 -- an answer is used: it stands first, in place of what was kept under its name, and the 64 that were used last are left
 unfoldable pub used : KeptAnswer → List KeptAnswer → List KeptAnswer

@@ -1,5 +1,6 @@
 -- The uploads of a table, in the order in which they began: which is found, and what a block changes (RFC 7959 section 2.5).
 use Rattle.std.specs.Prelude.{ℕ, Bool, not, ◌&&◌, ◌==◌, List, [], ◌∷◌, ◌++◌, find, filter, Option, option_map, if◌then◌else◌}
+use Rattle.rd_base.specs.Firsts.{changed_first}
 use Rattle.message_model.specs.declared.blocks.Block.{Block}
 use Rattle.event_model.specs.Same.{RequestName, is_same_request}
 use Rattle.event_model.specs.Events.{is_young}
@@ -37,18 +38,13 @@ first_block name octets now = record { name = name; body = octets; moment = now 
 abbrev pub with_block : List ℕ → ℕ → Upload → Upload
 with_block octets now u = record { name = u.name; body = u.body ++ octets; moment = now }
 
--- the first that passes a test gets a further block
-unfoldable pub grown_first : (Upload → Bool) → List ℕ → ℕ → List Upload → List Upload
-grown_first test octets now [] = []
-grown_first test octets now (u ∷ us) = if test u then with_block octets now u ∷ us else u ∷ grown_first test octets now us
-
 -- the uploads after that of a name begins anew: of the others those that live
 unfoldable pub begun : ℕ → RequestName → List ℕ → List Upload → List Upload
 begun now name octets us = other_uploads now name us ++ first_block name octets now ∷ []
 
 -- the uploads after that of a name goes on
 unfoldable pub gone_on : ℕ → RequestName → List ℕ → List Upload → List Upload
-gone_on now name octets us = grown_first (is_live_as now name) octets now us
+gone_on now name octets us = changed_first (is_live_as now name) (with_block octets now) us
 
 -- the uploads after a block was collected
 abbrev pub taken : Block → ℕ → RequestName → List ℕ → List Upload → List Upload

@@ -1,6 +1,6 @@
 use Rattle.std.proofs.Common.{sym, ◌∙◌}
+use Rattle.rd_base.proofs.lemmas.Firsts.{without_first-at, without_first-nowhere}
 use Rattle.exchange_core.specs.Table.{is_admitted_at}
-use Rattle.exchange_core.proofs.RowLaws.{without_first-at, without_first-nowhere}
 use Rattle.exchange_core.proofs.table.drop_first.Goals as goal
 
 pub returns-in-Some : goal.returns-in-Some

@@ -1,6 +1,6 @@
 use Rattle.std.proofs.Common.{sym, ◌∙◌}
 use Rattle.simple_registration.specs.Table.{is_of}
-use Rattle.simple_registration.proofs.RowLaws.{without_first-at, without_first-nowhere}
+use Rattle.rd_base.proofs.lemmas.Firsts.{without_first-at, without_first-nowhere}
 use Rattle.simple_registration.proofs.table.drop_first.Goals as goal
 
 pub returns-in-Some-clause-items : goal.returns-in-Some-clause-items

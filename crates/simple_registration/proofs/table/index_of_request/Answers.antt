@@ -1,7 +1,7 @@
 use Rattle.std.proofs.Common.{◌==◌, ap, sym, ◌∙◌}
 use Rattle.event_model.specs.Fetches.{Fetch}
 use Rattle.simple_registration.specs.Table.{is_of, some_passes}
-use Rattle.simple_registration.proofs.RowLaws.{find-at, find-nowhere}
+use Rattle.rd_base.proofs.lemmas.Firsts.{find-at, find-nowhere}
 use Rattle.simple_registration.proofs.table.index_of_request.Goals as goal
 
 pub returns-in_default-clause-answer : goal.returns-in_default-clause-answer

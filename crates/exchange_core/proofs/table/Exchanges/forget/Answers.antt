@@ -1,7 +1,8 @@
-use Rattle.std.proofs.Common.{◌≡◌, ap, subst, sym, ◌∙◌, length, arith}
-use Rattle.exchange_core.specs.Table.{Table, InOrder, is_admitted_at, without_first}
+use Rattle.std.proofs.Common.{ap, subst, sym, ◌∙◌}
+use Rattle.rd_base.specs.Firsts.{without_first}
+use Rattle.exchange_core.specs.Table.{Table, InOrder, is_admitted_at}
 use Rattle.exchange_core.specs.ExchangeEvents.{ExchangesStandFor}
-use Rattle.exchange_core.proofs.RowLaws.{InOrder-without, length-without}
+use Rattle.exchange_core.proofs.RowLaws.{InOrder-without}
 use Rattle.exchange_core.proofs.TableLaws.{ExchangesStandFor-failed}
 use Rattle.exchange_core.proofs.table.Exchanges.forget.Goals as goal
 

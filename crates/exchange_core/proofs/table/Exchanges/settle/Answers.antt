@@ -1,7 +1,8 @@
-use Rattle.std.proofs.Common.{◌≡◌, ap, subst, sym, ◌∙◌, length, arith}
-use Rattle.exchange_core.specs.Table.{Table, InOrder, is_admitted_at, answered_first}
+use Rattle.std.proofs.Common.{ap, subst, sym, ◌∙◌}
+use Rattle.rd_base.specs.Firsts.{changed_first}
+use Rattle.exchange_core.specs.Table.{Table, InOrder, is_admitted_at, answered}
 use Rattle.exchange_core.specs.ExchangeEvents.{ExchangesStandFor}
-use Rattle.exchange_core.proofs.RowLaws.{InOrder-answered, length-answered}
+use Rattle.exchange_core.proofs.RowLaws.{InOrder-answered}
 use Rattle.exchange_core.proofs.TableLaws.{ExchangesStandFor-settled}
 use Rattle.exchange_core.proofs.table.Exchanges.settle.Goals as goal
 
@@ -15,4 +16,4 @@ returns-clause-stands c at events e place it is stands =
     (record { moment = c.self.inside.moment.0; exchanges = c.answer_first.new.queue }) is it.orderly it.admission c.answer_first.ensures (subst (ExchangesStandFor at events) (sym c.self.view_is) stands)
 
 pub returns-clause-answered : goal.returns-clause-answered
-returns-clause-answered c = c.answer_first.ensures ∙ ap (λ (t : Table). answered_first (is_admitted_at c.args.peer c.args.mid c.args.admitted.0) c.args.reply t.exchanges) c.self.view_is
+returns-clause-answered c = c.answer_first.ensures ∙ ap (λ (t : Table). changed_first (is_admitted_at c.args.peer c.args.mid c.args.admitted.0) (answered c.args.reply) t.exchanges) c.self.view_is

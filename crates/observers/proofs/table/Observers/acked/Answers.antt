@@ -1,11 +1,10 @@
 use Rattle.std.proofs.Common.{arith}
 use Rattle.observers.specs.AwaitedPeers.{AreAwaited, awaited_of}
 use Rattle.observers.proofs.AwaitedLaws.{of-AreAwaited}
-use Rattle.std.proofs.Common.{◌∷◌, [], ◌++◌, sym, ap, subst, remove, ◌∙◌}
-use Rattle.std.specs.Arc.{arc_value}
-use Rattle.std.specs.List.{position}
+use Rattle.std.proofs.Common.{◌∷◌, sym, ap, subst, ◌∙◌}
 use Rattle.observers.specs.ObserverEvents.{ObserversStandFor}
-use Rattle.observers.specs.Watchers.{has_notice, landed, changed_first}
+use Rattle.rd_base.specs.Firsts.{changed_first}
+use Rattle.observers.specs.Watchers.{has_notice, landed}
 use Rattle.observers.proofs.StandLaws.{landed-StandsFor}
 use Rattle.observers.proofs.table.Observers.acked.Goals as goal
 

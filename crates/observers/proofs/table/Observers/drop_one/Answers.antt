@@ -2,11 +2,11 @@ use Rattle.observers.proofs.WalkLaws.{absent-after}
 use Rattle.std.proofs.Common.{arith}
 use Rattle.observers.specs.AwaitedPeers.{AreAwaited, awaited_of}
 use Rattle.observers.proofs.AwaitedLaws.{of-AreAwaited}
-use Rattle.std.proofs.Common.{◌∷◌, [], ◌++◌, sym, ap, subst, remove, ◌∙◌}
-use Rattle.std.specs.Arc.{arc_value}
+use Rattle.std.proofs.Common.{◌∷◌, sym, ap, subst, ◌∙◌}
 use Rattle.std.specs.List.{position}
 use Rattle.observers.specs.ObserverEvents.{ObserversStandFor}
-use Rattle.observers.specs.Watchers.{is_named, without_first}
+use Rattle.rd_base.specs.Firsts.{without_first}
+use Rattle.observers.specs.Watchers.{is_named}
 use Rattle.observers.proofs.StandLaws.{dropped-StandsFor}
 use Rattle.observers.proofs.table.Observers.drop_one.Goals as goal
 

@@ -1,7 +1,7 @@
-use Rattle.std.proofs.Common.{subst, sym, ap, ◌∙◌}
+use Rattle.std.proofs.Common.{subst, sym, ◌∙◌}
 use Rattle.simple_registration.specs.Table.{is_of}
 use Rattle.simple_registration.specs.FetchEvents.{FetchesStandFor}
-use Rattle.simple_registration.proofs.RowLaws.{without_first-at}
+use Rattle.rd_base.proofs.lemmas.Firsts.{without_first-at}
 use Rattle.simple_registration.proofs.CallLaws.{last_request_is, ends}
 use Rattle.simple_registration.proofs.table.Fetches.reset.Goals as goal
 

@@ -7,7 +7,7 @@ use Rattle.simple_registration.specs.declared.hearing.Heard.TheVariants as heard
 use Rattle.simple_registration.specs.Hearing.{IsLeftBy}
 use Rattle.simple_registration.specs.Table.{Table, is_of, belongs_among, IsKeptAfter}
 use Rattle.simple_registration.specs.FetchEvents.{FetchesStandFor}
-use Rattle.simple_registration.proofs.RowLaws.{without_first-at}
+use Rattle.rd_base.proofs.lemmas.Firsts.{without_first-at}
 use Rattle.simple_registration.proofs.CallLaws.{table_of, belongs_nowhere, answers, goes_on, ends, set_same, kept_after_response}
 use Rattle.simple_registration.proofs.table.Fetches.response.Goals as goal
 
