@@ -14,6 +14,7 @@ mod PartLaws
 mod DeskLaws
 mod WriteLaws
 mod EmptyMessageLaws
+mod KeepLaws
 mod MarkLaws
 pub mod WatchingParts
 pub mod WatchingLaws

@@ -14,3 +14,4 @@ pub mod Desks
 pub mod UnderWay
 pub mod KeepJobs
 pub mod Looking
+pub mod Stepping

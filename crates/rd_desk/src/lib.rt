@@ -8,6 +8,7 @@ mod heard_empties;
 mod heard_writes;
 mod joining;
 mod keep_jobs;
+mod keeps;
 mod looks;
 mod marks;
 mod mids;
@@ -17,6 +18,7 @@ mod refused_requests;
 mod replies;
 mod requests;
 mod server_errors;
+mod steps;
 mod tables;
 mod unread_datagrams;
 mod watching;
@@ -28,6 +30,7 @@ pub use looks::{Looked, look};
 pub use mids::Mids;
 pub use outbox::Outbox;
 pub use requests::is_look;
+pub use steps::Stepped;
 pub use write_jobs::WriteJob;
 
 #[cfg(test)]
