@@ -1,7 +1,7 @@
 -- Which records can give a line to a query: those whose numbers are among the carriers of one of its criteria.
-use Rattle.std.proofs.Common.{◌≡◌, ℕ, ◌<◌, ◌==◌, ◌||◌, ◌&&◌, Bool, true, false, not, cond, List, [], ◌∷◌, ◌++◌, map, filter, length, Contains, Option, Some, None, refl, sym, ap, ap₂, ◌∙◌, subst, ◌⊎◌, inl, inr, arith, eqb-true, ne_eqb}
+use Rattle.std.proofs.Common.{◌≡◌, ℕ, ◌<◌, ◌==◌, ◌||◌, ◌&&◌, Bool, true, false, not, cond, List, [], ◌∷◌, map, Contains, Option, Some, None, refl, sym, ap, ◌∙◌, subst, ◌⊎◌, inl, inr, arith, eqb-true, ne_eqb}
 use Rattle.std.specs.List.{AllByRecursion, list_any, list_all, flat_map}
-use Rattle.std.proofs.lemmas.Bool.{true≢false, and_parts}
+use Rattle.std.proofs.lemmas.Bool.{true≢false}
 use Rattle.std.proofs.lemmas.Bool.Decides.{nat_tests}
 use Rattle.std.proofs.lemmas.List.Folds.{list_any-append}
 use Rattle.rd_base.specs.declared.attributes.Pair.{Pair}
@@ -15,8 +15,8 @@ use Rattle.rd_base.proofs.lemmas.Contains.{contains_cases, contains_filter, cont
 use Rattle.rd_base.proofs.lemmas.Each.{each_weaker}
 use Rattle.rd_base.proofs.lemmas.Filters.{filter_none}
 use Rattle.rd_base.proofs.lemmas.Pairs.{PairsByRecursion, pairs_filter}
-use Rattle.record_model.specs.ListingLines.{part, part_of_kind, part_or_none, link_line, link_listed, endpoint_line, endpoint_listed}
-use Rattle.record_model.specs.Matching.{is_href, is_anchor_criterion, endpoint_pairs, matches_pairs, matches_value, matches_present, link_matches, endpoint_matches, location}
+use Rattle.record_model.specs.ListingLines.{part, part_of_kind, part_or_none, link_line, link_listed, endpoint_listed}
+use Rattle.record_model.specs.Matching.{is_href, is_anchor_criterion, endpoint_pairs, matches_pairs, link_matches, endpoint_matches}
 use Rattle.history_model.specs.Leases.{is_live_at, live_among}
 use Rattle.history_model.specs.Listing.{lines_of}
 use Rattle.history_model.specs.Replay.{is_numbered, numbered}
@@ -27,7 +27,7 @@ use Rattle.attribute_index.proofs.CarrierLaws.{has_number-carriers}
 use Rattle.directory_core.specs.Bounds.{AreEntriesOf, attribute_criteria, is_of_attributes, pairs_of, record_entries}
 use Rattle.directory_core.specs.Lapsing.{with_lapsing, lapsing_left}
 use Rattle.directory_core.specs.Races.{AreNumbersOf}
-use Rattle.directory_core.proofs.ChangeLaws.{others_behind, its_number, numbered-filter, filter-numbered}
+use Rattle.directory_core.proofs.ChangeLaws.{its_number, numbered-filter, filter-numbered}
 use Rattle.directory_core.proofs.IndexLaws.{entry_number}
 use Rattle.directory_core.proofs.LapsingLaws.{lapsing_none, lapsing_first}
 use Rattle.directory_core.proofs.ReadLaws.{filter_unnumbered, filter_failed}

@@ -1,5 +1,5 @@
 -- What a lookup lists, and how many lines that can be.
-use Rattle.std.proofs.Common.{◌≡◌, ℕ, ◌+◌, ◌*◌, ◌^◌, ◌<◌, ◌≤◌, List, [], ◌∷◌, length, Contains, refl, sym, ap, ◌∙◌, subst, arith}
+use Rattle.std.proofs.Common.{◌≡◌, ℕ, ◌+◌, ◌*◌, ◌^◌, ◌<◌, ◌≤◌, List, [], ◌∷◌, length, Contains, sym, ap, ◌∙◌, subst, arith}
 use Rattle.std.proofs.lemmas.List.Sums.{sum_by-cons}
 use Rattle.rd_base.specs.declared.queries.Criterion.{Criterion}
 use Rattle.rd_base.specs.declared.queries.Query.{Query}
@@ -8,8 +8,7 @@ use Rattle.record_model.specs.ListingLines.{shown}
 use Rattle.record_model.proofs.WeightLaws.{room_of}
 use Rattle.history_model.specs.declared.entries.Entry.{Entry}
 use Rattle.history_model.specs.Leases.{live_among}
-use Rattle.history_model.specs.Listing.{all_lines, lines_of, listing}
-use Rattle.history_model.specs.Refusals.{max_text, text_of}
+use Rattle.history_model.specs.Listing.{lines_of, listing}
 use Rattle.history_model.specs.Versions.{Version, VersionStandsFor}
 use Rattle.history_model.proofs.ListingLaws.{unnumbered, lines_of-room}
 use Rattle.history_model.proofs.VersionLaws.{all_lines-VersionStandsFor}

@@ -1,6 +1,6 @@
 -- Lines that registrations give to a page, one after another.
-use Rattle.std.proofs.Common.{◌≡◌, ℕ, zero, suc, ◌+◌, ◌-◌, ◌<◌, ◌≤◌, ◌^◌, min, Bool, true, false, not, cond, ◌&&◌, List, [], ◌∷◌, ◌++◌, map, filter, length, take, drop, Option, Some, None, refl, sym, ap, ap₂, ◌∙◌, subst, arith}
-use Rattle.std.specs.List.{list_all, flat_map, join_with_byte}
+use Rattle.std.proofs.Common.{◌≡◌, ℕ, zero, suc, ◌-◌, min, Bool, true, false, not, cond, ◌&&◌, List, [], ◌∷◌, ◌++◌, map, filter, length, take, drop, Option, Some, None, refl, sym, ap, ap₂, ◌∙◌, arith}
+use Rattle.std.specs.List.{list_all, join_with_byte}
 use Rattle.std.specs.Map.{values_of}
 use Rattle.std.proofs.lemmas.List.{map-append}
 use Rattle.rd_base.specs.declared.queries.Kind.{Kind}
@@ -102,6 +102,13 @@ page_begins query text skip most lines empty cut = rw empty (appended-joined (sh
 -- no line leaves the text as it is
 pub no_more : (text : List ℕ) (skip most : ℕ) → appended text (shown_lines skip most []) ≡ text
 no_more text skip most = ap (appended text) (shown_none skip most) ∙ appended-nil text
+
+-- no line more is shown on a page that is full
+pub full_page : (page begun : Page) (lines all : List (List ℕ)) → page.most ≡ 0 → finished page lines ≡ finished begun all → finished page [] ≡ finished begun all
+full_page page begun lines all full so_far = none ∙ so_far
+  where
+    none : finished page [] ≡ finished page lines
+    none = rw full refl
 
 -- ---- the lines of records, one after another
 

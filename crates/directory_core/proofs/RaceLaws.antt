@@ -1,7 +1,7 @@
 -- Cursors that go on by turns: how many steps were counted, by how many numbers each gave.
-use Rattle.std.proofs.Common.{◌≡◌, ℕ, zero, suc, ◌+◌, ◌*◌, ◌<◌, ◌≤◌, ◌==◌, ◌||◌, Bool, true, false, cond, eqb, List, [], ◌∷◌, ◌++◌, map, length, set, get_or, slice_index, sum_by, length-set, add-one, eqb-true, refl, sym, ap, ◌∙◌, subst, ◌⊎◌, inl, inr, arith, length-append, Contains}
+use Rattle.std.proofs.Common.{◌≡◌, ℕ, zero, suc, ◌+◌, ◌*◌, ◌<◌, ◌≤◌, ◌||◌, Bool, true, false, cond, eqb, List, [], ◌∷◌, map, length, set, get_or, slice_index, sum_by, length-set, add-one, eqb-true, refl, sym, ap, ◌∙◌, subst, ◌⊎◌, inl, inr, arith, length-append, Contains}
 use Rattle.std.proofs.lemmas.List.{length-map}
-use Rattle.std.specs.List.{AllByRecursion, AllPairs, list_any, dedup, dedup_from}
+use Rattle.std.specs.List.{AllByRecursion, list_any, dedup, dedup_from}
 use Rattle.std.specs.List.Sorted.{IsStrictlyIncreasing}
 use Rattle.std.proofs.lemmas.List.Kept.{AllPairs-from_increasing}
 use Rattle.std.proofs.lemmas.List.Elements.{recursion_from_All}

@@ -54,7 +54,8 @@ impl Page {
         Ok(())
     }
 
-    /// Adds the lines of all records that are live at this moment, in ascending number. `Starved`: out of memory.
+    /// Adds the lines of all records that are live at this moment, in ascending number; it goes no further once the page is
+    /// full. `Starved`: out of memory.
     pub(crate) fn add_all<L: Ledger>(
         &mut self,
         alloc: Global,
@@ -67,13 +68,16 @@ impl Page {
     {
         let mut left = records.all();
         'records: while let Some((_, kept)) = left.step(steps) {
+            if self.most == 0 {
+                return Ok(());
+            }
             self.add(alloc, query, kept, now)?;
         }
         Ok(())
     }
 
-    /// Adds the lines of the records of these numbers that are live at this moment, in their order. `Starved`: out of
-    /// memory.
+    /// Adds the lines of the records of these numbers that are live at this moment, in their order; it goes no further once
+    /// the page is full. `Starved`: out of memory.
     pub(crate) fn add_numbered(
         &mut self,
         alloc: Global,
@@ -86,6 +90,9 @@ impl Page {
     {
         let mut left = numbers;
         'numbers: while let Some((number, more)) = left.split_first() {
+            if self.most == 0 {
+                return Ok(());
+            }
             if let Some(kept) = records.get(*number) {
                 self.add(alloc, query, kept, now)?;
             }

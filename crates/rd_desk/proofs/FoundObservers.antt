@@ -1,6 +1,6 @@
 -- Which observers are found by a name or by a notice: by the table, and by the events that it stands for.
-use Rattle.std.proofs.Common.{◌≡◌, ℕ, zero, suc, ◌==◌, Bool, true, false, not, ◌&&◌, ◌||◌, cond, List, [], ◌∷◌, ◌++◌, map, filter, find, slice_get, Option, Some, None, is_some, option_map, refl, sym, ap, ap₂, subst, ◌∙◌, eqb-true}
-use Rattle.std.specs.List.{AllByRecursion, list_any, remove}
+use Rattle.std.proofs.Common.{◌≡◌, ℕ, zero, suc, ◌==◌, Bool, true, false, ◌&&◌, ◌||◌, cond, List, [], ◌∷◌, ◌++◌, length, map, filter, find, slice_get, Option, Some, None, is_some, option_map, refl, sym, ap, ap₂, ◌∙◌, eqb-true}
+use Rattle.std.specs.List.{AllByRecursion, remove}
 use Rattle.std.proofs.lemmas.Bool.{false≢true, and_parts}
 use Rattle.rd_base.specs.declared.peers.Peer.{Peer}
 use Rattle.rd_base.specs.declared.queries.Query.{Query}
@@ -11,7 +11,7 @@ use Rattle.rd_base.proofs.lemmas.Numbers.{eqb-refl}
 use Rattle.event_model.specs.declared.notes.Observer.{Observer}
 use Rattle.event_model.specs.Same.{RequestName, is_same_peer, is_same_request}
 use Rattle.event_model.specs.Events.{Event}
-use Rattle.event_model.specs.Observers.{name_of, observers, is_observer}
+use Rattle.event_model.specs.Observers.{observers, is_observer}
 use Rattle.event_model.specs.Flights.{Sent, OctetsSent, Flight, flight, notice_sent, waiting_notice}
 use Rattle.event_model.specs.Due.{Transition, Watching as Shown, watching, observers_standing}
 use Rattle.event_model.proofs.SameLaws.{is_same_peer-Decides, is_same_request-Decides}
@@ -85,6 +85,11 @@ pub map-changed_at : {Y : Type 0} (f : Watcher → Y) (change : Watcher → Watc
 map-changed_at f change same i [] = refl
 map-changed_at {Y} f change same zero (x ∷ xs) = ap (λ (y : Y). y ∷ map f xs) (same x)
 map-changed_at {Y} f change same (suc i) (x ∷ xs) = ap (λ (ys : List Y). f x ∷ ys) (map-changed_at f change same i xs)
+
+pub length-changed_at : (change : Watcher → Watcher) (i : ℕ) (xs : List Watcher) → length (changed_at change i xs) ≡ length xs
+length-changed_at change i [] = refl
+length-changed_at change zero (x ∷ xs) = refl
+length-changed_at change (suc i) (x ∷ xs) = ap suc (length-changed_at change i xs)
 
 -- the one that was found, or none
 abbrev pub in_list : {X : Type 0} → Option X → List X

@@ -1,14 +1,15 @@
 -- An observer joins, or is looked for: what is answered by the table is so by the events, and what becomes of it stands for the journal.
-use Rattle.std.proofs.Common.{◌≡◌, ℕ, ◌&&◌, ◌||◌, nat_lt, Bool, true, false, not, cond, suc, List, [], ◌∷◌, ◌++◌, length, map, filter, find, Option, Some, None, is_some, option_map, Ok, refl, sym, ap, ap₂, subst, ◌∙◌}
+use Rattle.std.proofs.Common.{◌≡◌, ℕ, ◌&&◌, ◌||◌, nat_lt, Bool, true, false, not, cond, suc, List, [], ◌∷◌, ◌++◌, length, map, filter, find, Option, Some, None, is_some, option_map, Result, Ok, Err, IfOk, refl, sym, ap, ap₂, subst, ◌∙◌}
 use Rattle.std.specs.Arc.{arc_value}
 use Rattle.std.specs.List.{list_any}
+use Rattle.rd_base.specs.declared.out_of_memory.Starved.{Starved}
 use Rattle.rd_base.specs.declared.peers.Peer.{Peer}
 use Rattle.rd_base.specs.declared.queries.Query.{Query}
 use Rattle.rd_base.specs.Firsts.{without_first}
 use Rattle.rd_base.proofs.lemmas.Firsts.{without_first-unfound}
 use Rattle.event_model.specs.declared.notes.Note.TheVariants as note
 use Rattle.event_model.specs.declared.notes.Observer.{Observer}
-use Rattle.event_model.specs.Same.{RequestName, is_same_request}
+use Rattle.event_model.specs.Same.{is_same_request}
 use Rattle.event_model.specs.Events.{Event}
 use Rattle.event_model.specs.Flights.{OctetsSent}
 use Rattle.event_model.specs.Due.{Transition}
@@ -29,10 +30,10 @@ use Rattle.observers.specs.Watchers.{Watcher, is_named, has_notice}
 use Rattle.observers.specs.ObserverEvents.{observer_of, ObserversStandFor}
 use Rattle.observers.proofs.StandLaws.{observers-StandsFor, dropped-StandsFor}
 use Rattle.rd_desk.specs.declared.joining.Joining.{Joining}
-use Rattle.rd_desk.specs.Joining.{observer_joining, watcher_joining, without_observer, IsAdded, Joins, has_room, joining_notes}
-use Rattle.rd_desk.specs.Watching.{Watching, AreWatchedBy, WatchingStandsFor}
-use Rattle.rd_desk.proofs.FoundObservers.{Cut, cut_first, in_list, request_turned, waited_for-StandsFor, is_observer-found}
-use Rattle.rd_desk.proofs.WatchedLaws.{fewer-AreWatchedBy}
+use Rattle.rd_desk.specs.Joining.{observer_joining, watcher_joining, without_observer, Joins, has_room, joining_notes}
+use Rattle.rd_desk.specs.Watching.{Watching, AreWatchedBy, AreWatched, WatchingStandsFor}
+use Rattle.rd_desk.proofs.FoundObservers.{cut_first, in_list, request_turned, waited_for-StandsFor, is_observer-found}
+use Rattle.rd_desk.proofs.WatchedLaws.{both-AreWatched, left-AreWatched, fewer-AreWatchedBy, more-AreWatched}
 use Rattle.rd_desk.proofs.WatchingNotes.{joined_noting, WatchingStandsFor-left, WatchingStandsFor-added}
 
 -- ---- who is found
@@ -138,3 +139,25 @@ WatchingStandsFor-joined rows s starved done query j true w w' new is h =
 
     same : ◌≡◌ {A = Watching} (record { watches = one_more is.place query left.watches; observers = left.observers ++ watcher_joining is.place j ∷ [] }) w'
     same = ap₂ (λ t ws. record { watches = t; observers = ws }) (sym is.watches) (sym is.observers)
+
+-- by the answer
+pub room-IfOk : (rows : List Row) (w : Watching) (query : Query) (peer : Peer) (token : List ℕ) (r : Result Bool Starved) → WatchingStandsFor rows w
+    → ((standing : List Observer) → WatchesStandFor standing (without (option_map (λ x. x.place) (find (is_named peer token) w.observers)) w.watches) → IfOk r (λ added. added ≡ has_room query (length (without_first (is_named peer token) w.observers)) standing))
+    → IfOk r (λ added. added ≡ has_room_for query (without_name (peer, token) (observers (events rows))))
+room-IfOk rows w query peer token (Ok added) h room = room-StandsFor rows w query peer token added h room
+room-IfOk rows w query peer token (Err starved) h room = tt
+
+pub joined-IfOk : (rows : List Row) (s : Step) (starved : Bool) (done : Effects) (query : Query) (j : Joining) (r : Result Bool Starved) (w w' : Watching)
+    → list_any (is_named j.peer j.token) (without_first (is_named j.peer j.token) w.observers) ≡ false → Joins query j w r w' → WatchingStandsFor (making rows s starved done) w
+    → IfOk r (λ added. WatchingStandsFor (making rows s starved (joined done (noting (joining_notes added (observer_joining query j) (arc_value j.body) (observers (events (making rows s starved done))))))) w')
+joined-IfOk rows s starved done query j (Ok added) w w' new is h = WatchingStandsFor-joined rows s starved done query j added w w' new is h
+joined-IfOk rows s starved done query j (Err e) w w' new is h = tt
+
+-- each query is watched as often as it is observed then
+pub joined-AreWatched : (query : Query) (j : Joining) (r : Result Bool Starved) (w w' : Watching) → list_any (is_named j.peer j.token) (without_first (is_named j.peer j.token) w.observers) ≡ false → Joins query j w r w'
+    → AreWatched w.watches w.observers → AreWatched w'.watches w'.observers
+joined-AreWatched query j (Ok true) w w' new is h =
+    both-AreWatched (sym is.watches) (sym is.observers)
+    (more-AreWatched (without_observer j.peer j.token w).watches (without_observer j.peer j.token w).observers (watcher_joining is.place j) is.place query is.place_for refl new (left-AreWatched (is_named j.peer j.token) w.watches w.observers h))
+joined-AreWatched query j (Ok false) w w' new is h = subst (λ (v : Watching). AreWatched v.watches v.observers) (sym is) (left-AreWatched (is_named j.peer j.token) w.watches w.observers h)
+joined-AreWatched query j (Err e) w w' new is h = subst (λ (v : Watching). AreWatched v.watches v.observers) (sym is) h

@@ -1,11 +1,12 @@
 -- Marks: which queries records touch that lapse, and how marks are handed on to observers, one after the other.
-use Rattle.std.proofs.Common.{◌≡◌, ℕ, zero, suc, ◌≤◌, ◌==◌, nat_eq, Bool, true, false, ◌||◌, cond, List, [], ◌∷◌, length, map, take, slice_get, Option, Some, None, refl, sym, ap, ap₂, subst, ◌∙◌, eqb-true}
+use Rattle.std.proofs.Common.{◌≡◌, ℕ, zero, suc, ◌+◌, ◌<◌, ◌≤◌, ◌==◌, nat_eq, Bool, true, false, ◌||◌, cond, List, [], ◌∷◌, length, map, take, slice_get, Option, Some, None, refl, sym, ap, ap₂, subst, ◌∙◌, eqb-true, arith}
 use Rattle.std.specs.List.{AllByRecursion, list_any}
 use Rattle.std.specs.Map.{lookup}
 use Rattle.std.proofs.lemmas.Bool.{false≢true}
 use Rattle.std.proofs.lemmas.List.{take_all}
 use Rattle.rd_base.specs.declared.queries.Query.{Query}
 use Rattle.rd_base.specs.declared.records.Record.{Record}
+use Rattle.rd_base.proofs.lemmas.Numbers.{eqb-refl}
 use Rattle.history_model.specs.ChangedParts.{is_other_part, is_lapse_of}
 use Rattle.history_model.specs.Leases.{lapsing_among}
 use Rattle.directory_core.specs.LapseOrder.{in_order_of_lapse}
@@ -65,33 +66,30 @@ lapsing_touched from to records t =
 due_or : Watcher → Bool → Watcher
 due_or w due = record w { due = due }
 
--- an observer that is not marked, or that is due
-pub handed-due : (t : Table) (w : Watcher) → w.due ≡ true → IsHanded t w
-handed-due t w due m = due
-
-pub handed-unmarked : (t : Table) (w : Watcher) → is_marked_at w.place t ≡ false → IsHanded t w
+-- an observer whose query is not marked
+handed-unmarked : (t : Table) (w : Watcher) → is_marked_at w.place t ≡ false → IsHanded t w
 handed-unmarked t w none m = absurd (false≢true (sym none ∙ m))
 
 -- one more of them, by its index
-pub handed_more : (t : Table) (ws : List Watcher) (i : ℕ) (w : Watcher) → slice_get ws i ≡ Some w → IsHanded t w → AllByRecursion (IsHanded t) (take i ws) → AllByRecursion (IsHanded t) (take (suc i) ws)
+handed_more : (t : Table) (ws : List Watcher) (i : ℕ) (w : Watcher) → slice_get ws i ≡ Some w → IsHanded t w → AllByRecursion (IsHanded t) (take i ws) → AllByRecursion (IsHanded t) (take (suc i) ws)
 handed_more t [] i w there here h = absurd cc
 handed_more t (x ∷ ws) zero w there here h = let same : x ≡ w = cc in (subst (IsHanded t) (sym same) here, tt)
 handed_more t (x ∷ ws) (suc i) w there here h = (h.0, handed_more t ws i w there here h.1)
 
 -- a mark that is handed on leaves those that were handed on before
-pub handed_still : (t : Table) (place : ℕ) (ws : List Watcher) (i : ℕ) → AllByRecursion (IsHanded t) (take i ws) → AllByRecursion (IsHanded t) (take i (map (marked place) ws))
+handed_still : (t : Table) (place : ℕ) (ws : List Watcher) (i : ℕ) → AllByRecursion (IsHanded t) (take i ws) → AllByRecursion (IsHanded t) (take i (map (marked place) ws))
 handed_still t place [] i h = h
 handed_still t place (x ∷ ws) zero h = tt
 handed_still t place (x ∷ ws) (suc i) h = ((λ m. ap (λ b. b || x.place == place) (h.0 m)), handed_still t place ws i h.1)
 
--- and with it the observer is due that it was found for
-pub handed_own : (t : Table) (place : ℕ) (ws : List Watcher) (i : ℕ) (w : Watcher) → slice_get ws i ≡ Some w → place ≡ w.place → slice_get (map (marked place) ws) i ≡ Some (marked place w)
-handed_own t place [] i w there same = absurd cc
-handed_own t place (x ∷ ws) zero w there same = let here : x ≡ w = cc in ap (λ y. Some (marked place y)) here
-handed_own t place (x ∷ ws) (suc i) w there same = handed_own t place ws i w there same
+-- and the observer with an index is marked with the others
+marked_at : (place : ℕ) (ws : List Watcher) (i : ℕ) (w : Watcher) → slice_get ws i ≡ Some w → slice_get (map (marked place) ws) i ≡ Some (marked place w)
+marked_at place [] i w there = absurd cc
+marked_at place (x ∷ ws) zero w there = let here : x ≡ w = cc in ap (λ (y : Watcher). Some (marked place y)) here
+marked_at place (x ∷ ws) (suc i) w there = marked_at place ws i w there
 
 -- what is handed on in the end is as before
-pub handed_marked : (t : Table) (place : ℕ) (ws : List Watcher) → is_marked_at place t ≡ true → map (handed t) (map (marked place) ws) ≡ map (handed t) ws
+handed_marked : (t : Table) (place : ℕ) (ws : List Watcher) → is_marked_at place t ≡ true → map (handed t) (map (marked place) ws) ≡ map (handed t) ws
 unfolding due_or
 handed_marked t place [] m = refl
 handed_marked t place (w ∷ ws) m = ap₂ (λ (x : Watcher) (xs : List Watcher). x ∷ xs) (ap (due_or w) (by w.due (w.place == place) refl)) (handed_marked t place ws m)
@@ -112,9 +110,58 @@ all_handed t (w ∷ ws) h = ap₂ (λ (x : Watcher) (xs : List Watcher). x ∷ x
     by false false e g = refl
     by false true e g = sym (g e)
 
--- at the end of a walk over all
-pub handed_whole : (t : Table) (before ws : List Watcher) (i : ℕ) → length ws ≤ i → AllByRecursion (IsHanded t) (take i ws) → map (handed t) ws ≡ map (handed t) before → ws ≡ map (handed t) before
-handed_whole t before ws i past h same = sym (all_handed t ws (subst (AllByRecursion (IsHanded t)) (take_all i ws past) h)) ∙ same
+-- A walk over observers, to each of which up to an index the mark of its query was handed on.
+pub record Walked (t : Table) (before ws : List Watcher) (i : ℕ) : Type 0 where
+  pub handed_on : AllByRecursion (IsHanded t) (take i ws)
+  pub later : map (handed t) ws ≡ map (handed t) before
+  pub len : length ws ≡ length before
+
+marked_length : (place : ℕ) (ws : List Watcher) → length (map (marked place) ws) ≡ length ws
+marked_length place [] = refl
+marked_length place (w ∷ ws) = ap suc (marked_length place ws)
+
+inside_at : (ws : List Watcher) (i : ℕ) → i < length ws → (w : Watcher) × (slice_get ws i ≡ Some w)
+inside_at [] i inside = absurd (omega (arith, inside))
+inside_at (w ∷ ws) zero inside = (w, refl)
+inside_at (w ∷ ws) (suc i) inside = inside_at ws i (omega (arith, inside))
+
+-- the next observer is marked with all whose query has its place
+pub walked-marked : (t : Table) (before ws : List Watcher) (i place : ℕ) → i < length ws → is_marked_at place t ≡ true → ((w : Watcher) → slice_get ws i ≡ Some w → place ≡ w.place) → Walked t before ws i → Walked t before (map (marked place) ws) (i + 1)
+walked-marked t before ws i place inside m own h = by (inside_at ws i inside)
+  where
+    by : (w : Watcher) × (slice_get ws i ≡ Some w) → Walked t before (map (marked place) ws) (i + 1)
+    by found = record {
+      handed_on = subst (λ n. AllByRecursion (IsHanded t) (take n (map (marked place) ws))) next
+          (handed_more t (map (marked place) ws) i (marked place found.0) (marked_at place ws i found.0 found.1)
+          (λ _. ap (λ p. found.0.due || found.0.place == p) (own found.0 found.1) ∙ (ap (λ b. found.0.due || b) (eqb-refl found.0.place) ∙ either found.0.due)) (handed_still t place ws i h.handed_on));
+      later = handed_marked t place ws m ∙ h.later;
+      len = marked_length place ws ∙ h.len;
+    }
+      where
+        next : suc i ≡ i + 1
+        next = omega arith
+
+        either : (b : Bool) → (b || true) ≡ true
+        either true = refl
+        either false = refl
+
+-- or the mark was handed on to it
+pub walked-other : (t : Table) (before ws : List Watcher) (i : ℕ) → i < length ws → ((w : Watcher) → slice_get ws i ≡ Some w → IsHanded t w) → Walked t before ws i → Walked t before ws (i + 1)
+walked-other t before ws i inside own h = by (inside_at ws i inside)
+  where
+    by : (w : Watcher) × (slice_get ws i ≡ Some w) → Walked t before ws (i + 1)
+    by found = record {
+      handed_on = subst (λ n. AllByRecursion (IsHanded t) (take n ws)) next (handed_more t ws i found.0 found.1 (own found.0 found.1) h.handed_on);
+      later = h.later;
+      len = h.len;
+    }
+      where
+        next : suc i ≡ i + 1
+        next = omega arith
+
+-- at its end
+pub walked-all : (t : Table) (before ws : List Watcher) (i : ℕ) → length ws ≤ i → Walked t before ws i → ws ≡ map (handed t) before
+walked-all t before ws i past h = sym (all_handed t ws (subst (AllByRecursion (IsHanded t)) (take_all i ws past) h.handed_on)) ∙ h.later
 
 -- ---- no marks
 

@@ -1,7 +1,6 @@
 -- What a tick asks of the watched queries and their observers: the query of an observer and the body that is kept for it, and which observer comes next.
-use Rattle.std.proofs.Common.{◌≡◌, ℕ, ◌+◌, ◌<◌, zero, suc, nat_eq, Bool, true, false, not, ◌&&◌, cond, List, [], ◌∷◌, length, map, find, drop, slice_get, Option, Some, None, IsSome, option_map, option_and_then, unwrap_or, refl, sym, ap, ap₂, subst, ◌∙◌, arith}
+use Rattle.std.proofs.Common.{◌≡◌, ℕ, ◌+◌, ◌<◌, zero, suc, nat_eq, Bool, true, false, not, ◌&&◌, cond, List, [], ◌∷◌, length, map, find, drop, slice_get, Option, Some, None, IsSome, IfSome, option_map, option_and_then, unwrap_or, refl, sym, ap, ap₂, subst, ◌∙◌, arith}
 use Rattle.std.specs.List.{AllByRecursion}
-use Rattle.std.specs.Map.{lookup, set_value}
 use Rattle.std.proofs.lemmas.Bool.{false≢true, and_parts}
 use Rattle.rd_base.specs.declared.peers.Peer.{Peer}
 use Rattle.rd_base.specs.declared.queries.Query.{Query}
@@ -25,11 +24,10 @@ use Rattle.journal_model.specs.Ticks.{is_confirmable_with, confirmable_sent, oct
 use Rattle.journal_model.specs.UnfinishedRow.{making}
 use Rattle.journal_model.proofs.observers.SentOctets.{octets_sent-before}
 use Rattle.watch_table.specs.WatchedQueries.{Watched, Table, watched_at, query_at, body_at, body_set, with_body}
-use Rattle.watch_table.specs.Watchers.{WatchesStandFor}
 use Rattle.watch_table.proofs.EntryLaws.{each_found, each_set}
 use Rattle.watch_table.proofs.PlacedLaws.{query_at-body}
 use Rattle.watch_table.proofs.TouchedLaws.{with_body-StandsFor}
-use Rattle.observers.specs.Watchers.{Watcher, is_awaited, is_ready, first_from, next_ready}
+use Rattle.observers.specs.Watchers.{Watcher, is_ready, first_from, next_ready}
 use Rattle.observers.specs.ObserverEvents.{observer_of, shown}
 use Rattle.observers.proofs.StandLaws.{observers-StandsFor, length-StandsFor as length_shown, same_at as shown_at}
 use Rattle.observers.proofs.MarkLaws.{awaited-StandsFor}
@@ -81,6 +79,11 @@ query-StandsFor rows w i o x query h at there is =
     same ∙ sym (ap (λ (y : Observer). y.query) (same_at rows w i o x h at there))
 
 -- ---- bodies
+
+-- what is known of a value that is found, by its view
+pub if_some : {X V : Type 0} (view : X → V) (P : V → Type 0) (r : Option X) (o : Option V) → option_map view r ≡ o → ((v : V) → o ≡ Some v → P v) → IfSome r (λ x. P (view x))
+if_some view P None o is h = tt
+if_some view P (Some x) o is h = h (view x) (sym is)
 
 -- a body that is kept is the listing now
 pub body-StandsFor : (rows : List Row) (w : Watching) (i : ℕ) (o : Observer) (x : Watcher) (body : List ℕ) → WatchingStandsFor rows w → slice_get (observers (events rows)) i ≡ Some o → slice_get w.observers i ≡ Some x

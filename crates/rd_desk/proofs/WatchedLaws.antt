@@ -1,30 +1,33 @@
 -- That each query is watched as often as it is observed: what leaves it so.
-use Rattle.std.proofs.Common.{◌≡◌, ◌⊎◌, inl, inr, ℕ, ◌==◌, Bool, true, false, ◌||◌, cond, List, [], ◌∷◌, ◌++◌, map, Some, None, refl, sym, ap, ap₂, subst, ◌∙◌, eqb-true}
+use Rattle.std.proofs.Common.{◌≡◌, inl, inr, ℕ, ◌==◌, Bool, true, false, ◌||◌, cond, List, [], ◌∷◌, ◌++◌, map, find, Option, Some, None, option_map, refl, sym, ap, ap₂, subst, ◌∙◌, eqb-true}
 use Rattle.std.specs.List.{AllByRecursion, list_any}
 use Rattle.std.proofs.lemmas.Bool.{or_parts}
 use Rattle.std.proofs.lemmas.List.{map-append}
 use Rattle.rd_base.specs.declared.peers.Peer.{Peer}
 use Rattle.rd_base.specs.declared.queries.Query.{Query}
+use Rattle.rd_base.specs.declared.records.Record.{Record}
 use Rattle.rd_base.specs.declared.queries.Kind.TheVariants as kind
-use Rattle.rd_base.specs.Firsts.{without_first}
+use Rattle.rd_base.specs.Firsts.{changed_first, without_first}
+use Rattle.rd_base.proofs.lemmas.Firsts.{without_first-unfound}
 use Rattle.rd_base.proofs.lemmas.Among.{Among, all_among, among_all}
 use Rattle.rd_base.proofs.lemmas.Each.{each_weaker, each_both, each_push}
 use Rattle.rd_base.proofs.lemmas.Numbers.{eqb-refl}
+use Rattle.history_model.specs.ChangedParts.{is_other_part}
 use Rattle.event_model.specs.declared.notes.Observer.{Observer}
 use Rattle.event_model.specs.Same.{RequestName, is_same_request, is_same_query}
 use Rattle.event_model.specs.Observers.{is_watched}
 use Rattle.event_model.proofs.SameLaws.{is_same_request-Decides, is_same_query-Decides}
-use Rattle.watch_table.specs.WatchedQueries.{Watched, Table, query_at, one_more, one_fewer, IsPlaceFor}
+use Rattle.watch_table.specs.WatchedQueries.{Watched, Table, query_at, all_touched, unmarked, all_unmarked, one_more, one_fewer, without, IsPlaceFor}
 use Rattle.watch_table.specs.Watchers.{AreApart, WatchesStandFor}
 use Rattle.watch_table.proofs.PlacedLaws.{query_at-same, query_at-own, query_at-more, query_at-fewer}
 use Rattle.watch_table.proofs.TouchedLaws.{Keeps, kept-StandsFor}
 use Rattle.watch_table.proofs.WatcherLaws.{fewer-StandsFor, more-StandsFor}
-use Rattle.observers.specs.Watchers.{Watcher, is_named}
+use Rattle.observers.specs.Watchers.{Watcher, is_named, changed_at}
 use Rattle.observers.specs.ObserverEvents.{observer_of}
-use Rattle.rd_desk.specs.Marks.{handed}
+use Rattle.rd_desk.specs.Marks.{touched_where, handed}
 use Rattle.rd_desk.specs.Watching.{IsPlaced, AreWatchedBy, IsOtherName, HaveOtherNames, AreWatched}
-use Rattle.rd_desk.proofs.FoundObservers.{request_turned}
-use Rattle.rd_desk.proofs.WatchingParts.{placed_kept}
+use Rattle.rd_desk.proofs.FoundObservers.{Cut, cut_first, map-changed_first, map-changed_at, request_turned}
+use Rattle.rd_desk.proofs.WatchingParts.{touched_where-Keeps, unmarked-Keeps, placed_kept}
 
 -- no observers
 pub empty-AreWatched : AreWatched [] []
@@ -33,6 +36,10 @@ empty-AreWatched = record {
   by = record { placed = tt; watches = record { watchers = λ query. refl; some = tt; apart = tt } };
   apart = tt;
 }
+
+-- by equal tables
+pub both-AreWatched : {t t' : Table} {ws ws' : List Watcher} → t ≡ t' → ws ≡ ws' → AreWatched t ws → AreWatched t' ws'
+both-AreWatched {t} {t'} {ws} {ws'} one two h = subst (λ x. AreWatched x ws') one (subst (AreWatched t) two h)
 
 -- ---- what is watched changes, but for queries and watchers
 
@@ -93,9 +100,19 @@ handed-same : (t : Table) (ws : List Watcher) → map without_notice (map (hande
 handed-same t [] = refl
 handed-same t (w ∷ ws) = ap (λ (xs : List Watcher). without_notice w ∷ xs) (handed-same t ws)
 
--- after marks were handed on
-pub handed-AreWatched : (marks t : Table) (ws : List Watcher) → AreWatched t ws → AreWatched t (map (handed marks) ws)
-handed-AreWatched marks t ws h = same-AreWatched t ws (map (handed marks) ws) (handed-same marks ws) h
+-- after marks were set, and after they were handed on
+pub touched-AreWatched : (old new : Option Record) (t : Table) (ws : List Watcher) → AreWatched t ws → AreWatched (all_touched old new t) ws
+touched-AreWatched old new t ws h = changed-AreWatched (touched_where (λ query. is_other_part query old new)) (touched_where-Keeps (λ query. is_other_part query old new)) t ws h
+
+pub handed-AreWatched : (t : Table) (ws : List Watcher) → AreWatched t ws → AreWatched (all_unmarked t) (map (handed t) ws)
+handed-AreWatched t ws h = same-AreWatched (all_unmarked t) ws (map (handed t) ws) (handed-same t ws) (changed-AreWatched unmarked unmarked-Keeps t ws h)
+
+-- after what waits for the one with an index changed, or for the first that passes a test
+pub changed_at-AreWatched : (change : Watcher → Watcher) → ((w : Watcher) → without_notice (change w) ≡ without_notice w) → (i : ℕ) (t : Table) (ws : List Watcher) → AreWatched t ws → AreWatched t (changed_at change i ws)
+changed_at-AreWatched change same i t ws h = same-AreWatched t ws (changed_at change i ws) (map-changed_at without_notice change same i ws) h
+
+pub changed_first-AreWatched : (test : Watcher → Bool) (change : Watcher → Watcher) → ((w : Watcher) → without_notice (change w) ≡ without_notice w) → (t : Table) (ws : List Watcher) → AreWatched t ws → AreWatched t (changed_first test change ws)
+changed_first-AreWatched test change same t ws h = same-AreWatched t ws (changed_first test change ws) (map-changed_first without_notice test change same ws) h
 
 -- ---- one observer fewer
 
@@ -137,6 +154,17 @@ apart_left (w ∷ front) back x h = ((each_left (IsOtherName w) front back x h.0
 
 pub fewer-AreWatched : (t : Table) (front back : List Watcher) (x : Watcher) → AreWatched t (front ++ x ∷ back) → AreWatched (one_fewer x.place t) (front ++ back)
 fewer-AreWatched t front back x h = record { queries = h.queries; by = fewer-AreWatchedBy h.queries t front back x h.by; apart = apart_left front back x h.apart }
+
+-- without the one with an index, or the first that passes a test
+pub cut-AreWatched : (t : Table) (ws left : List Watcher) (x : Watcher) → Cut ws left x → AreWatched t ws → AreWatched (one_fewer x.place t) left
+cut-AreWatched t ws left x cut h = subst (AreWatched (one_fewer x.place t)) (sym cut.rest) (fewer-AreWatched t cut.front cut.back x (subst (AreWatched t) cut.whole h))
+
+pub left-AreWatched : (test : Watcher → Bool) (t : Table) (ws : List Watcher) → AreWatched t ws → AreWatched (without (option_map (λ x. x.place) (find test ws)) t) (without_first test ws)
+left-AreWatched test t ws h = by (find test ws) refl
+  where
+    by : (o : Option Watcher) → find test ws ≡ o → AreWatched (without (option_map (λ (x : Watcher). x.place) o) t) (without_first test ws)
+    by None none = subst (AreWatched t) (sym (without_first-unfound test ws none)) h
+    by (Some x) found = cut-AreWatched t ws (without_first test ws) x (cut_first test ws x found) h
 
 -- ---- one observer more
 

@@ -5,10 +5,8 @@ use Rattle.std.specs.Map.{remove_entry, set_value}
 use Rattle.rd_base.specs.declared.queries.Query.{Query}
 use Rattle.rd_base.proofs.lemmas.Each.{each_push}
 use Rattle.history_model.specs.declared.entries.Entry.{Entry}
-use Rattle.event_model.specs.declared.notes.Observer.{Observer}
 use Rattle.event_model.specs.Events.{Event}
-use Rattle.event_model.specs.Observers.{observers}
-use Rattle.event_model.specs.Flights.{Sent, OctetsSent}
+use Rattle.event_model.specs.Flights.{OctetsSent}
 use Rattle.event_model.specs.Due.{Transition, Watching as Shown}
 use Rattle.watch_table.specs.WatchedQueries.{Watched, Table, watched_at, watched_first, one_more, more_at, one_fewer, fewer_at, IsPlaceFor}
 use Rattle.watch_table.specs.Watchers.{WatchesStandFor}
@@ -17,7 +15,7 @@ use Rattle.observers.specs.Watchers.{Watcher}
 use Rattle.observers.specs.ObserverEvents.{observer_of, shown, ObserversStandFor}
 use Rattle.observers.proofs.StandLaws.{observers-StandsFor}
 use Rattle.rd_desk.specs.Watching.{Watching, IsPlaced, IsUnmarked, IsConfirmable, AreWatchedBy}
-use Rattle.rd_desk.proofs.WatchedLaws.{without_notice, same_observers, same_placed, placed_same, each_left, fewer-AreWatchedBy, with_query, with_same, more-AreWatchedBy}
+use Rattle.rd_desk.proofs.WatchedLaws.{without_notice, same_observers, same_placed, placed_same, each_left, fewer-AreWatchedBy, with_query, more-AreWatchedBy}
 use Rattle.rd_desk.proofs.WatchingParts.{IsListing, StandsOver}
 
 -- as often as they are observed

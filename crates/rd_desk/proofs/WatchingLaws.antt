@@ -1,26 +1,26 @@
 -- The watched queries and their observers while a row is made: with notes about other things, as time passes, and after an entry.
-use Rattle.std.proofs.Common.{◌≡◌, ℕ, ◌≤◌, ◌==◌, max, Bool, true, false, not, ◌&&◌, ◌||◌, cond, List, [], ◌∷◌, ◌++◌, length, map, find, Option, Some, None, option_map, unwrap_or, refl, sym, ap, ap₂, subst, ◌∙◌, append-nil, arith}
+use Rattle.std.proofs.Common.{◌≡◌, ℕ, ◌≤◌, ◌==◌, Bool, true, false, not, ◌&&◌, ◌||◌, cond, List, [], ◌∷◌, ◌++◌, length, map, find, Option, Some, None, option_map, unwrap_or, refl, sym, ap, ap₂, subst, ◌∙◌, append-nil, arith}
 use Rattle.std.specs.List.{AllByRecursion, list_any}
 use Rattle.std.specs.Option.{option_or}
 use Rattle.std.proofs.lemmas.Bool.{false≢true, not-false}
 use Rattle.std.proofs.lemmas.List.Folds.{find-append}
 use Rattle.rd_base.specs.declared.peers.Peer.{Peer}
 use Rattle.rd_base.specs.declared.queries.Query.{Query}
+use Rattle.rd_base.specs.declared.queries.Kind.TheVariants as kind
 use Rattle.rd_base.specs.declared.records.Record.{Record}
 use Rattle.rd_base.proofs.lemmas.Each.{each_weaker}
 use Rattle.record_model.specs.ListingLines.{shown as listed}
 use Rattle.history_model.specs.declared.entries.Entry.{Entry}
 use Rattle.history_model.specs.ChangedParts.{is_other_part, is_lapse_of}
 use Rattle.history_model.specs.Listing.{all_lines, listing}
-use Rattle.history_model.specs.Live.{live}
-use Rattle.history_model.specs.Replay.{replay, numbered, number_about}
+use Rattle.history_model.specs.Replay.{replay}
 use Rattle.event_model.specs.declared.notes.Note.{Note}
 use Rattle.event_model.specs.declared.notes.Note.TheVariants as note
 use Rattle.event_model.specs.declared.notes.Observer.{Observer}
 use Rattle.event_model.specs.Same.{is_same_peer}
-use Rattle.event_model.specs.Events.{Event, noted}
+use Rattle.event_model.specs.Events.{noted}
 use Rattle.event_model.specs.Observers.{name_of, observers}
-use Rattle.event_model.specs.Due.{Transition, are_same_lines, is_change_of, is_looking_for, is_due}
+use Rattle.event_model.specs.Due.{are_same_lines, is_change_of, is_looking_for, is_due}
 use Rattle.event_model.proofs.AsideTables.{about_observers}
 use Rattle.event_model.proofs.DueLaws.{due_quiet}
 use Rattle.event_model.proofs.NotedLaws.{event_at}
@@ -30,21 +30,21 @@ use Rattle.journal_model.specs.declared.steps.Step.{Step}
 use Rattle.journal_model.specs.declared.rows.Row.{Row}
 use Rattle.journal_model.specs.DeskJournal.{IsDeskJournal}
 use Rattle.journal_model.specs.Effects.{Effects, nothing, joined, noting}
-use Rattle.journal_model.specs.Journal.{is_look, is_desk_row, transition_of, events, entries, now, latest, row_at, transitions}
+use Rattle.journal_model.specs.Journal.{is_look, is_desk_row, transition_of, events, entries, now, row_at, transitions}
 use Rattle.journal_model.specs.Rows.{row_with, row_moment}
 use Rattle.journal_model.specs.Ticks.{is_confirmable_with, confirmable_sent, octets_sent}
 use Rattle.journal_model.specs.UnfinishedRow.{making}
 use Rattle.journal_model.proofs.EntriesNoted.{entries_in, entries_in-append}
 use Rattle.journal_model.proofs.RowEquations.{events-row, transitions-row}
 use Rattle.journal_model.proofs.UnfinishedRowLaws.{now_latest, now-making, events-making_nothing, events-making_joined}
-use Rattle.journal_model.proofs.observers.DueRows.{entry_marks, due-making_passes, due-making_enters}
+use Rattle.journal_model.proofs.observers.DueRows.{due-making_passes, due-making_enters}
 use Rattle.journal_model.proofs.observers.ObserverKnowledge.{KnownIn}
 use Rattle.journal_model.proofs.observers.ObserversKnow.{desk-AllKnown}
 use Rattle.journal_model.proofs.observers.SentOctets.{observers_standing-row}
-use Rattle.watch_table.specs.WatchedQueries.{Table, all_touched, all_unmarked}
-use Rattle.observers.specs.Watchers.{Watcher}
+use Rattle.watch_table.specs.WatchedQueries.{Table, all_touched}
+use Rattle.observers.proofs.StandLaws.{empty-StandsFor}
 use Rattle.rd_desk.specs.Entering.{IsEntered}
-use Rattle.rd_desk.specs.Marks.{all_touched_where, handed}
+use Rattle.rd_desk.specs.Marks.{all_touched_where}
 use Rattle.rd_desk.specs.Watching.{Watching, WatchingStandsFor}
 use Rattle.rd_desk.proofs.MarkLaws.{unmarked_same, unmarked_handed}
 use Rattle.rd_desk.proofs.WatchingParts.{handed_on, StandsOver, KeepsConfirmable, shown_same, octets_kept, noted_aside, touched_stands}
@@ -59,6 +59,19 @@ to_parts rows w h = record { queries = h.queries; placed = h.placed; watches = h
 
 pub from_parts : (rows : List Row) (w : Watching) → StandsIn rows w → WatchingStandsFor rows w
 from_parts rows w h = record { queries = h.queries; placed = h.placed; watches = h.watches; observers = h.observers; confirmable = h.confirmable; unmarked = h.unmarked; bodies = h.bodies }
+
+-- no observers, in the journal without a row
+pub WatchingStandsFor-empty : WatchingStandsFor [] (record { watches = []; observers = [] })
+unfolding events transitions observers
+WatchingStandsFor-empty = record {
+  queries = λ place. record { kind = kind.Resource; criteria = []; page = None; count = None };
+  placed = tt;
+  watches = record { watchers = λ query. refl; some = tt; apart = tt };
+  observers = empty-StandsFor (λ place. record { kind = kind.Resource; criteria = []; page = None; count = None }) (octets_sent []);
+  confirmable = tt;
+  unmarked = tt;
+  bodies = tt;
+}
 
 -- ---- one thing more that enters nothing
 

@@ -1,5 +1,5 @@
 -- The watched queries and their observers while a row is made, with one more note about observers: one is gone, one is added, or what waits for one changes.
-use Rattle.std.proofs.Common.{◌≡◌, ℕ, ◌+◌, ◌≤◌, ◌&&◌, ◌||◌, Bool, true, false, not, cond, List, [], ◌∷◌, ◌++◌, length, map, filter, find, slice_get, Option, Some, None, is_some, option_map, unwrap_or, refl, sym, ap, ap₂, subst, ◌∙◌, append-nil, append_assoc, arith}
+use Rattle.std.proofs.Common.{◌≡◌, ℕ, ◌+◌, ◌≤◌, ◌&&◌, ◌||◌, Bool, true, false, cond, List, [], ◌∷◌, ◌++◌, length, map, find, slice_get, Option, Some, None, is_some, option_map, unwrap_or, refl, sym, ap, ap₂, subst, ◌∙◌, append-nil, append_assoc, arith}
 use Rattle.std.specs.List.{AllByRecursion, list_any, remove}
 use Rattle.std.specs.Option.{option_or}
 use Rattle.std.proofs.lemmas.Bool.{false≢true}
@@ -9,11 +9,10 @@ use Rattle.rd_base.specs.declared.queries.Query.{Query}
 use Rattle.rd_base.specs.Firsts.{changed_first, without_first}
 use Rattle.rd_base.proofs.lemmas.Firsts.{without_first-unfound}
 use Rattle.rd_base.proofs.lemmas.Options.{some_same}
-use Rattle.history_model.specs.declared.entries.Entry.{Entry}
 use Rattle.event_model.specs.declared.notes.Note.{Note}
 use Rattle.event_model.specs.declared.notes.Note.TheVariants as note
 use Rattle.event_model.specs.declared.notes.Observer.{Observer}
-use Rattle.event_model.specs.Same.{RequestName, is_same_peer}
+use Rattle.event_model.specs.Same.{is_same_peer}
 use Rattle.event_model.specs.Events.{Event, noted}
 use Rattle.event_model.specs.Observers.{observers, is_observer}
 use Rattle.event_model.specs.Flights.{Sent, OctetsSent}
@@ -24,7 +23,7 @@ use Rattle.journal_model.specs.declared.steps.Step.{Step}
 use Rattle.journal_model.specs.declared.rows.Row.{Row}
 use Rattle.journal_model.specs.Effects.{Effects, joined, noting}
 use Rattle.journal_model.specs.EmptyMessages.{waited_for}
-use Rattle.journal_model.specs.Journal.{is_look, is_desk_row, transition_of, events, entries, now, transitions}
+use Rattle.journal_model.specs.Journal.{is_desk_row, transition_of, events, entries, now, transitions}
 use Rattle.journal_model.specs.Lookups.{removal, addition}
 use Rattle.journal_model.specs.Rows.{row_with, row_moment}
 use Rattle.journal_model.specs.Ticks.{is_confirmable_with, octets_sent}
@@ -36,13 +35,13 @@ use Rattle.journal_model.proofs.observers.DueRows.{transitions_below}
 use Rattle.journal_model.proofs.observers.SentOctets.{octets_sent-own}
 use Rattle.exchange_core.specs.declared.resends.Again.TheVariants as again
 use Rattle.exchange_core.specs.Retransmissions.{Resends, kept_due}
-use Rattle.watch_table.specs.WatchedQueries.{Table, one_more, one_fewer, without, IsPlaceFor}
+use Rattle.watch_table.specs.WatchedQueries.{one_more, one_fewer, without, IsPlaceFor}
 use Rattle.observers.specs.Watchers.{Watcher, is_named, has_notice, is_awaited, noticed, seen, landed, kept_of, timed, changed_at}
 use Rattle.observers.specs.ObserverEvents.{observer_of, ObserversStandFor}
 use Rattle.observers.proofs.StandLaws.{observers-StandsFor, dropped-StandsFor, reset-StandsFor, removed-StandsFor, unchanged-StandsFor, formed-StandsFor, landed-StandsFor, again-StandsFor, added-StandsFor}
 use Rattle.rd_desk.specs.Noticing.{forming, sending_again}
 use Rattle.rd_desk.specs.Watching.{Watching, IsConfirmable, WatchingStandsFor}
-use Rattle.rd_desk.proofs.FoundObservers.{Cut, cut_first, cut_at, changed_first-unfound, each_changed_first, each_changed_at, map-changed_first, map-changed_at, in_list, waited_for-StandsFor, is_observer-found, found_named}
+use Rattle.rd_desk.proofs.FoundObservers.{Cut, cut_first, cut_at, changed_first-unfound, each_changed_first, each_changed_at, map-changed_first, map-changed_at, in_list, waited_for-StandsFor, is_observer-found}
 use Rattle.rd_desk.proofs.WatchedLaws.{without_notice, with_query, with_own, with_same}
 use Rattle.rd_desk.proofs.WatcherParts.{noticed_stands, gone_stands, other_queries, added_stands}
 use Rattle.rd_desk.proofs.WatchingLaws.{from_parts, stands_before, WatchingStandsFor-aside}

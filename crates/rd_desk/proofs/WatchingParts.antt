@@ -5,14 +5,14 @@ use Rattle.std.specs.Map.{lookup}
 use Rattle.std.proofs.lemmas.Map.Made.{lookup-map_values}
 use Rattle.rd_base.specs.declared.peers.Peer.{Peer}
 use Rattle.rd_base.specs.declared.queries.Query.{Query}
-use Rattle.rd_base.proofs.lemmas.Each.{each_weaker, each_both, each_one, each_map}
+use Rattle.rd_base.proofs.lemmas.Each.{each_weaker, each_one, each_map}
 use Rattle.history_model.specs.declared.entries.Entry.{Entry}
 use Rattle.history_model.specs.Listing.{listing}
 use Rattle.event_model.specs.declared.notes.Note.{Note}
 use Rattle.event_model.specs.declared.notes.Observer.{Observer}
 use Rattle.event_model.specs.Events.{Event, noted}
 use Rattle.event_model.specs.Observers.{observers}
-use Rattle.event_model.specs.Flights.{OctetsSent, flight, notice_sent, waiting_notice}
+use Rattle.event_model.specs.Flights.{OctetsSent, notice_sent, waiting_notice}
 use Rattle.event_model.specs.Due.{Transition, Watching as Shown, is_due, watching, observers_standing}
 use Rattle.event_model.proofs.AsideTables.{about_observers, observers_standing-noted}
 use Rattle.event_model.proofs.FlightLaws.{waiting_notice-octets}
@@ -22,7 +22,7 @@ use Rattle.watch_table.specs.Watchers.{WatchesStandFor}
 use Rattle.watch_table.proofs.EntryLaws.{each_found}
 use Rattle.watch_table.proofs.TouchedLaws.{Keeps, kept-StandsFor, unmarked-StandsFor}
 use Rattle.observers.specs.Watchers.{Watcher}
-use Rattle.observers.specs.ObserverEvents.{observer_of, shown, ObserversStandFor}
+use Rattle.observers.specs.ObserverEvents.{shown, ObserversStandFor}
 use Rattle.observers.proofs.StandLaws.{observers-StandsFor, awaits_kept}
 use Rattle.rd_desk.specs.Marks.{touched_where, all_touched_where, handed}
 use Rattle.rd_desk.specs.Watching.{Watching, IsPlaced, IsUnmarked, IsConfirmable}
@@ -99,7 +99,7 @@ noted_aside octets past seen history moment w place at word notes none h =
 -- ---- changes of the registrations
 
 -- marks and bodies leave queries and watchers
-touched_where-Keeps : (test : Query → Bool) → Keeps (touched_where test)
+pub touched_where-Keeps : (test : Query → Bool) → Keeps (touched_where test)
 touched_where-Keeps test = record { query = λ w. query w (test w.query); watchers = λ w. watchers w (test w.query) }
   where
     query : (w : Watched) (b : Bool) → (cond b (record w { marked = true; body = None }) w).query ≡ w.query
@@ -122,7 +122,7 @@ pub placed_kept : (change : Watched → Watched) → Keeps change → (queries :
 placed_kept change keeps queries t ws placed =
     each_weaker (IsPlaced t queries) (IsPlaced (map (λ (e : ℕ × Watched). (e.0, change e.1)) t) queries) (λ x p. query_kept change keeps x.place t ∙ p) ws placed
 
-unmarked-Keeps : Keeps unmarked
+pub unmarked-Keeps : Keeps unmarked
 unmarked-Keeps = record { query = λ w. refl; watchers = λ w. refl }
 
 -- the query of an observer is marked exactly where it passes

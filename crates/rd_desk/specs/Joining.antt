@@ -1,5 +1,5 @@
 -- Who joins the observers of a lookup, and what becomes of the watched queries and their observers then (RFC 7641 section 4.1).
-use Rattle.std.specs.Prelude.{◌≡◌, ℕ, Bool, true, false, nat_lt, ◌&&◌, ◌||◌, List, [], ◌∷◌, ◌++◌, find, length, Option, Some, None, option_map, Result, Ok, Err, if◌then◌else◌}
+use Rattle.std.specs.Prelude.{◌≡◌, ℕ, Bool, true, false, nat_lt, ◌&&◌, ◌||◌, List, [], ◌∷◌, ◌++◌, find, None, option_map, Result, Ok, Err}
 use Rattle.std.specs.Arc.{arc_value}
 use Rattle.rd_base.specs.declared.out_of_memory.Starved.{Starved}
 use Rattle.rd_base.specs.declared.peers.Peer.{Peer}

@@ -1,5 +1,5 @@
 -- Marks of watched queries: which of them changes of the registrations set, and the observers that are due by them (RFC 7641 section 4.2).
-use Rattle.std.specs.Prelude.{◌≡◌, ℕ, Bool, true, ◌||◌, List, map, fold, Some, None, if◌then◌else◌}
+use Rattle.std.specs.Prelude.{◌≡◌, Bool, true, ◌||◌, List, map, fold, Some, None, if◌then◌else◌}
 use Rattle.rd_base.specs.declared.queries.Query.{Query}
 use Rattle.rd_base.specs.declared.records.Record.{Record}
 use Rattle.watch_table.specs.WatchedQueries.{Watched, Table, is_marked_at, all_touched}

@@ -1,13 +1,13 @@
-//! Who joins the observers of a lookup (RFC 7641 section 4.1).
-ghost use Rattle.std.specs.Prelude.{◌≡◌, ◌<◌, ℕ, ◌++◌, ◌∷◌, [], List, None, false, IfOk, find, length, nat_le, is_some, option_map};
+//! Who joins the observers of a lookup, and who goes: the watched queries and the observers change together (RFC 7641 sections 3.6 and 4.1).
+ghost use Rattle.std.specs.Prelude.{◌≡◌, ◌<◌, ℕ, ◌++◌, ◌∷◌, [], List, Some, None, false, IfOk, find, length, nat_le, is_some, option_map, slice_get, remove};
 ghost use Rattle.std.specs.List.{list_any};
 ghost use Rattle.rd_base.specs.declared.peers.Peer.{Peer as Endpoint};
 ghost use Rattle.rd_base.specs.Firsts.{without_first};
 ghost use Rattle.event_model.specs.declared.notes.Observer.{Observer as Observed};
 ghost use Rattle.event_model.specs.Observers.{max_observers};
-ghost use Rattle.watch_table.specs.WatchedQueries.{without};
+ghost use Rattle.watch_table.specs.WatchedQueries.{one_fewer, without};
 ghost use Rattle.watch_table.specs.Watchers.{WatchesStandFor};
-ghost use Rattle.observers.specs.Watchers.{is_named};
+ghost use Rattle.observers.specs.Watchers.{Watcher, is_named, has_notice};
 ghost use Rattle.rd_desk.specs.Joining.{Joins, has_room, watcher_joining};
 
 use exchange_core::Token;
@@ -101,6 +101,47 @@ pub(crate) fn leave(
             true
         }
         None => false,
+    }
+}
+
+/// Takes out the observer of a peer whose notice in flight has a Message ID, and one watcher of its query; whether there is one.
+pub(crate) fn reset(
+    watches: &mut WatchTable,
+    observers: &mut Observers,
+    peer: &Peer,
+    mid: u16,
+) -> bool
+    ensures found { result ≡ is_some (find (has_notice peer.now mid) observers.old) }
+    ensures watches { watches.new ≡ without (option_map (λ x. x.place) (find (has_notice peer.now mid) observers.old)) watches.old }
+    ensures observers { observers.new ≡ without_first (has_notice peer.now mid) observers.old }
+{
+    match observers.reset(peer, mid) {
+        Some(gone) => {
+            watches.unwatch(gone.place);
+            true
+        }
+        None => false,
+    }
+}
+
+/// Takes out the observer with an index, and one watcher of its query.
+pub(crate) fn take_out(watches: &mut WatchTable, observers: &mut Observers, index: usize)
+    requires { index < length observers.old }
+    ensures watches { (x : Watcher) → slice_get observers.old index ≡ Some x → watches.new ≡ one_fewer x.place watches.old }
+    ensures observers { observers.new ≡ remove observers.old index }
+{
+    let gone = observers.timed_out(index);
+    watches.unwatch(gone.place);
+}
+
+/// The place of the query of the observer with an index.
+pub(crate) fn place_at(observers: &Observers, index: usize) -> u32
+    requires { index < length observers.now }
+    ensures { (x : Watcher) → slice_get observers.now index ≡ Some x → result ≡ x.place }
+{
+    match observers.at(index) {
+        Some(observer) => observer.place,
+        None => unreachable!(),
     }
 }
 

@@ -7,6 +7,7 @@ ghost use Rattle.history_model.specs.Versions.{VersionStandsFor};
 ghost use Rattle.watch_table.specs.WatchedQueries.{is_marked_at, all_unmarked};
 ghost use Rattle.observers.specs.Watchers.{Watcher};
 ghost use Rattle.rd_desk.specs.Marks.{all_touched_where, handed, IsHanded};
+ghost use Rattle.rd_desk.specs.Watching.{AreWatched};
 
 use directory_core::Directory;
 use observers::Observers;
@@ -61,6 +62,7 @@ pub(crate) fn touch_lapsing(
     requires { version.now.swept ≤ from.0 }
     ensures touched { (first : ℕ) (history : List Entry) → VersionStandsFor first history version.now → watches.new ≡ all_touched_where (λ query. is_lapse_of query from.0 to.0 (replay history).records) watches.old }
     ensures none { result ≡ false → watches.new ≡ watches.old }
+    ensures watched { (standing : List Watcher) → AreWatched watches.old standing → AreWatched watches.new standing }
 {
     let mut lapsing = version.lapsing(from, to);
     let mut lapses = false;

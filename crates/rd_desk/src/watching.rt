@@ -1,32 +1,44 @@
 //! The watched queries and their observers: who observes, and who is due (RFC 7641 section 4).
-ghost use Rattle.std.specs.Prelude.{◌≡◌, ◌≤◌, ◌∷◌, [], List, Bool, false, IfOk, OnErr, map, length, nat_lt};
+ghost use Rattle.std.specs.Prelude.{◌≡◌, ◌≢◌, ◌≤◌, ◌<◌, ◌∷◌, [], ◌&&◌, List, Bool, true, false, Some, IfOk, IfSome, OnErr, map, length, nat_lt, option_map, slice_get, remove};
+ghost use Rattle.std.specs.List.{list_any};
 ghost use Rattle.std.specs.Arc.{arc_value};
 ghost use Rattle.std.specs.Option.{option_copied};
 ghost use Rattle.history_model.specs.declared.entries.Entry.{Entry};
+ghost use Rattle.history_model.specs.Listing.{listing};
 ghost use Rattle.event_model.specs.declared.notes.Note.TheVariants as note;
+ghost use Rattle.event_model.specs.declared.notes.Observer.{Observer as Observed};
+ghost use Rattle.event_model.specs.Same.{is_same_peer};
+ghost use Rattle.event_model.specs.Events.{Event};
+ghost use Rattle.event_model.specs.Flights.{Sent as Message, flight};
 ghost use Rattle.event_model.specs.Observers.{observers, is_observer, has_room_for};
 ghost use Rattle.journal_model.specs.declared.steps.Step.{Step};
 ghost use Rattle.journal_model.specs.declared.rows.Row.{Row};
 ghost use Rattle.journal_model.specs.DeskJournal.{IsDeskJournal};
 ghost use Rattle.journal_model.specs.Effects.{Effects, nothing, joined, noting};
 ghost use Rattle.journal_model.specs.EmptyMessages.{waited_for};
-ghost use Rattle.journal_model.specs.Journal.{is_look, events, now};
+ghost use Rattle.journal_model.specs.Journal.{is_look, events, entries, now, transitions};
 ghost use Rattle.journal_model.specs.Lookups.{removal, without};
 ghost use Rattle.journal_model.specs.Rows.{row_moment};
+ghost use Rattle.journal_model.specs.Ticks.{is_confirmable_with};
 ghost use Rattle.journal_model.specs.UnfinishedRow.{making};
+ghost use Rattle.exchange_core.specs.Retransmissions.{Resends};
+ghost use Rattle.observers.specs.ObserverEvents.{notice_due};
+ghost use Rattle.observers.specs.Watchers.{Watcher, is_awaited};
 ghost use Rattle.rd_desk.specs.Desks.{DirectoryStandsFor};
 ghost use Rattle.rd_desk.specs.Entering.{IsEntered};
 ghost use Rattle.rd_desk.specs.Joining.{observer_joining, joining_notes};
+ghost use Rattle.rd_desk.specs.Noticing.{forming, sending_again, next_noticed};
 ghost use Rattle.rd_desk.specs.Watching.{WatchingStandsFor};
 
 use crate::joining::{self, Joining};
 use crate::marks::{hand_on, touch_lapsing};
 use directory_core::Directory;
-use exchange_core::Token;
-use observers::Observers;
-use rd_base::{Moment, Peer, Query, Record, Starved};
+use exchange_core::{Again, Sent, Token};
+use observers::{Observer, Observers};
+use rd_base::{Bytes, Moment, Peer, Query, Record, Starved};
 use std::alloc::Global;
 use std::marker::Model;
+use std::sync::Arc;
 use watch_table::WatchTable;
 
 /// The queries that are observed, and who observes them (RFC 7641 section 4.1): each query is watched as often as it is observed.
@@ -119,12 +131,95 @@ impl Watching {
         ensures found { (rows : List Row) → WatchingStandsFor rows self.old → result ≡ nat_lt 0 (length (waited_for peer.now mid (events rows))) }
         ensures stands { (rows : List Row) (s : Step) (starved : Bool) (done : Effects) → WatchingStandsFor (making rows s starved done) self.old → WatchingStandsFor (making rows s starved (joined done (noting (map (λ o. note.Unwatched o.peer o.token) (waited_for peer.now mid (events (making rows s starved done))))))) self.new }
     {
-        match self.observers.reset(peer, mid) {
-            Some(gone) => {
-                self.watches.unwatch(gone.place);
-                true
-            }
-            None => false,
-        }
+        joining::reset(&mut self.watches, &mut self.observers, peer, mid)
+    }
+
+    /// How many observers there are.
+    pub(crate) fn len(&self) -> usize
+        ensures { result ≡ length self.now.observers }
+    {
+        self.observers.len()
+    }
+
+    /// The observer with an index; none from their number on.
+    pub(crate) fn at(&self, index: usize) -> Option<&Observer>
+        ensures { option_map (λ x. x.now) result ≡ slice_get self.now.observers index }
+    {
+        self.observers.at(index)
+    }
+
+    /// The first index from a number on of an observer that is due and to whose peer no notice is in flight (RFC 7252 section 4.7, NSTART).
+    pub(crate) fn next_due(&self, from: usize) -> Option<usize>
+        ensures next { (rows : List Row) → WatchingStandsFor rows self.now → result ≡ next_noticed from (events rows) (transitions rows) }
+        ensures within { IfSome result (λ i. (from ≤ i) × (i < length self.now.observers)) }
+        ensures free { (x : Watcher) → IfSome result (λ i. slice_get self.now.observers i ≡ Some x → is_awaited x.peer self.now.observers ≡ false) }
+    {
+        self.observers.next_due(from)
+    }
+
+    /// The query of the observer with an index.
+    pub(crate) fn query(&self, index: usize) -> &Query
+        requires { index < length self.now.observers }
+        ensures { (rows : List Row) (o : Observed) → WatchingStandsFor rows self.now → slice_get (observers (events rows)) index ≡ Some o → result.now ≡ o.query }
+    {
+        self.watches
+            .query(joining::place_at(&self.observers, index))
+    }
+
+    /// The body of the query of the observer with an index, where one is kept: it is the listing now.
+    pub(crate) fn body(&self, index: usize) -> Option<&Arc<Bytes>>
+        requires { index < length self.now.observers }
+        ensures { (rows : List Row) (o : Observed) → WatchingStandsFor rows self.now → slice_get (observers (events rows)) index ≡ Some o → IfSome result (λ body. arc_value body.now ≡ listing o.query (entries rows) (now rows)) }
+    {
+        self.watches.body(joining::place_at(&self.observers, index))
+    }
+
+    /// Keeps a body for the query of the observer with an index, so that it is formed once for all who observe it. It is the listing now. Takes no memory.
+    pub(crate) fn keep_body(&mut self, index: usize, body: Arc<Bytes>)
+        requires { index < length self.old.observers }
+        ensures stands { (rows : List Row) (o : Observed) → arc_value body ≡ listing o.query (entries rows) (now rows) → slice_get (observers (events rows)) index ≡ Some o → WatchingStandsFor rows self.old → WatchingStandsFor rows self.new }
+        ensures same { self.new.observers ≡ self.old.observers }
+    {
+        let place = joining::place_at(&self.observers, index);
+        self.watches.set_body(place, body);
+    }
+
+    /// A notice with a body was formed for the observer with an index, to whose peer none is in flight: it is due no longer. Takes no memory.
+    pub(crate) fn formed(&mut self, index: usize, flight: Sent, body: Arc<Bytes>)
+        requires within { index < length self.old.observers }
+        requires free { (x : Watcher) → slice_get self.old.observers index ≡ Some x → is_awaited x.peer self.old.observers ≡ false }
+        ensures stands { (rows : List Row) (s : Step) (starved : Bool) (done : Effects) (x : Watcher) → slice_get self.old.observers index ≡ Some x → list_any (λ d. is_same_peer d.0 x.peer && is_confirmable_with flight.mid d.1) done.sent ≡ false → is_confirmable_with flight.mid flight.octets ≡ true → ((first : Event) → first.moment ≡ row_moment rows s → first.word ≡ s.word → Resends first [] flight.resend) → WatchingStandsFor (making rows s starved done) self.old → WatchingStandsFor (making rows s starved (joined done (forming x (arc_value body) flight))) self.new }
+        ensures len { length self.new.observers ≡ length self.old.observers }
+    {
+        self.observers.formed(index, flight, body);
+    }
+
+    /// The listing of the observer with an index was found unchanged: it is due no longer. Takes no memory.
+    pub(crate) fn unchanged(&mut self, index: usize)
+        requires { index < length self.old.observers }
+        ensures stands { (rows : List Row) (s : Step) (starved : Bool) (done : Effects) (x : Watcher) → slice_get self.old.observers index ≡ Some x → WatchingStandsFor (making rows s starved done) self.old → WatchingStandsFor (making rows s starved (joined done (noting (note.Unchanged x.peer x.token ∷ [])))) self.new }
+        ensures len { length self.new.observers ≡ length self.old.observers }
+    {
+        self.observers.unchanged(index);
+    }
+
+    /// What is due now of the notice in flight to the observer with an index; `Wait` where none is in flight. A retransmission counts as made now.
+    pub(crate) fn timeout(&mut self, now: Moment, index: usize) -> Again
+        requires { index < length self.old.observers }
+        ensures due { (rows : List Row) (o : Observed) → WatchingStandsFor rows self.old → slice_get (observers (events rows)) index ≡ Some o → result ≡ notice_due now.0 (flight o (events rows)) }
+        ensures stands { (rows : List Row) (s : Step) (starved : Bool) (done : Effects) (x : Watcher) (sent : Message) → result ≡ Again.Send → slice_get self.old.observers index ≡ Some x → x.flight ≡ Some sent → now.0 ≡ row_moment rows s → WatchingStandsFor (making rows s starved done) self.old → WatchingStandsFor (making rows s starved (joined done (sending_again x sent))) self.new }
+        ensures unsent { result ≢ Again.Send → self.new ≡ self.old }
+        ensures len { length self.new.observers ≡ length self.old.observers }
+    {
+        self.observers.timeout(now, index)
+    }
+
+    /// The observer with an index is taken out, whose notice is given up (RFC 7641 section 4.5).
+    pub(crate) fn timed_out(&mut self, index: usize)
+        requires { index < length self.old.observers }
+        ensures stands { (rows : List Row) (s : Step) (starved : Bool) (done : Effects) (x : Watcher) → slice_get self.old.observers index ≡ Some x → WatchingStandsFor (making rows s starved done) self.old → WatchingStandsFor (making rows s starved (joined done (noting (note.Unwatched x.peer x.token ∷ [])))) self.new }
+        ensures left { self.new.observers ≡ remove self.old.observers index }
+    {
+        joining::take_out(&mut self.watches, &mut self.observers, index);
     }
 }

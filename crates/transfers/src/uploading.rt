@@ -1,9 +1,11 @@
 //! The uploads of a table, in the order in which they began.
-ghost use Rattle.std.specs.Prelude.{◌≡◌, ◌≢◌, ◌<◌, ◌≤◌, ◌==◌, ◌++◌, not, ◌&&◌, length, filter, find, option_map, IfOk, OnOk, OnErr};
+ghost use Rattle.std.specs.Prelude.{◌≡◌, ◌≢◌, ◌<◌, ◌≤◌, ◌==◌, ◌++◌, Bool, not, ◌&&◌, length, filter, find, option_map, IfOk, OnOk, OnErr};
 ghost use Rattle.std.specs.List.{position};
 ghost use Rattle.std.specs.Vec.{vec_len, vec_capacity};
 ghost use Rattle.journal_model.specs.Registrations.{collected_before, is_one_too_many};
-ghost use Rattle.transfers.specs.Uploading.{is_of, is_live_as, live_body, young_uploads, other_uploads, begun, gone_on, taken, without_upload};
+ghost use Rattle.rd_base.specs.Firsts.{changed_first};
+ghost use Rattle.event_model.specs.Uploads.{Upload as LiveUpload};
+ghost use Rattle.transfers.specs.Uploading.{is_of, is_live_as, live_body, young_uploads, other_uploads, with_block, begun, taken, without_upload};
 ghost use Rattle.transfers.specs.BlockAnswers.{answer_to};
 
 use crate::collecting::begins_at;
@@ -18,20 +20,6 @@ pub(crate) const MAX_UPLOADS: usize = 64;
 /// How many octets a body has at most.
 const MAX_BODY: usize = 8_192;
 
-/// The upload of this peer and request key, where it lives.
-fn live_upload<'a>(
-    uploads: &'a Vec<Collected>,
-    now: Moment,
-    peer: Peer,
-    key: &Key,
-) -> Option<&'a Collected>
-    ensures { option_map (λ u. u.now) result ≡ find (is_live_as now.0 (peer, key.now)) uploads.now.items }
-{
-    uploads
-        .iter()
-        .find(|upload| upload.is_live_as(now, peer, key))
-}
-
 /// The index of the upload of this peer and request key, where it lives.
 fn live_index(uploads: &Vec<Collected>, now: Moment, peer: Peer, key: &Key) -> Option<usize>
     ensures { result ≡ position (is_live_as now.0 (peer, key.now)) uploads.now.items }
@@ -41,20 +29,15 @@ fn live_index(uploads: &Vec<Collected>, now: Moment, peer: Peer, key: &Key) -> O
         .position(|upload| upload.is_live_as(now, peer, key))
 }
 
-/// What is collected under this peer and request key, where the upload lives.
-#[tactic(auto, unfolding(crate::specs::Uploading::live_body))]
-fn live_body<'a>(
-    uploads: &'a Vec<Collected>,
-    now: Moment,
-    peer: Peer,
-    key: &Key,
-) -> Option<&'a [u8]>
-    ensures { option_map (λ s. s.now) result ≡ live_body now.0 (peer, key.now) uploads.now.items }
+/// The octets of the upload with an index, where there is one. The index is that of the first upload that passes a test.
+fn body_at<'a>(uploads: &'a Vec<Collected>, index: Option<usize>) -> Option<&'a [u8]>
+    requires { (test : LiveUpload → Bool) × (index ≡ position test uploads.now.items) }
+    ensures { (test : LiveUpload → Bool) → index ≡ position test uploads.now.items → option_map (λ s. s.now) result ≡ option_map (λ u. u.body) (find test uploads.now.items) }
 {
-    let Some(upload) = live_upload(uploads, now, peer, key) else {
-        return None;
-    };
-    Some(upload.body())
+    match index {
+        Some(at) => Some(uploads[at].body()),
+        None => None,
+    }
 }
 
 /// How many uploads live.
@@ -140,36 +123,39 @@ fn begin(
     Ok(())
 }
 
-/// Goes on with the upload of this peer and request key, where it lives. `Starved`: out of memory, and all is as before.
+/// Goes on with the upload with an index, where there is one. The index is that of the first upload that passes a test. `Starved`: out of memory, and all is as before.
 fn go_on(
     uploads: &mut Vec<Collected>,
     now: Moment,
-    peer: Peer,
-    key: &Key,
+    index: Option<usize>,
     piece: &[u8],
 ) -> Result<(), Starved>
-    ensures ok { OnOk result (uploads.new.items ≡ gone_on now.0 (peer, key.now) piece.now uploads.old.items) }
+    requires { (test : LiveUpload → Bool) × (index ≡ position test uploads.old.items) }
+    ensures ok { (test : LiveUpload → Bool) → index ≡ position test uploads.old.items → OnOk result (uploads.new.items ≡ changed_first test (with_block piece.now now.0) uploads.old.items) }
     ensures err { OnErr result (uploads.new.items ≡ uploads.old.items) }
     ensures capacity { vec_capacity uploads.new ≡ vec_capacity uploads.old }
 {
-    let Some(index) = live_index(uploads, now, peer, key) else {
+    let Some(at) = index else {
         return Ok(());
     };
-    uploads[index].go_on(now, piece)?;
+    uploads[at].go_on(now, piece)?;
     Ok(())
 }
 
-/// Collects a block that more follow. `Starved`: out of memory, and all is as before.
+/// Collects a block that more follow, by the index of the upload of its peer and request key, where that lives. `Starved`: out of memory, and all is as before.
+#[tactic(auto, unfolding(crate::specs::Uploading::gone_on))]
 fn take(
     uploads: &mut Vec<Collected>,
     alloc: Global,
     now: Moment,
     peer: Peer,
     key: &Key,
+    index: Option<usize>,
     block: &Block,
     piece: &[u8],
 ) -> Result<(), Starved>
-    requires { length (other_uploads now.0 (peer, key.now) uploads.old.items) < vec_capacity uploads.old }
+    requires room { length (other_uploads now.0 (peer, key.now) uploads.old.items) < vec_capacity uploads.old }
+    requires index { index ≡ position (is_live_as now.0 (peer, key.now)) uploads.old.items }
     ensures ok { OnOk result (uploads.new.items ≡ taken block.now now.0 (peer, key.now) piece.now uploads.old.items) }
     ensures err { OnErr result (uploads.new.items ≡ uploads.old.items) }
     ensures capacity { vec_capacity uploads.new ≡ vec_capacity uploads.old }
@@ -177,7 +163,7 @@ fn take(
     if block.num == 0 {
         return begin(uploads, alloc, now, peer, key, piece);
     }
-    go_on(uploads, now, peer, key, piece)
+    go_on(uploads, now, index, piece)
 }
 
 /// How a block is answered, by what is collected of its upload and by how many uploads live; a last block is joined to what is collected.
@@ -211,6 +197,7 @@ fn judge(
 }
 
 /// How a block is answered. One that more follow is collected where it is answered by `More`; after any other answer all is as before.
+#[tactic(auto, unfolding(crate::specs::Uploading::live_body))]
 pub(crate) fn upload(
     uploads: &mut Vec<Collected>,
     alloc: Global,
@@ -228,12 +215,13 @@ pub(crate) fn upload(
     ensures few { vec_len uploads.new ≤ 64 }
     ensures capacity { vec_capacity uploads.new ≡ vec_capacity uploads.old }
 {
-    let body = live_body(uploads, now, peer, key);
+    let index = live_index(uploads, now, peer, key);
+    let body = body_at(uploads, index);
     let answer = judge(uploads, alloc, now, block, piece, body);
     let Upload::More = answer else {
         return answer;
     };
-    match take(uploads, alloc, now, peer, key, block, piece) {
+    match take(uploads, alloc, now, peer, key, index, block, piece) {
         Ok(()) => Upload::More,
         Err(_) => Upload::Starved,
     }

@@ -1,6 +1,5 @@
-use Rattle.std.proofs.Common.{◌≡◌, List, [], OnOk, sym, ap, ◌∙◌, subst}
+use Rattle.std.proofs.Common.{◌≡◌, [], OnOk, ap, subst}
 use Rattle.history_model.specs.Versions.{Version}
-use Rattle.rd_base.specs.declared.records.Record.{Record}
 use Rattle.directory_core.specs.Pages.{finished}
 use Rattle.directory_core.proofs.LookupLaws.{carriers_give, few_by_records}
 use Rattle.directory_core.proofs.directory.Directory.fill.Goals as goal

@@ -1,5 +1,4 @@
-use Rattle.std.proofs.Common.{◌≡◌, sym, ap, ◌∙◌, subst}
-use Rattle.history_model.specs.Versions.{Version}
+use Rattle.std.proofs.Common.{◌∙◌, subst}
 use Rattle.directory_core.specs.Shown.{IsKept}
 use Rattle.directory_core.proofs.LookupLaws.{few_lines, lines-listing}
 use Rattle.directory_core.proofs.directory.Directory.lookup.Goals as goal

@@ -1,7 +1,7 @@
 use Rattle.std.proofs.Common.{◌≡◌, ◌∷◌, sym, rules}
 use Rattle.std.proofs.lemmas.List.{nil_from_length}
 use Rattle.directory_core.specs.Pages.{numbered_lines}
-use Rattle.directory_core.proofs.PageLaws.{no_number_left, number_added, number_passed}
+use Rattle.directory_core.proofs.PageLaws.{full_page, no_number_left, number_added, number_passed}
 use Rattle.directory_core.proofs.pages.Page.add_numbered.Goals as goal
 
 pub numbers-preserved-in_ok-add : goal.numbers-preserved-in_ok-add
@@ -19,3 +19,7 @@ numbers-preserved c =
 pub returns : goal.returns
 returns c =
     no_number_left c.args.query.now c.args.now.0 c.args.records.now c.numbers.self c.args.self.now (numbered_lines c.args.query.now c.args.now.0 c.args.records.now c.args.numbers.now) c.numbers.left.now (nil_from_length _ c.in_default.ensures.cases) c.numbers.invariant
+
+pub returns-then-self-eq0 : goal.returns-then-self-eq0
+returns-then-self-eq0 c =
+    full_page c.numbers.self c.args.self.now (numbered_lines c.args.query.now c.args.now.0 c.args.records.now c.numbers.left.now) (numbered_lines c.args.query.now c.args.now.0 c.args.records.now c.args.numbers.now) c.if-self-eq0.true c.numbers.invariant
