@@ -7,6 +7,7 @@ mod ReplySizes
 mod AskedLaws
 mod SendingLaws
 mod RefusalLaws
+mod LookLaws
 mod EffectLaws
 mod MakingLaws
 mod FetchLaws
@@ -17,6 +18,7 @@ mod PartLaws
 mod DeskLaws
 mod WriteLaws
 mod EmptyMessageLaws
+mod KeepLaws
 mod AdmissionLaws
 mod MarkLaws
 mod WalkLaws

@@ -12,3 +12,6 @@ pub mod Joining
 pub mod Noticing
 pub mod Desks
 pub mod UnderWay
+pub mod KeepJobs
+pub mod Looking
+pub mod Stepping

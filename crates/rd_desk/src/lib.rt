@@ -7,6 +7,9 @@ mod empty_messages;
 mod heard_empties;
 mod heard_writes;
 mod joining;
+mod keep_jobs;
+mod keeps;
+mod looks;
 mod marks;
 mod mids;
 mod outbox;
@@ -15,15 +18,19 @@ mod refused_requests;
 mod replies;
 mod requests;
 mod server_errors;
+mod steps;
 mod tables;
 mod unread_datagrams;
 mod watching;
 mod write_jobs;
 
 pub use admissions::Admitted;
+pub use keep_jobs::KeepJob;
+pub use looks::{Looked, look};
 pub use mids::Mids;
 pub use outbox::Outbox;
 pub use requests::is_look;
+pub use steps::Stepped;
 pub use write_jobs::WriteJob;
 
 #[cfg(test)]
