@@ -1,5 +1,5 @@
 -- A step under way, from its beginning over its parts to its row.
-use Rattle.std.proofs.Common.{◌≡◌, ℕ, ◌≤◌, max, Bool, false, List, [], ◌∷◌, ◌++◌, length, sym, ap, subst, ◌∙◌, arith}
+use Rattle.std.proofs.Common.{◌≡◌, ℕ, ◌≤◌, max, Bool, false, List, [], ◌++◌, length, sym, ap, subst, ◌∙◌, arith}
 use Rattle.rd_base.specs.declared.moments.Moment.{Moment}
 use Rattle.rd_base.specs.declared.peers.Peer.{Peer}
 use Rattle.history_model.specs.declared.entries.Entry.{Entry}

@@ -1,4 +1,4 @@
-use Rattle.std.proofs.Common.{◌≡◌, [], subst}
+use Rattle.std.proofs.Common.{[], subst}
 use Rattle.coap_message.specs.Views.{message_in}
 use Rattle.journal_model.specs.Effects.{Reply, answering}
 use Rattle.rd_desk.specs.Sendings.{Sends}

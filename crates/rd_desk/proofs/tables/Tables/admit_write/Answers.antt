@@ -1,4 +1,4 @@
-use Rattle.std.proofs.Common.{◌≡◌, ℕ, List, [], ◌∷◌, ◌++◌, refl, ap, ◌∙◌}
+use Rattle.std.proofs.Common.{ℕ, List, [], ◌∷◌, ◌++◌, refl, ap, ◌∙◌}
 use Rattle.coap_message.specs.Views.{message_in}
 use Rattle.event_model.specs.declared.notes.Note.TheVariants as note
 use Rattle.journal_model.specs.Effects.{Effects, nothing, answering}

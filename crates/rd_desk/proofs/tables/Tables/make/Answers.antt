@@ -1,4 +1,4 @@
-use Rattle.std.proofs.Common.{◌≡◌, [], refl, sym, ap, subst, ◌∙◌, arith}
+use Rattle.std.proofs.Common.{[], refl, sym, ap, subst, ◌∙◌, arith}
 use Rattle.history_model.specs.Versions.{Version, VersionStandsFor}
 use Rattle.rd_desk.proofs.DeskLaws.{last_moment-none, StandsFor-none}
 use Rattle.rd_desk.proofs.tables.Tables.make.Goals as goal

@@ -1,5 +1,4 @@
-use Rattle.std.proofs.Common.{◌≡◌, ℕ, max, sym, ap, subst, ◌∙◌}
-use Rattle.journal_model.specs.Journal.{now}
+use Rattle.std.proofs.Common.{◌≡◌, max, sym, ap, subst, ◌∙◌}
 use Rattle.journal_model.specs.Rows.{row_moment}
 use Rattle.rd_desk.specs.Desks.{Seen, DirectoryStandsFor}
 use Rattle.rd_desk.specs.Watching.{WatchingStandsFor}
