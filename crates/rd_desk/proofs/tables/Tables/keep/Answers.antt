@@ -1,4 +1,3 @@
-use Rattle.std.proofs.Common.{◌≡◌}
 use Rattle.rd_desk.specs.Stepping.{is_starved_step}
 use Rattle.rd_desk.proofs.KeepLaws.{keep_made}
 use Rattle.rd_desk.proofs.tables.Tables.keep.Goals as goal
