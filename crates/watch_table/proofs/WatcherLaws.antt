@@ -65,7 +65,7 @@ one q o = cond (is_same_query o.query q) 1 0
 observers-cons : (q : Query) (o : Observer) (os : List Observer) → observers_of q (o ∷ os) ≡ one q o + observers_of q os
 observers-cons q o os = sum_by-cons (one q) o os
 
-observers-between : (q : Query) (front back : List Observer) (o : Observer) → observers_of q (front ++ o ∷ back) ≡ one q o + observers_of q (front ++ back)
+pub observers-between : (q : Query) (front back : List Observer) (o : Observer) → observers_of q (front ++ o ∷ back) ≡ one q o + observers_of q (front ++ back)
 observers-between q front back o =
     let whole = sum_by-append (one q) front (o ∷ back) in
     let tail = observers-cons q o back in
@@ -124,7 +124,7 @@ none_placed place (e ∷ es) is = by (nat_eq place e.0) refl is (none_placed pla
     by false e' g more = (turned e', more g)
 
 -- what is watched at the place of a query is that query
-place_of-found : (q : Query) (place : ℕ) (t : Table) → AreApart t → place_of q t ≡ Some place → (w : Watched) × (watched_at place t ≡ Some w) × (is_same_query w.query q ≡ true)
+pub place_of-found : (q : Query) (place : ℕ) (t : Table) → AreApart t → place_of q t ≡ Some place → (w : Watched) × (watched_at place t ≡ Some w) × (is_same_query w.query q ≡ true)
 place_of-found q place [] h is = absurd cc
 place_of-found q place (e ∷ es) h is = by (is_same_query e.1.query q) refl is (place_of-found q place es h.1)
   where
@@ -150,7 +150,7 @@ none_counted q (e ∷ es) h =
     omega (arith, here, rest, whole)
 
 -- the watchers of a query are those at its place
-counted_at : (q : Query) (place : ℕ) (t : Table) (w : Watched) → AreApart t → watched_at place t ≡ Some w → is_same_query w.query q ≡ true → watchers_of q t ≡ w.watchers
+pub counted_at : (q : Query) (place : ℕ) (t : Table) (w : Watched) → AreApart t → watched_at place t ≡ Some w → is_same_query w.query q ≡ true → watchers_of q t ≡ w.watchers
 counted_at q place [] w h is same = absurd cc
 counted_at q place (e ∷ es) w h is same = by (nat_eq place e.0) is (λ g. counted_at q place es w h.1 g same)
   where
@@ -286,7 +286,7 @@ more-StandsFor standing o place t for h = by (place_of o.query t) refl for
 
 -- ---- how many queries are observed
 
-any_counts : (q : Query) (os : List Observer) → is_watched q os ≡ true → 0 < observers_of q os
+pub any_counts : (q : Query) (os : List Observer) → is_watched q os ≡ true → 0 < observers_of q os
 any_counts q [] h = absurd (false≢true h)
 any_counts q (o ∷ os) h = by (is_same_query o.query q) refl h (any_counts q os)
   where

@@ -1,4 +1,4 @@
-use Rattle.std.proofs.Common.{◌≡◌, ℕ, ◌+◌, ◌++◌, ◌∷◌, [], List, length, map, true, false, not, sym, ap, ◌∙◌, arith, is_ok, cond}
+use Rattle.std.proofs.Common.{◌≡◌, ◌++◌, true, not, ap, ◌∙◌, arith, is_ok}
 use Rattle.rd_desk.proofs.OutboxLaws.{pushed}
 use Rattle.rd_desk.proofs.outbox.Outbox.push.Goals as goal
 
