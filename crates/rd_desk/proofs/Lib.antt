@@ -1,32 +1,10 @@
--- What the desk sends: OutboxLaws, ReplySizes, AskedLaws, SendingLaws, RefusalLaws.
--- The watched queries and their observers: MarkLaws (marks that are handed on), WalkLaws and FoundObservers (which observer is found), WatchedLaws (each query is watched as often
--- as it is observed); what they stand for, by its parts (WatchingParts, WatcherParts) and while a row is made: WatchingLaws (nothing about them, time that passes, an entry),
--- WatchingNotes (a note about an observer), JoiningLaws (an observer joins), TickLaws (what a tick asks).
-mod OutboxLaws
-mod ReplySizes
-mod AskedLaws
-mod SendingLaws
-mod RefusalLaws
-mod LookLaws
-mod EffectLaws
-mod MakingLaws
-mod FetchLaws
-mod NoteTopics
-mod AsideLaws
-mod WayLaws
-mod PartLaws
-mod DeskLaws
-mod WriteLaws
-mod EmptyMessageLaws
-mod KeepLaws
-mod AdmissionLaws
-mod MarkLaws
-mod WalkLaws
-mod FoundObservers
-pub mod WatchingParts
-pub mod WatchingLaws
-mod WatchedLaws
-mod WatcherParts
-mod WatchingNotes
-mod JoiningLaws
-mod TickLaws
+-- What the desk sends (answers): OutboxLaws, ReplySizes, AskedLaws, SendingLaws, RefusalLaws, and what looks find (LookLaws).
+-- A step in parts (parts): effects one after the other (EffectLaws), what a journal shows while its last row is made (MakingLaws, FetchLaws), which table a note is about (NoteTopics)
+--   and what it leaves (AsideLaws), a step under way from its beginning to its row (WayLaws), one part more (PartLaws); tables of the empty journal (DeskLaws), writes (WriteLaws),
+--   empty messages (EmptyMessageLaws), keeps (KeepLaws), and what an admission does by what it hears (AdmissionLaws).
+-- The watched queries and their observers (observers): marks that are handed on (MarkLaws), which observer is found (WalkLaws, FoundObservers), each query is watched as often as it
+--   is observed (WatchedLaws); what they stand for, by its parts (WatchingParts, WatcherParts) and while a row is made: nothing about them, time that passes, an entry (WatchingLaws),
+--   a note about an observer (WatchingNotes), one who joins (JoiningLaws), and what a tick asks (TickLaws).
+pub mod answers
+pub mod parts
+pub mod observers

@@ -3,7 +3,7 @@ use Rattle.message_model.specs.Message.{Message}
 use Rattle.message_model.specs.Spelling.{spelling}
 use Rattle.coap_message.specs.PartialMessages.{with_payload}
 use Rattle.journal_model.specs.Effects.{empty_message}
-use Rattle.rd_desk.proofs.SendingLaws.{sends_octets}
+use Rattle.rd_desk.proofs.answers.SendingLaws.{sends_octets}
 use Rattle.rd_desk.proofs.empty_messages.send_empty.Goals as goal
 
 pub returns-clause-sends : goal.returns-clause-sends

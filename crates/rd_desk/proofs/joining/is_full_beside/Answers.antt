@@ -1,6 +1,6 @@
 use Rattle.std.proofs.Common.{sym, ◌∙◌}
 use Rattle.observers.specs.Watchers.{is_named}
-use Rattle.rd_desk.proofs.WalkLaws.{full-Some, full-None}
+use Rattle.rd_desk.proofs.observers.WalkLaws.{full-Some, full-None}
 use Rattle.rd_desk.proofs.joining.is_full_beside.Goals as goal
 
 pub returns-in-Some : goal.returns-in-Some

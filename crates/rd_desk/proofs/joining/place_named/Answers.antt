@@ -1,6 +1,6 @@
 use Rattle.std.proofs.Common.{Some, option_map, sym, ap, ◌∙◌, arith}
 use Rattle.observers.specs.Watchers.{Watcher, is_named}
-use Rattle.rd_desk.proofs.WalkLaws.{find-here, find-later, past-all}
+use Rattle.rd_desk.proofs.observers.WalkLaws.{find-here, find-later, past-all}
 use Rattle.rd_desk.proofs.joining.place_named.Goals.{in-Some+else-is_of, in_default}
 use Rattle.rd_desk.proofs.joining.place_named.Goals as goal
 

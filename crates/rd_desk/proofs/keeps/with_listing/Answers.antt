@@ -8,7 +8,7 @@ use Rattle.event_model.specs.declared.notes.Note.TheVariants as note
 use Rattle.event_model.specs.Events.{Event, noted}
 use Rattle.event_model.specs.KeptAnswers.{KeptAnswer}
 use Rattle.transfers.specs.TransferEvents.{AnswersStandFor, kept_note}
-use Rattle.rd_desk.proofs.KeepLaws.{listing_noted}
+use Rattle.rd_desk.proofs.parts.KeepLaws.{listing_noted}
 use Rattle.rd_desk.proofs.keeps.with_listing.Goals as goal
 
 pub returns : goal.returns

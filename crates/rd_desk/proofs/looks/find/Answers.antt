@@ -8,7 +8,7 @@ use Rattle.journal_model.specs.Requests.{is_discovery}
 use Rattle.journal_model.specs.Looks.{Look, found_under, look}
 use Rattle.rd_desk.specs.declared.looks.Found.{Found}
 use Rattle.rd_desk.specs.Looking.{look_found}
-use Rattle.rd_desk.proofs.LookLaws.{discovered, looked_up}
+use Rattle.rd_desk.proofs.answers.LookLaws.{discovered, looked_up}
 use Rattle.rd_desk.proofs.looks.find.Goals as goal
 
 pub returns-then-is_discovery : goal.returns-then-is_discovery

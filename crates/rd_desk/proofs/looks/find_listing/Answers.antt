@@ -1,7 +1,7 @@
 use Rattle.std.proofs.Common.{sym, ◌∙◌}
 use Rattle.coap_message.specs.Views.{message_in}
 use Rattle.history_model.specs.Listing.{listing, tag}
-use Rattle.rd_desk.proofs.LookLaws.{found_valid, found_whole}
+use Rattle.rd_desk.proofs.answers.LookLaws.{found_valid, found_whole}
 use Rattle.rd_desk.proofs.looks.find_listing.Goals as goal
 
 pub returns-then-names_tag : goal.returns-then-names_tag

@@ -6,7 +6,7 @@ use Rattle.rd_desk.specs.declared.looks.Found.{Found}
 use Rattle.rd_desk.specs.Looking.{look_found, is_starved_look, look_done}
 use Rattle.rd_desk.specs.Replies.{reply_said}
 use Rattle.rd_desk.specs.Sendings.{Sends}
-use Rattle.rd_desk.proofs.LookLaws.{given_links}
+use Rattle.rd_desk.proofs.answers.LookLaws.{given_links}
 use Rattle.rd_desk.proofs.looks.give.Goals as goal
 
 pub returns-in-Valid-clause-sends : goal.returns-in-Valid-clause-sends

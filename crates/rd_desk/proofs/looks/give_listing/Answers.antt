@@ -5,8 +5,8 @@ use Rattle.rd_desk.specs.declared.looks.Looked.TheVariants as ended
 use Rattle.rd_desk.specs.Looking.{IsHeld}
 use Rattle.rd_desk.specs.Replies.{reply_said}
 use Rattle.rd_desk.specs.Sendings.{Sends}
-use Rattle.rd_desk.proofs.LookLaws.{given_whole, given_held}
-use Rattle.rd_desk.proofs.SendingLaws.{sends_nothing}
+use Rattle.rd_desk.proofs.answers.LookLaws.{given_whole, given_held}
+use Rattle.rd_desk.proofs.answers.SendingLaws.{sends_nothing}
 use Rattle.rd_desk.proofs.looks.give_listing.Goals as goal
 
 pub returns-then-not-is_long-clause-sends : goal.returns-then-not-is_long-clause-sends

@@ -3,7 +3,7 @@ use Rattle.rd_base.proofs.lemmas.Options.{none_some}
 use Rattle.message_model.specs.Message.{Message}
 use Rattle.coap_message.specs.Views.{message_in}
 use Rattle.journal_model.specs.Requests.{has_bad_query, only_looks}
-use Rattle.rd_desk.proofs.LookLaws.{look_in, look_readable, good_request}
+use Rattle.rd_desk.proofs.answers.LookLaws.{look_in, look_readable, good_request}
 use Rattle.rd_desk.proofs.looks.look_meaning.Goals as goal
 
 pub unreachable-requires : goal.unreachable-requires

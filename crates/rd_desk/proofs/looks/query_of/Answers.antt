@@ -3,7 +3,7 @@ use Rattle.coap_options.specs.ValuesLeft.{queries_left}
 use Rattle.coap_message.specs.Views.{message_in}
 use Rattle.journal_model.specs.Requests.{kind_of}
 use Rattle.record_model.specs.Criteria.{lookup_query}
-use Rattle.rd_desk.proofs.LookLaws.{query_meant, query_read, query_faulty}
+use Rattle.rd_desk.proofs.answers.LookLaws.{query_meant, query_read, query_faulty}
 use Rattle.rd_desk.proofs.looks.query_of.Goals as goal
 
 pub unreachable-requires : goal.unreachable-requires

@@ -1,5 +1,5 @@
 use Rattle.std.proofs.Common.{◌<◌, ◌+◌, length, refl, sym, subst, ◌∙◌, arith}
-use Rattle.rd_desk.proofs.MarkLaws.{Walked, walked-marked, walked-other, walked-all}
+use Rattle.rd_desk.proofs.observers.MarkLaws.{Walked, walked-marked, walked-other, walked-all}
 use Rattle.rd_desk.proofs.marks.mark_observers.Goals.{in-Some, in_default}
 use Rattle.rd_desk.proofs.marks.mark_observers.Goals as goal
 

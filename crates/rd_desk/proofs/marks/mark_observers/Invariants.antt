@@ -1,4 +1,4 @@
-use Rattle.rd_desk.proofs.MarkLaws.{Walked}
+use Rattle.rd_desk.proofs.observers.MarkLaws.{Walked}
 use Rattle.rd_desk.proofs.marks.mark_observers.Given as goal
 
 abbrev pub invariant-observers : goal.invariant-observers

@@ -3,8 +3,8 @@ use Rattle.std.proofs.lemmas.Bool.{false≢true}
 use Rattle.history_model.specs.Replay.{replay}
 use Rattle.rd_desk.specs.Marks.{all_lapsed}
 use Rattle.rd_desk.specs.Watching.{AreWatched}
-use Rattle.rd_desk.proofs.MarkLaws.{lapsing_touched}
-use Rattle.rd_desk.proofs.WatchedLaws.{touched-AreWatched}
+use Rattle.rd_desk.proofs.observers.MarkLaws.{lapsing_touched}
+use Rattle.rd_desk.proofs.observers.WatchedLaws.{touched-AreWatched}
 use Rattle.rd_desk.proofs.marks.touch_lapsing.Goals as goal
 
 pub records-preserved : goal.records-preserved

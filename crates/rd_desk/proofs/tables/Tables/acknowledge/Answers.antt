@@ -1,4 +1,4 @@
-use Rattle.rd_desk.proofs.EmptyMessageLaws.{acknowledged_more}
+use Rattle.rd_desk.proofs.parts.EmptyMessageLaws.{acknowledged_more}
 use Rattle.rd_desk.proofs.tables.Tables.acknowledge.Goals as goal
 
 pub returns : goal.returns

@@ -4,9 +4,9 @@ use Rattle.coap_message.specs.Views.{message_in}
 use Rattle.event_model.specs.Repeats.{is_admitting}
 use Rattle.journal_model.specs.Effects.{nothing, without_memory}
 use Rattle.rd_desk.specs.Desks.{Seen}
-use Rattle.rd_desk.proofs.PartLaws.{only_silent}
-use Rattle.rd_desk.proofs.WayLaws.{step_of, way_moment}
-use Rattle.rd_desk.proofs.WriteLaws.{job_same, without_memory-notes}
+use Rattle.rd_desk.proofs.parts.PartLaws.{only_silent}
+use Rattle.rd_desk.proofs.parts.WayLaws.{step_of, way_moment}
+use Rattle.rd_desk.proofs.parts.WriteLaws.{job_same, without_memory-notes}
 use Rattle.rd_desk.proofs.tables.Tables.hear_write.Goals as goal
 
 pub returns-in_default-clause-way : goal.returns-in_default-clause-way

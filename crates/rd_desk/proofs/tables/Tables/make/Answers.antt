@@ -1,6 +1,6 @@
 use Rattle.std.proofs.Common.{[], refl, sym, ap, subst, ◌∙◌, arith}
 use Rattle.history_model.specs.Versions.{Version, VersionStandsFor}
-use Rattle.rd_desk.proofs.DeskLaws.{last_moment-none, StandsFor-none}
+use Rattle.rd_desk.proofs.parts.DeskLaws.{last_moment-none, StandsFor-none}
 use Rattle.rd_desk.proofs.tables.Tables.make.Goals as goal
 
 pub invariant_of-result : goal.invariant_of-result

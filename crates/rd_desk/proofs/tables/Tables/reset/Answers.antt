@@ -1,4 +1,4 @@
-use Rattle.rd_desk.proofs.EmptyMessageLaws.{reset_more}
+use Rattle.rd_desk.proofs.parts.EmptyMessageLaws.{reset_more}
 use Rattle.rd_desk.proofs.tables.Tables.reset.Goals as goal
 
 pub returns : goal.returns

@@ -7,9 +7,9 @@ use Rattle.journal_model.specs.Journal.{events}
 use Rattle.journal_model.specs.UnfinishedRow.{making}
 use Rattle.observers.specs.Watchers.{has_notice, landed}
 use Rattle.rd_desk.specs.Watching.{AreWatched, WatchingStandsFor}
-use Rattle.rd_desk.proofs.JoiningLaws.{any_waited-StandsFor}
-use Rattle.rd_desk.proofs.WatchedLaws.{changed_first-AreWatched}
-use Rattle.rd_desk.proofs.WatchingNotes.{WatchingStandsFor-acked}
+use Rattle.rd_desk.proofs.observers.JoiningLaws.{any_waited-StandsFor}
+use Rattle.rd_desk.proofs.observers.WatchedLaws.{changed_first-AreWatched}
+use Rattle.rd_desk.proofs.observers.WatchingNotes.{WatchingStandsFor-acked}
 use Rattle.rd_desk.proofs.watching.Watching.acked.Goals as goal
 
 pub invariant_of-self : goal.invariant_of-self

@@ -4,7 +4,7 @@ use Rattle.history_model.specs.Listing.{listing}
 use Rattle.journal_model.specs.Journal.{entries, now}
 use Rattle.watch_table.specs.WatchedQueries.{body_at}
 use Rattle.rd_desk.specs.Watching.{Watching, WatchingStandsFor}
-use Rattle.rd_desk.proofs.TickLaws.{got_inside, if_some, body-StandsFor}
+use Rattle.rd_desk.proofs.observers.TickLaws.{got_inside, if_some, body-StandsFor}
 use Rattle.rd_desk.proofs.watching.Watching.body.Goals as goal
 
 pub returns : goal.returns

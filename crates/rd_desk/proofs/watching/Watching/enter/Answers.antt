@@ -4,9 +4,9 @@ use Rattle.event_model.specs.declared.notes.Note.TheVariants as note
 use Rattle.journal_model.specs.Effects.{joined, noting}
 use Rattle.journal_model.specs.UnfinishedRow.{making}
 use Rattle.rd_desk.specs.Watching.{AreWatched, WatchingStandsFor}
-use Rattle.rd_desk.proofs.WatchedLaws.{both-AreWatched, touched-AreWatched, handed-AreWatched}
-use Rattle.rd_desk.proofs.WatchingLaws.{WatchingStandsFor-entered}
-use Rattle.rd_desk.proofs.WatchingParts.{handed_on}
+use Rattle.rd_desk.proofs.observers.WatchedLaws.{both-AreWatched, touched-AreWatched, handed-AreWatched}
+use Rattle.rd_desk.proofs.observers.WatchingLaws.{WatchingStandsFor-entered}
+use Rattle.rd_desk.proofs.observers.WatchingParts.{handed_on}
 use Rattle.rd_desk.proofs.watching.Watching.enter.Goals as goal
 
 pub invariant_of-self : goal.invariant_of-self

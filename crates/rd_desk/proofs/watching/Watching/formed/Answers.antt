@@ -5,9 +5,9 @@ use Rattle.journal_model.specs.UnfinishedRow.{making}
 use Rattle.observers.specs.Watchers.{is_awaited, noticed}
 use Rattle.rd_desk.specs.Noticing.{forming}
 use Rattle.rd_desk.specs.Watching.{Watching, AreWatched, WatchingStandsFor}
-use Rattle.rd_desk.proofs.FoundObservers.{length-changed_at}
-use Rattle.rd_desk.proofs.WatchedLaws.{changed_at-AreWatched}
-use Rattle.rd_desk.proofs.WatchingNotes.{WatchingStandsFor-formed}
+use Rattle.rd_desk.proofs.observers.FoundObservers.{length-changed_at}
+use Rattle.rd_desk.proofs.observers.WatchedLaws.{changed_at-AreWatched}
+use Rattle.rd_desk.proofs.observers.WatchingNotes.{WatchingStandsFor-formed}
 use Rattle.rd_desk.proofs.watching.Watching.formed.Goals as goal
 
 pub invariant_of-self : goal.invariant_of-self

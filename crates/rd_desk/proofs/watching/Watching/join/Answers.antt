@@ -1,8 +1,8 @@
 use Rattle.std.proofs.Common.{sym, subst}
 use Rattle.journal_model.specs.UnfinishedRow.{making}
 use Rattle.rd_desk.specs.Watching.{WatchingStandsFor}
-use Rattle.rd_desk.proofs.JoiningLaws.{room-IfOk, joined-IfOk, joined-AreWatched}
-use Rattle.rd_desk.proofs.WatchedLaws.{apart_absent}
+use Rattle.rd_desk.proofs.observers.JoiningLaws.{room-IfOk, joined-IfOk, joined-AreWatched}
+use Rattle.rd_desk.proofs.observers.WatchedLaws.{apart_absent}
 use Rattle.rd_desk.proofs.watching.Watching.join.Goals as goal
 
 pub join-requires : goal.join-requires

@@ -2,7 +2,7 @@ use Rattle.std.proofs.Common.{length, sym, ap, subst, ◌∙◌, arith}
 use Rattle.std.specs.Arc.{arc_value}
 use Rattle.watch_table.specs.WatchedQueries.{with_body}
 use Rattle.rd_desk.specs.Watching.{Watching, AreWatched, WatchingStandsFor}
-use Rattle.rd_desk.proofs.TickLaws.{got_inside, kept_body-StandsFor, kept_body-AreWatched}
+use Rattle.rd_desk.proofs.observers.TickLaws.{got_inside, kept_body-StandsFor, kept_body-AreWatched}
 use Rattle.rd_desk.proofs.watching.Watching.keep_body.Goals as goal
 
 pub invariant_of-self : goal.invariant_of-self

@@ -6,9 +6,9 @@ use Rattle.journal_model.specs.UnfinishedRow.{making}
 use Rattle.event_model.specs.Observers.{observers}
 use Rattle.observers.specs.Watchers.{is_named}
 use Rattle.rd_desk.specs.Watching.{WatchingStandsFor}
-use Rattle.rd_desk.proofs.JoiningLaws.{is_observer-StandsFor}
-use Rattle.rd_desk.proofs.WatchedLaws.{left-AreWatched, both-AreWatched}
-use Rattle.rd_desk.proofs.WatchingNotes.{WatchingStandsFor-left}
+use Rattle.rd_desk.proofs.observers.JoiningLaws.{is_observer-StandsFor}
+use Rattle.rd_desk.proofs.observers.WatchedLaws.{left-AreWatched, both-AreWatched}
+use Rattle.rd_desk.proofs.observers.WatchingNotes.{WatchingStandsFor-left}
 use Rattle.rd_desk.proofs.watching.Watching.leave.Goals as goal
 
 pub invariant_of-self : goal.invariant_of-self

@@ -1,7 +1,7 @@
 use Rattle.std.proofs.Common.{[], sym, subst}
 use Rattle.rd_desk.specs.Watching.{AreWatched, WatchingStandsFor}
-use Rattle.rd_desk.proofs.WatchedLaws.{empty-AreWatched}
-use Rattle.rd_desk.proofs.WatchingLaws.{WatchingStandsFor-empty}
+use Rattle.rd_desk.proofs.observers.WatchedLaws.{empty-AreWatched}
+use Rattle.rd_desk.proofs.observers.WatchingLaws.{WatchingStandsFor-empty}
 use Rattle.rd_desk.proofs.watching.Watching.make.Goals as goal
 
 pub invariant_of-result : goal.invariant_of-result

@@ -1,6 +1,6 @@
 use Rattle.std.proofs.Common.{sym, subst, ◌∙◌}
 use Rattle.rd_desk.specs.Watching.{WatchingStandsFor}
-use Rattle.rd_desk.proofs.TickLaws.{next-StandsFor}
+use Rattle.rd_desk.proofs.observers.TickLaws.{next-StandsFor}
 use Rattle.rd_desk.proofs.watching.Watching.next_due.Goals as goal
 
 pub returns-clause-next : goal.returns-clause-next

@@ -3,8 +3,8 @@ use Rattle.journal_model.specs.Effects.{nothing}
 use Rattle.journal_model.specs.Journal.{entries}
 use Rattle.journal_model.specs.UnfinishedRow.{making}
 use Rattle.rd_desk.specs.Watching.{WatchingStandsFor}
-use Rattle.rd_desk.proofs.WatchedLaws.{both-AreWatched, handed-AreWatched}
-use Rattle.rd_desk.proofs.WatchingLaws.{WatchingStandsFor-passed, WatchingStandsFor-untouched}
+use Rattle.rd_desk.proofs.observers.WatchedLaws.{both-AreWatched, handed-AreWatched}
+use Rattle.rd_desk.proofs.observers.WatchingLaws.{WatchingStandsFor-passed, WatchingStandsFor-untouched}
 use Rattle.rd_desk.proofs.watching.Watching.pass.Goals as goal
 
 pub invariant_of-self : goal.invariant_of-self

@@ -1,7 +1,7 @@
 use Rattle.std.proofs.Common.{length, IsSome, sym, ap, subst, ◌∙◌, arith}
 use Rattle.watch_table.specs.WatchedQueries.{watched_at, query_at}
 use Rattle.rd_desk.specs.Watching.{Watching, WatchingStandsFor}
-use Rattle.rd_desk.proofs.TickLaws.{got_inside, watched_here, query-StandsFor}
+use Rattle.rd_desk.proofs.observers.TickLaws.{got_inside, watched_here, query-StandsFor}
 use Rattle.rd_desk.proofs.watching.Watching.query.Goals as goal
 
 pub query-requires : goal.query-requires

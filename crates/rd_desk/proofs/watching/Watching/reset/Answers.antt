@@ -7,9 +7,9 @@ use Rattle.journal_model.specs.Journal.{events}
 use Rattle.journal_model.specs.UnfinishedRow.{making}
 use Rattle.observers.specs.Watchers.{has_notice}
 use Rattle.rd_desk.specs.Watching.{WatchingStandsFor}
-use Rattle.rd_desk.proofs.JoiningLaws.{is_waited-StandsFor}
-use Rattle.rd_desk.proofs.WatchedLaws.{left-AreWatched, both-AreWatched}
-use Rattle.rd_desk.proofs.WatchingNotes.{WatchingStandsFor-reset}
+use Rattle.rd_desk.proofs.observers.JoiningLaws.{is_waited-StandsFor}
+use Rattle.rd_desk.proofs.observers.WatchedLaws.{left-AreWatched, both-AreWatched}
+use Rattle.rd_desk.proofs.observers.WatchingNotes.{WatchingStandsFor-reset}
 use Rattle.rd_desk.proofs.watching.Watching.reset.Goals as goal
 
 pub invariant_of-self : goal.invariant_of-self

@@ -3,10 +3,10 @@ use Rattle.event_model.specs.declared.notes.Note.TheVariants as note
 use Rattle.journal_model.specs.Effects.{joined, noting}
 use Rattle.journal_model.specs.UnfinishedRow.{making}
 use Rattle.rd_desk.specs.Watching.{Watching, WatchingStandsFor}
-use Rattle.rd_desk.proofs.FoundObservers.{cut_at}
-use Rattle.rd_desk.proofs.TickLaws.{got_inside}
-use Rattle.rd_desk.proofs.WatchedLaws.{both-AreWatched, cut-AreWatched}
-use Rattle.rd_desk.proofs.WatchingNotes.{WatchingStandsFor-timed_out}
+use Rattle.rd_desk.proofs.observers.FoundObservers.{cut_at}
+use Rattle.rd_desk.proofs.observers.TickLaws.{got_inside}
+use Rattle.rd_desk.proofs.observers.WatchedLaws.{both-AreWatched, cut-AreWatched}
+use Rattle.rd_desk.proofs.observers.WatchingNotes.{WatchingStandsFor-timed_out}
 use Rattle.rd_desk.proofs.watching.Watching.timed_out.Goals as goal
 
 pub invariant_of-self : goal.invariant_of-self

@@ -4,9 +4,9 @@ use Rattle.journal_model.specs.Effects.{joined, noting}
 use Rattle.journal_model.specs.UnfinishedRow.{making}
 use Rattle.observers.specs.Watchers.{seen}
 use Rattle.rd_desk.specs.Watching.{Watching, AreWatched, WatchingStandsFor}
-use Rattle.rd_desk.proofs.FoundObservers.{length-changed_at}
-use Rattle.rd_desk.proofs.WatchedLaws.{changed_at-AreWatched}
-use Rattle.rd_desk.proofs.WatchingNotes.{WatchingStandsFor-unchanged}
+use Rattle.rd_desk.proofs.observers.FoundObservers.{length-changed_at}
+use Rattle.rd_desk.proofs.observers.WatchedLaws.{changed_at-AreWatched}
+use Rattle.rd_desk.proofs.observers.WatchingNotes.{WatchingStandsFor-unchanged}
 use Rattle.rd_desk.proofs.watching.Watching.unchanged.Goals as goal
 
 pub invariant_of-self : goal.invariant_of-self

@@ -27,10 +27,10 @@ use Rattle.rd_desk.specs.Sendings.{IsRequestSent, AreRequestsSent}
 use Rattle.rd_desk.specs.UnderWay.{UnderWay}
 use Rattle.rd_desk.specs.Watching.{Watching, WatchingStandsFor}
 use Rattle.rd_desk.proofs.NoteTopics as topic
-use Rattle.rd_desk.proofs.NoteTopics.{AreAbout, no_fetches}
-use Rattle.rd_desk.proofs.PartLaws.{more_unformed, more_fetches}
-use Rattle.rd_desk.proofs.SendingLaws.{sends_notes}
-use Rattle.rd_desk.proofs.WayLaws.{noting_more}
+use Rattle.rd_desk.proofs.parts.NoteTopics.{AreAbout, no_fetches}
+use Rattle.rd_desk.proofs.parts.PartLaws.{more_unformed, more_fetches}
+use Rattle.rd_desk.proofs.answers.SendingLaws.{sends_notes}
+use Rattle.rd_desk.proofs.parts.WayLaws.{noting_more}
 
 -- a note where something holds
 abbrev pub note_if : Bool → Note → List Note

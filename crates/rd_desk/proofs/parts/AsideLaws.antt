@@ -17,7 +17,7 @@ use Rattle.journal_model.proofs.EntriesNoted.{entries_in}
 use Rattle.exchange_core.specs.Table as exchanges
 use Rattle.exchange_core.specs.ExchangeEvents.{ExchangesStandFor}
 use Rattle.rd_desk.specs.Desks.{DirectoryStandsFor}
-use Rattle.rd_desk.proofs.MakingLaws.{now-making_joined, entries-making_joined}
+use Rattle.rd_desk.proofs.parts.MakingLaws.{now-making_joined, entries-making_joined}
 
 -- the directory
 pub DirectoryStandsFor-aside : (rows : List Row) (s : Step) (starved : Bool) (done more : Effects) (v : Version) → entries_in more.notes ≡ []

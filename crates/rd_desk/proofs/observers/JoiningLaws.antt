@@ -32,9 +32,9 @@ use Rattle.observers.proofs.StandLaws.{observers-StandsFor, dropped-StandsFor}
 use Rattle.rd_desk.specs.declared.joining.Joining.{Joining}
 use Rattle.rd_desk.specs.Joining.{observer_joining, watcher_joining, without_observer, Joins, has_room, joining_notes}
 use Rattle.rd_desk.specs.Watching.{Watching, AreWatchedBy, AreWatched, WatchingStandsFor}
-use Rattle.rd_desk.proofs.FoundObservers.{cut_first, in_list, request_turned, waited_for-StandsFor, is_observer-found}
-use Rattle.rd_desk.proofs.WatchedLaws.{both-AreWatched, left-AreWatched, fewer-AreWatchedBy, more-AreWatched}
-use Rattle.rd_desk.proofs.WatchingNotes.{joined_noting, WatchingStandsFor-left, WatchingStandsFor-added}
+use Rattle.rd_desk.proofs.observers.FoundObservers.{cut_first, in_list, request_turned, waited_for-StandsFor, is_observer-found}
+use Rattle.rd_desk.proofs.observers.WatchedLaws.{both-AreWatched, left-AreWatched, fewer-AreWatchedBy, more-AreWatched}
+use Rattle.rd_desk.proofs.observers.WatchingNotes.{joined_noting, WatchingStandsFor-left, WatchingStandsFor-added}
 
 -- ---- who is found
 

@@ -33,10 +33,10 @@ use Rattle.rd_desk.specs.KeepJobs.{Keep}
 use Rattle.rd_desk.specs.Sendings.{IsStepOf, Sends}
 use Rattle.rd_desk.specs.UnderWay.{UnderWay, IsCalled, Made}
 use Rattle.rd_desk.proofs.NoteTopics as topic
-use Rattle.rd_desk.proofs.NoteTopics.{AreAbout}
-use Rattle.rd_desk.proofs.PartLaws.{more_transfers, only_silent}
-use Rattle.rd_desk.proofs.WayLaws.{noting_more, way_moment, step_of, only, ended}
-use Rattle.rd_desk.proofs.WriteLaws.{without_memory-notes}
+use Rattle.rd_desk.proofs.parts.NoteTopics.{AreAbout}
+use Rattle.rd_desk.proofs.parts.PartLaws.{more_transfers, only_silent}
+use Rattle.rd_desk.proofs.parts.WayLaws.{noting_more, way_moment, step_of, only, ended}
+use Rattle.rd_desk.proofs.parts.WriteLaws.{without_memory-notes}
 
 -- ---- out of memory
 

@@ -41,11 +41,11 @@ use Rattle.observers.specs.ObserverEvents.{observer_of, ObserversStandFor}
 use Rattle.observers.proofs.StandLaws.{observers-StandsFor, dropped-StandsFor, reset-StandsFor, removed-StandsFor, unchanged-StandsFor, formed-StandsFor, landed-StandsFor, again-StandsFor, added-StandsFor}
 use Rattle.rd_desk.specs.Noticing.{forming, sending_again}
 use Rattle.rd_desk.specs.Watching.{Watching, IsConfirmable, WatchingStandsFor}
-use Rattle.rd_desk.proofs.FoundObservers.{Cut, cut_first, cut_at, changed_first-unfound, each_changed_first, each_changed_at, map-changed_first, map-changed_at, in_list, waited_for-StandsFor, is_observer-found}
-use Rattle.rd_desk.proofs.WatchedLaws.{without_notice, with_query, with_own, with_same}
-use Rattle.rd_desk.proofs.WatcherParts.{noticed_stands, gone_stands, other_queries, added_stands}
-use Rattle.rd_desk.proofs.WatchingLaws.{from_parts, stands_before, WatchingStandsFor-aside}
-use Rattle.rd_desk.proofs.WatchingParts.{StandsOver}
+use Rattle.rd_desk.proofs.observers.FoundObservers.{Cut, cut_first, cut_at, changed_first-unfound, each_changed_first, each_changed_at, map-changed_first, map-changed_at, in_list, waited_for-StandsFor, is_observer-found}
+use Rattle.rd_desk.proofs.observers.WatchedLaws.{without_notice, with_query, with_own, with_same}
+use Rattle.rd_desk.proofs.observers.WatcherParts.{noticed_stands, gone_stands, other_queries, added_stands}
+use Rattle.rd_desk.proofs.observers.WatchingLaws.{from_parts, stands_before, WatchingStandsFor-aside}
+use Rattle.rd_desk.proofs.observers.WatchingParts.{StandsOver}
 
 -- ---- one thing more
 

@@ -27,9 +27,9 @@ use Rattle.rd_desk.specs.Desks.{Seen, DirectoryStandsFor, StandsFor}
 use Rattle.rd_desk.specs.Sendings.{IsStepOf, Sends, AreRequestsSent}
 use Rattle.rd_desk.specs.UnderWay.{UnderWay, IsCalled, Made}
 use Rattle.rd_desk.specs.Watching.{Watching, WatchingStandsFor}
-use Rattle.rd_desk.proofs.EffectLaws.{joined-nothing_first, drawing-more}
-use Rattle.rd_desk.proofs.FetchLaws.{FetchesStandFor-sent}
-use Rattle.rd_desk.proofs.MakingLaws.{entries-making_nothing, now-making_joined, requests-joined}
+use Rattle.rd_desk.proofs.parts.EffectLaws.{joined-nothing_first, drawing-more}
+use Rattle.rd_desk.proofs.parts.FetchLaws.{FetchesStandFor-sent}
+use Rattle.rd_desk.proofs.parts.MakingLaws.{entries-making_nothing, now-making_joined, requests-joined}
 
 -- ---- it begins
 

@@ -26,8 +26,8 @@ use Rattle.observers.specs.Watchers.{Watcher, is_named, changed_at}
 use Rattle.observers.specs.ObserverEvents.{observer_of}
 use Rattle.rd_desk.specs.Marks.{touched_where, handed}
 use Rattle.rd_desk.specs.Watching.{IsPlaced, AreWatchedBy, IsOtherName, HaveOtherNames, AreWatched}
-use Rattle.rd_desk.proofs.FoundObservers.{Cut, cut_first, map-changed_first, map-changed_at, request_turned}
-use Rattle.rd_desk.proofs.WatchingParts.{touched_where-Keeps, unmarked-Keeps, placed_kept}
+use Rattle.rd_desk.proofs.observers.FoundObservers.{Cut, cut_first, map-changed_first, map-changed_at, request_turned}
+use Rattle.rd_desk.proofs.observers.WatchingParts.{touched_where-Keeps, unmarked-Keeps, placed_kept}
 
 -- no observers
 pub empty-AreWatched : AreWatched [] []

@@ -24,11 +24,11 @@ use Rattle.rd_desk.specs.Desks.{Seen, DirectoryStandsFor}
 use Rattle.rd_desk.specs.Sendings.{Sends, AreRequestsSent}
 use Rattle.rd_desk.specs.UnderWay.{UnderWay}
 use Rattle.rd_desk.specs.Watching.{Watching, WatchingStandsFor}
-use Rattle.rd_desk.proofs.AsideLaws.{DirectoryStandsFor-aside, ExchangesStandFor-noted, observe_values_sent-aside}
+use Rattle.rd_desk.proofs.parts.AsideLaws.{DirectoryStandsFor-aside, ExchangesStandFor-noted, observe_values_sent-aside}
 use Rattle.rd_desk.proofs.NoteTopics as topic
-use Rattle.rd_desk.proofs.NoteTopics.{Topic, differ, AreAbout, no_exchanges, no_uploads, no_answers, no_observers, no_fetches, no_entries, no_requests, no_bodies}
-use Rattle.rd_desk.proofs.WatchingLaws.{WatchingStandsFor-aside}
-use Rattle.rd_desk.proofs.WayLaws.{noting_more, more, only}
+use Rattle.rd_desk.proofs.parts.NoteTopics.{Topic, differ, AreAbout, no_exchanges, no_uploads, no_answers, no_observers, no_fetches, no_entries, no_requests, no_bodies}
+use Rattle.rd_desk.proofs.observers.WatchingLaws.{WatchingStandsFor-aside}
+use Rattle.rd_desk.proofs.parts.WayLaws.{noting_more, more, only}
 
 -- what a part leaves whose notes are about one thing alone
 left_exchanges : (one : Topic) (rows : List Row) (s : Step) (starved : Bool) (done e : Effects) (t : exchanges.Table) → differ topic.exchanges one ≡ true → AreAbout one e.notes

@@ -46,8 +46,8 @@ use Rattle.observers.proofs.StandLaws.{empty-StandsFor}
 use Rattle.rd_desk.specs.Entering.{IsEntered}
 use Rattle.rd_desk.specs.Marks.{all_touched_where}
 use Rattle.rd_desk.specs.Watching.{Watching, WatchingStandsFor}
-use Rattle.rd_desk.proofs.MarkLaws.{unmarked_same, unmarked_handed}
-use Rattle.rd_desk.proofs.WatchingParts.{handed_on, StandsOver, KeepsConfirmable, shown_same, octets_kept, noted_aside, touched_stands}
+use Rattle.rd_desk.proofs.observers.MarkLaws.{unmarked_same, unmarked_handed}
+use Rattle.rd_desk.proofs.observers.WatchingParts.{handed_on, StandsOver, KeepsConfirmable, shown_same, octets_kept, noted_aside, touched_stands}
 
 -- ---- a journal by its parts
 

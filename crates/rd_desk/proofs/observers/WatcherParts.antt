@@ -15,8 +15,8 @@ use Rattle.observers.specs.Watchers.{Watcher}
 use Rattle.observers.specs.ObserverEvents.{observer_of, shown, ObserversStandFor}
 use Rattle.observers.proofs.StandLaws.{observers-StandsFor}
 use Rattle.rd_desk.specs.Watching.{Watching, IsPlaced, IsUnmarked, IsConfirmable, AreWatchedBy}
-use Rattle.rd_desk.proofs.WatchedLaws.{without_notice, same_observers, same_placed, placed_same, each_left, fewer-AreWatchedBy, with_query, more-AreWatchedBy}
-use Rattle.rd_desk.proofs.WatchingParts.{IsListing, StandsOver}
+use Rattle.rd_desk.proofs.observers.WatchedLaws.{without_notice, same_observers, same_placed, placed_same, each_left, fewer-AreWatchedBy, with_query, more-AreWatchedBy}
+use Rattle.rd_desk.proofs.observers.WatchingParts.{IsListing, StandsOver}
 
 -- as often as they are observed
 pub watched-StandsOver : (octets : OctetsSent) (past : List Event) (seen : List Transition) (history : List Entry) (moment : ℕ) (w : Watching) → (h : StandsOver octets past seen history moment w) → AreWatchedBy h.queries w.watches w.observers

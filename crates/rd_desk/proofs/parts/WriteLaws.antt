@@ -26,9 +26,9 @@ use Rattle.rd_desk.specs.Sendings.{Sends}
 use Rattle.rd_desk.specs.UnderWay.{UnderWay}
 use Rattle.rd_desk.specs.WriteJobs.{Write}
 use Rattle.rd_desk.proofs.NoteTopics as topic
-use Rattle.rd_desk.proofs.NoteTopics.{AreAbout}
-use Rattle.rd_desk.proofs.PartLaws.{more_exchanges}
-use Rattle.rd_desk.proofs.WayLaws.{noting_more, way_moment, only}
+use Rattle.rd_desk.proofs.parts.NoteTopics.{AreAbout}
+use Rattle.rd_desk.proofs.parts.PartLaws.{more_exchanges}
+use Rattle.rd_desk.proofs.parts.WayLaws.{noting_more, way_moment, only}
 
 -- what is done for each answer
 abbrev pub done_for : Keyed → Step → Message → Effects
