@@ -10,6 +10,7 @@ use std::test::Fail;
 /// Calls, one a line: the moment, the first and the last port of the peers that call one after the other, the call, the key of the request, what is handed in, and the answer.
 ///
 /// A block is its number, whether more follow, the exponent of its size, and its octets. `#16` are 16 letters. The answer that is the whole body is written with `=`.
+/// `past` reads a kept answer for a block that begins at this octet, past its end. `each` keeps an answer for each of so many peers, from that of the port on, in one go.
 const CALLS: &str = "\
 1000|1|1|block|rd|0 more 0|</a>;rt=\"0123456|more
 1000|1|1|block|rd|2 last 0|\"|order
@@ -85,7 +86,26 @@ const CALLS: &str = "\
 2000000|2|2|read|res|abc|2
 2246999|4|4|read|res|#2050|1
 2247000|2|2|read|res|none|
-2247000|4|4|read|res|#2050|1";
+2247000|4|4|read|res|#2050|1
+3000000|1|1|keep|res|abc|2
+3246999|1|1|past|res|16|abc
+3493998|1|1|past|res|3|abc
+3500000|1|1|read|res|abc|2
+3500000|2|64|keep|res|abc|2
+3500000|1|1|past|res|2048|abc
+3500000|65|65|keep|res|abc|2
+3500000|1|1|read|res|abc|2
+3500000|2|2|past|res|16|none
+3747000|1|1|past|res|16|none
+4000000|7|7|keep|res|old|1
+4000000|1|1|each|res|64|abc|3
+4000000|1|64|read|res|abc|3
+4000000|65|65|read|res|none|
+4000000|3|3|each|res|65|#2050|4
+4000000|1|3|read|res|none|
+4000000|4|67|read|res|#2050|4
+4000000|4|4|each|res|0|abc|5
+4000000|4|67|read|res|#2050|4";
 
 /// A text, cut at its first bar.
 fn cut(text: &str) -> Result<(&str, &str), Fail> {
@@ -164,28 +184,44 @@ fn hand_in(
     is_answer(&given, answer)
 }
 
-/// Keeps a body under a tag.
+/// Keeps a body under a tag, in one go for so many peers, from that of a port on.
 fn keep(
     transfers: &mut Transfers,
     alloc: Global,
     now: Moment,
     port: u16,
-    key: Key,
+    key: &Key,
+    count: u16,
     rest: &str,
 ) -> Result<bool, Fail> {
     let (body, tag) = cut(rest)?;
     let body = Arc::new(alloc, Bytes::copy_of(alloc, octets_of(body)?)?)?;
     let tag = Tag([0, 0, 0, 0, 0, 0, 0, tag.parse()?]);
-    let answer = Answer {
-        peer: peer_at(port),
-        key,
-        body,
-        tag,
-    };
-    let more = Answers::of(Vec::from_array(alloc, [answer])?);
-    let ready = transfers.ready(alloc, now, more)?;
+    let mut answers = Vec::new(alloc);
+    for further in 0..count {
+        answers.push(Answer {
+            peer: peer_at(port.saturating_add(further)),
+            key: key.copy(alloc)?,
+            body: Arc::try_clone(&body)?,
+            tag,
+        })?;
+    }
+    let ready = transfers.ready(alloc, now, Answers::of(answers))?;
     transfers.adopt(ready);
     Ok(true)
+}
+
+/// Keeps a body under a tag for each of so many peers.
+fn keep_for_each(
+    transfers: &mut Transfers,
+    alloc: Global,
+    now: Moment,
+    port: u16,
+    key: &Key,
+    rest: &str,
+) -> Result<bool, Fail> {
+    let (count, rest) = cut(rest)?;
+    keep(transfers, alloc, now, port, key, count.parse()?, rest)
 }
 
 /// Reads a kept answer, and tells whether it is the one that the text says.
@@ -206,6 +242,22 @@ fn read(
     }
 }
 
+/// Reads a kept answer for a block that begins at an octet, and tells whether it is the body that the text says, which ends before.
+fn read_past(
+    transfers: &mut Transfers,
+    now: Moment,
+    port: u16,
+    key: &Key,
+    rest: &str,
+) -> Result<bool, Fail> {
+    let (begin, body) = cut(rest)?;
+    let begin = begin.parse::<usize>()?;
+    match transfers.kept_block(now, peer_at(port), key) {
+        None => Ok(body == "none"),
+        Some((octets, _)) => Ok(octets.as_slice() == octets_of(body)? && octets.len() <= begin),
+    }
+}
+
 /// Makes one call, and tells whether it was answered as the text says.
 fn call(
     transfers: &mut Transfers,
@@ -219,7 +271,9 @@ fn call(
     let key = key_of(alloc, key)?;
     match word {
         "block" => hand_in(transfers, alloc, now, port, &key, rest),
-        "keep" => keep(transfers, alloc, now, port, key, rest),
+        "keep" => keep(transfers, alloc, now, port, &key, 1, rest),
+        "each" => keep_for_each(transfers, alloc, now, port, &key, rest),
+        "past" => read_past(transfers, now, port, &key, rest),
         "read" => read(transfers, now, port, &key, rest),
         _ => {
             transfers.end_upload(peer_at(port), &key);
