@@ -1,0 +1,137 @@
+//! Where published versions come from: an endpoint that registers again and again, at the moments 1, 2, 3 and so on.
+ghost use Rattle.std.specs.Prelude.{◌≡◌, ◌≤◌, ◌^◌, ◌++◌, ◌∷◌, [], ℕ, List, None, IfOk, IsSome, IfSome};
+ghost use Rattle.std.specs.Arc.{arc_value};
+ghost use Rattle.history_model.specs.Versions.{VersionStandsFor};
+ghost use Rattle.history_model.specs.declared.entries.Entry.{Entry};
+ghost use Rattle.registration.specs.Drafts.{IsDraft, drafted};
+ghost use Rattle.version_board.specs.Samples.{sample_peer, sample_params, sample_entry};
+
+use directory_core::{Board, Directory};
+use rd_base::{Host, Moment, Name, Pairs, Peer, RegParams, Starved, Text};
+use registration::{Draft, build};
+use std::alloc::Global;
+use std::marker::Brand;
+use std::sync::{Arc, Wait};
+use version_board::{Entering, Lookers, Publisher, board};
+
+/// Where the endpoint is.
+const PEER: Peer = Peer {
+    host: Host::V4([192, 0, 2, 10]),
+    port: 5683,
+};
+
+/// A publisher, with the version that it published last.
+pub struct SampleBoard {
+    publisher: Publisher,
+    last: Arc<Directory>,
+    ghost stands: { VersionStandsFor 0 publisher.told (arc_value last) },
+    ghost unstaged: { publisher.staged ≡ None },
+    ghost unswept: { (arc_value last).swept ≡ 0 },
+}
+
+/// The parameters of the endpoint.
+fn params_of(alloc: Global) -> Result<RegParams, Starved>
+    ensures { IfOk result (λ params. params ≡ sample_params) }
+{
+    Ok(RegParams {
+        name: Name {
+            ep: Text::copy_of(alloc, "node")?,
+            sector: None,
+        },
+        lt: 600,
+        base: None,
+        attrs: Pairs::of(Vec::new(alloc)),
+    })
+}
+
+/// The draft of the endpoint.
+#[tactic(auto, using(version_board::proofs::Sampled::sample_allowed, version_board::proofs::Sampled::sample_made))]
+fn draft_of(alloc: Global) -> Option<Draft>
+    ensures draft { IfSome result IsDraft }
+    ensures made { IfSome result (λ draft. draft ≡ drafted sample_peer sample_params []) }
+{
+    let params = params_of(alloc).ok()?;
+    build(alloc, params, PEER, b"").ok()
+}
+
+/// The version in which the endpoint registers at a moment.
+fn version_at(alloc: Global, last: &Directory, now: Moment) -> Option<Arc<Directory>>
+    requires at { last.now.at ≤ now.0 }
+    requires swept { last.now.swept ≤ now.0 }
+    requires moment { now.0 ≤ 10 ^ 15 }
+    ensures stands { (history : List Entry) → VersionStandsFor 0 history last.now → IfSome result (λ version. VersionStandsFor 0 (history ++ sample_entry now.0 ∷ []) (arc_value version)) }
+    ensures swept { IfSome result (λ version. (arc_value version).swept ≡ last.now.swept) }
+{
+    let draft = draft_of(alloc)?;
+    let (version, _number) = last.register(now, draft).ok()?;
+    Arc::new(alloc, version).ok()
+}
+
+/// The version after this one.
+pub fn version_after(alloc: Global, last: &Directory) -> Option<Arc<Directory>> {
+    let now = Moment(last.entries().min(1_000_000) + 1);
+    if now < last.at() || now < last.swept() {
+        return None;
+    }
+    version_at(alloc, last, now)
+}
+
+/// The empty version.
+pub fn empty(alloc: Global) -> Option<Arc<Directory>>
+    ensures stands { IfSome result (λ version. VersionStandsFor 0 [] (arc_value version)) }
+    ensures unswept { IfSome result (λ version. (arc_value version).swept ≡ 0) }
+{
+    Arc::new(alloc, Directory::empty(alloc, 0).ok()?).ok()
+}
+
+/// Publishes what is staged, with the entry of a moment.
+fn publish_at<E: Entering, R: Wait>(rt: &R, publisher: &mut Publisher, now: Moment)
+    requires entry { E.entered ≡ sample_entry now.0 }
+    requires staged { IsSome publisher.old.staged }
+    requires stands { IfSome publisher.old.staged (VersionStandsFor 0 (publisher.old.told ++ sample_entry now.0 ∷ [])) }
+    ensures told { publisher.new.told ≡ publisher.old.told ++ sample_entry now.0 ∷ [] }
+    ensures staged { publisher.new.staged ≡ None }
+{
+    publisher.publish::<E, R>(rt);
+}
+
+impl SampleBoard {
+    /// A board with so many lookers, which shows the empty version.
+    pub fn open<R: Wait>(alloc: Global, rt: &R, lookers: u32) -> Option<(SampleBoard, Lookers)>
+        requires lookers { (1 ≤ lookers) × (lookers ≤ 16) }
+    {
+        let first = empty(alloc)?;
+        let last = Arc::try_clone(&first).ok()?;
+        let (publisher, lookers) = board(alloc, rt, lookers, first).ok()?;
+        Some((SampleBoard { publisher, last }, lookers))
+    }
+
+    /// Publishes the next version. Whether it could.
+    pub fn publish_next<R: Wait>(&mut self, alloc: Global, rt: &R) -> bool {
+        let now = Moment(self.last.entries().min(1_000_000) + 1);
+        if now < self.last.at() {
+            return false;
+        }
+        let Some(next) = version_at(alloc, &self.last, now) else {
+            return false;
+        };
+        let Ok(staged) = Arc::try_clone(&next) else {
+            return false;
+        };
+        if self.publisher.stage(staged).is_err() {
+            return false;
+        }
+        publish_at::<Brand, R>(rt, &mut self.publisher, now);
+        self.last = next;
+        true
+    }
+
+    /// Ends the board.
+    pub fn end<R: Wait>(self, rt: &R) {
+        let SampleBoard {
+            publisher,
+            last: _last,
+        } = self;
+        publisher.end(rt);
+    }
+}

@@ -1,0 +1,138 @@
+//! Where the versions of the tests come from: an endpoint that registers again and again, at the moments 1, 2, 3 and so on.
+ghost use Rattle.std.specs.Prelude.{◌≡◌, ◌≤◌, ◌^◌, ◌++◌, ◌∷◌, [], ℕ, List, None, IfOk, IsSome, IfSome, replicate};
+ghost use Rattle.std.specs.Arc.{arc_value};
+ghost use Rattle.history_model.specs.Versions.{VersionStandsFor};
+ghost use Rattle.history_model.specs.declared.entries.Entry.{Entry};
+ghost use Rattle.registration.specs.Drafts.{IsDraft, drafted};
+ghost use Rattle.version_board.specs.Ends.{new_looker};
+ghost use Rattle.version_board.specs.Samples.{sample_peer, sample_params, sample_entry};
+
+use crate::{Entering, Looker, Lookers, Publisher, board};
+use directory_core::{Board, Directory};
+use rd_base::{Host, Moment, Name, Pairs, Peer, RegParams, Starved, Text};
+use registration::{Draft, build};
+use std::alloc::Global;
+use std::marker::Brand;
+use std::sync::{Arc, Wait};
+
+/// Where the endpoint is.
+const PEER: Peer = Peer {
+    host: Host::V4([192, 0, 2, 10]),
+    port: 5683,
+};
+
+/// A publisher, with the version that it published last.
+pub struct SampleBoard {
+    /// The publisher.
+    pub publisher: Publisher,
+    last: Arc<Directory>,
+    ghost stands: { VersionStandsFor 0 publisher.told (arc_value last) },
+    ghost unstaged: { publisher.staged ≡ None },
+    ghost unswept: { (arc_value last).swept ≡ 0 },
+}
+
+/// The parameters of the endpoint.
+fn params_of(alloc: Global) -> Result<RegParams, Starved>
+    ensures { IfOk result (λ params. params ≡ sample_params) }
+{
+    Ok(RegParams {
+        name: Name {
+            ep: Text::copy_of(alloc, "node")?,
+            sector: None,
+        },
+        lt: 600,
+        base: None,
+        attrs: Pairs::of(Vec::new(alloc)),
+    })
+}
+
+/// The draft of the endpoint.
+#[tactic(auto, using(crate::proofs::Sampled::sample_allowed, crate::proofs::Sampled::sample_made))]
+fn draft_of(alloc: Global) -> Option<Draft>
+    ensures draft { IfSome result IsDraft }
+    ensures made { IfSome result (λ draft. draft ≡ drafted sample_peer sample_params []) }
+{
+    let params = params_of(alloc).ok()?;
+    build(alloc, params, PEER, b"").ok()
+}
+
+/// The version in which the endpoint registers at a moment.
+fn version_at(alloc: Global, last: &Directory, now: Moment) -> Option<Arc<Directory>>
+    requires at { last.now.at ≤ now.0 }
+    requires swept { last.now.swept ≤ now.0 }
+    requires moment { now.0 ≤ 10 ^ 15 }
+    ensures stands { (history : List Entry) → VersionStandsFor 0 history last.now → IfSome result (λ version. VersionStandsFor 0 (history ++ sample_entry now.0 ∷ []) (arc_value version)) }
+    ensures swept { IfSome result (λ version. (arc_value version).swept ≡ last.now.swept) }
+{
+    let draft = draft_of(alloc)?;
+    let (version, _number) = last.register(now, draft).ok()?;
+    Arc::new(alloc, version).ok()
+}
+
+/// Publishes what is staged, with the entry of a moment.
+fn publish_at<E: Entering, R: Wait>(rt: &R, publisher: &mut Publisher, now: Moment)
+    requires entry { E.entered ≡ sample_entry now.0 }
+    requires staged { IsSome publisher.old.staged }
+    requires stands { IfSome publisher.old.staged (VersionStandsFor 0 (publisher.old.told ++ sample_entry now.0 ∷ [])) }
+    ensures name { publisher.new.name ≡ publisher.old.name }
+    ensures told { publisher.new.told ≡ publisher.old.told ++ sample_entry now.0 ∷ [] }
+    ensures staged { publisher.new.staged ≡ None }
+{
+    publisher.publish::<E, R>(rt);
+}
+
+impl SampleBoard {
+    /// A board with so many lookers, which shows the empty version.
+    pub fn open<R: Wait>(alloc: Global, rt: &R, lookers: u32) -> Option<(SampleBoard, Lookers)>
+        requires lookers { (1 ≤ lookers) × (lookers ≤ 16) }
+        ensures lookers { IfSome result (λ made. made.1 ≡ replicate lookers (new_looker made.0.publisher.name)) }
+    {
+        let first = Arc::new(alloc, Directory::empty(alloc, 0).ok()?).ok()?;
+        if first.swept() != Moment(0) {
+            return None;
+        }
+        let last = Arc::try_clone(&first).ok()?;
+        let (publisher, lookers) = board(alloc, rt, lookers, first).ok()?;
+        Some((SampleBoard { publisher, last }, lookers))
+    }
+
+    /// Publishes the next version. Whether it could.
+    pub fn publish_next<R: Wait>(&mut self, alloc: Global, rt: &R) -> bool
+        ensures name { self.new.publisher.name ≡ self.old.publisher.name }
+    {
+        let now = Moment(self.last.entries().min(1_000_000) + 1);
+        if now < self.last.at() {
+            return false;
+        }
+        let Some(next) = version_at(alloc, &self.last, now) else {
+            return false;
+        };
+        let Ok(staged) = Arc::try_clone(&next) else {
+            return false;
+        };
+        if self.publisher.stage(staged).is_err() {
+            return false;
+        }
+        publish_at::<Brand, R>(rt, &mut self.publisher, now);
+        self.last = next;
+        true
+    }
+
+    /// A looker of the board meets the publisher.
+    pub fn meet(&mut self, looker: &mut Looker)
+        requires name { looker.old.name ≡ self.old.publisher.name }
+        ensures name { looker.new.name ≡ looker.old.name }
+        ensures same { self.new.publisher.name ≡ self.old.publisher.name }
+    {
+        looker.meet(&mut self.publisher);
+    }
+
+    /// Ends the board.
+    pub fn end<R: Wait>(self, rt: &R) {
+        let SampleBoard {
+            publisher,
+            last: _last,
+        } = self;
+        publisher.end(rt);
+    }
+}
