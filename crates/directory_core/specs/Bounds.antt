@@ -1,10 +1,19 @@
--- What the index of a version has: the attributes by which its records can match.
-use Rattle.std.specs.Prelude.{◌≡◌, List, ◌++◌}
+-- How many steps a lookup takes at most.
+use Rattle.std.specs.Prelude.{◌≡◌, ℕ, Bool, not, ◌&&◌, List, ◌++◌, filter}
 use Rattle.std.specs.List.{list_any, flat_map}
 use Rattle.rd_base.specs.declared.attributes.Pair.{Pair}
+use Rattle.rd_base.specs.declared.queries.Criterion.{Criterion}
 use Rattle.rd_base.specs.declared.records.Record.{Record}
-use Rattle.record_model.specs.Matching.{endpoint_pairs}
+use Rattle.record_model.specs.Matching.{is_href, is_anchor_criterion, endpoint_pairs}
 use Rattle.attribute_index.specs.Entries.{Entry, IsAscending, has_entry, entries_of_all}
+
+-- the criterion is about attributes, and not about targets or anchors
+abbrev pub is_of_attributes : Criterion → Bool
+is_of_attributes criterion = not (is_href criterion) && not (is_anchor_criterion criterion)
+
+-- the criteria that are about attributes
+abbrev pub attribute_criteria : List Criterion → List Criterion
+attribute_criteria criteria = filter is_of_attributes criteria
 
 -- the attributes by which a link of a record or its endpoint can match by itself (RFC 9176 section 6.2)
 abbrev pub pairs_of : Record → List Pair

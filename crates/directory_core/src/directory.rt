@@ -58,7 +58,8 @@ impl Directory {
     /// The version without a record. Its entries count from `first`. It keeps `alloc` for the versions that are made of it.
     pub fn empty(alloc: Global, first: u64) -> Result<Directory, Starved>
         requires { first < 2 ^ 48 }
-        ensures { IfOk result (λ version. VersionStandsFor first [] version) }
+        ensures stands { IfOk result (λ version. VersionStandsFor first [] version) }
+        ensures unswept { IfOk result (λ version. version.swept ≡ 0) }
     {
         Ok(Directory {
             records: Records::empty(alloc)?,

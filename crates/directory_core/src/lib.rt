@@ -7,6 +7,7 @@ mod directory;
 mod index;
 mod kept;
 mod lapsing;
+mod lookup;
 mod names;
 mod reads;
 mod records;

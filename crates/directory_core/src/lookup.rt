@@ -1,0 +1,34 @@
+//! Lookups (RFC 9176 section 6).
+ghost use Rattle.std.specs.Prelude.{◌≡◌, ◌+◌, ◌*◌, ◌≤◌, ℕ, List, length, IfOk, Contains};
+ghost use Rattle.rd_base.specs.declared.queries.Criterion.{Criterion};
+ghost use Rattle.history_model.specs.declared.entries.Entry.{Entry};
+ghost use Rattle.history_model.specs.Listing.{listing};
+ghost use Rattle.history_model.specs.Versions.{VersionStandsFor};
+ghost use Rattle.attribute_index.specs.Entries as index;
+ghost use Rattle.directory_core.specs.Bounds as bounds;
+ghost use Rattle.directory_core.specs.Bounds.{AreEntriesOf, attribute_criteria};
+
+use crate::Directory;
+use rd_base::{Bytes, Moment, Query, Starved, Steps};
+use std::sync::ledger::Ledger;
+
+impl Directory {
+    /// The listing of a lookup at this moment, which is not before the last entry and not before the last sweep. Where the
+    /// query has criteria about attributes, and not about targets or anchors alone, it counts at most so many steps: for
+    /// each of these criteria one, and one for each of the fewest carriers that any of them has. A carrier is a record with
+    /// a value that the criterion matches, once for each such value; of the attributes `rel`, `rev`, `rt` and `if` the
+    /// parts are values. `Starved`: out of memory.
+    pub fn lookup<L: Ledger>(
+        &self,
+        query: &Query,
+        now: Moment,
+        steps: &mut Steps<L>,
+    ) -> Result<Bytes, Starved>
+        requires after_at { self.now.at ≤ now.0 }
+        requires after_sweep { self.now.swept ≤ now.0 }
+        ensures listing { (first : ℕ) (history : List Entry) → VersionStandsFor first history self.now → IfOk result (λ octets. octets ≡ listing query.now history now.0) }
+        ensures counted { (entries : List index.Entry) (criterion : Criterion) → AreEntriesOf self.now.records entries → Contains (attribute_criteria query.now.criteria) criterion → steps.new ≤ steps.old + length (attribute_criteria query.now.criteria) * (length (index.carriers_of criterion.name criterion.pattern entries) + 1) }
+    {
+        Err(Starved)
+    }
+}
