@@ -3,6 +3,7 @@
 use crate::sample_boards::{SampleBoard, empty, version_after};
 use crate::tables::{Beside, ROUNDS, Trouble, begin};
 use directory_core::Directory;
+use rd_base::Starved;
 use std::alloc::Global;
 use std::sync::atomic::{AtomicU64, Ordering};
 use std::sync::{Arc, RwLock, Wait};
@@ -25,17 +26,20 @@ fn looks(rt: &HostRuntime, looker: &mut Looker) -> Result<Duration, Trouble> {
     Ok(start.elapsed(rt)?)
 }
 
-/// Publishes one version after another, until it is told to stop. Whether it could.
-fn publishes<R: Wait>(alloc: Global, waits: &R, board: &mut SampleBoard, stop: &AtomicU64) -> bool {
+/// Publishes one version after another, until it is told to stop.
+fn publishes<R: Wait>(
+    alloc: Global,
+    waits: &R,
+    board: &mut SampleBoard,
+    stop: &AtomicU64,
+) -> Result<(), Starved> {
     for _ in 0..VERSIONS {
         if stop.load(Ordering::SeqCst) == 1 {
             break;
         }
-        if !board.publish_next(alloc, waits) {
-            return false;
-        }
+        board.publish_next(alloc, waits)?;
     }
-    true
+    Ok(())
 }
 
 /// A round of looks while one worker publishes.
@@ -47,7 +51,7 @@ fn looks_beside<R: Threads + Wait + Sync>(
 ) -> Result<Duration, Trouble> {
     let alloc = rt.alloc();
     let stop = AtomicU64::new(0);
-    let (is_published, looked) = join(
+    let (published, looked) = join(
         waits,
         || publishes(alloc, waits, board, &stop),
         || {
@@ -56,11 +60,8 @@ fn looks_beside<R: Threads + Wait + Sync>(
             looked
         },
     );
-    if is_published {
-        looked
-    } else {
-        Err(Trouble::Starved)
-    }
+    published?;
+    looked
 }
 
 /// Reads the version under the lock again and again: how long it took.
@@ -77,23 +78,23 @@ fn reads<R: Wait>(
     Ok(start.elapsed(rt)?)
 }
 
-/// Writes one version after another, until it is told to stop. Whether it could.
+/// Writes one version after another, until it is told to stop.
 fn writes<R: Wait>(
     alloc: Global,
     waits: &R,
     lock: &RwLock<Arc<Directory>>,
     stop: &AtomicU64,
-) -> Option<()> {
+) -> Result<(), Starved> {
     let mut last = empty(alloc)?;
     for _ in 0..VERSIONS {
         if stop.load(Ordering::SeqCst) == 1 {
             break;
         }
         let next = version_after(alloc, &last)?;
-        last = Arc::try_clone(&next).ok()?;
+        last = Arc::try_clone(&next)?;
         *lock.write(waits) = next;
     }
-    Some(())
+    Ok(())
 }
 
 /// A round of reads while one worker writes.
@@ -113,10 +114,8 @@ fn reads_beside<R: Threads + Wait + Sync>(
             read
         },
     );
-    match written {
-        Some(()) => read,
-        None => Err(Trouble::Starved),
-    }
+    written?;
+    read
 }
 
 /// The rounds of both.
@@ -126,7 +125,7 @@ fn rounds<R: Threads + Wait + Sync>(
     board: &mut SampleBoard,
     looker: &mut Looker,
 ) -> Result<Beside, Trouble> {
-    let lock = RwLock::new(empty(rt.alloc()).ok_or(Trouble::Starved)?);
+    let lock = RwLock::new(empty(rt.alloc())?);
     let mut beside = Beside::new(rt.alloc(), "version_board look, one publisher", "RwLock");
     for _ in 0..ROUNDS {
         let time = looks_beside(rt, waits, board, looker)?;
@@ -139,7 +138,7 @@ fn rounds<R: Threads + Wait + Sync>(
 
 /// Measures a look.
 pub fn measured<R: Threads + Wait + Sync>(rt: &HostRuntime, waits: &R) -> Result<(), Trouble> {
-    let (mut board, mut lookers) = SampleBoard::open(rt.alloc(), waits, 1).ok_or(Trouble::Starved)?;
+    let (mut board, mut lookers) = SampleBoard::open(rt.alloc(), waits, 1)?;
     let beside = match lookers.take_first() {
         Some(mut looker) => rounds(rt, waits, &mut board, &mut looker),
         None => Err(Trouble::Outside),

@@ -46,42 +46,47 @@ fn params_of(alloc: Global) -> Result<RegParams, Starved>
 
 /// The draft of the endpoint.
 #[tactic(auto, using(version_board::proofs::Sampled::sample_allowed, version_board::proofs::Sampled::sample_made))]
-fn draft_of(alloc: Global) -> Option<Draft>
-    ensures draft { IfSome result IsDraft }
-    ensures made { IfSome result (λ draft. draft ≡ drafted sample_peer sample_params []) }
+fn draft_of(alloc: Global) -> Result<Draft, Starved>
+    ensures draft { IfOk result IsDraft }
+    ensures made { IfOk result (λ draft. draft ≡ drafted sample_peer sample_params []) }
 {
-    let params = params_of(alloc).ok()?;
-    build(alloc, params, PEER, b"").ok()
+    let params = params_of(alloc)?;
+    let Ok(draft) = build(alloc, params, PEER, b"") else {
+        return Err(Starved);
+    };
+    Ok(draft)
 }
 
 /// The version in which the endpoint registers at a moment.
-fn version_at(alloc: Global, last: &Directory, now: Moment) -> Option<Arc<Directory>>
+fn version_at(alloc: Global, last: &Directory, now: Moment) -> Result<Arc<Directory>, Starved>
     requires at { last.now.at ≤ now.0 }
     requires swept { last.now.swept ≤ now.0 }
     requires moment { now.0 ≤ 10 ^ 15 }
-    ensures stands { (history : List Entry) → VersionStandsFor 0 history last.now → IfSome result (λ version. VersionStandsFor 0 (history ++ sample_entry now.0 ∷ []) (arc_value version)) }
-    ensures swept { IfSome result (λ version. (arc_value version).swept ≡ last.now.swept) }
+    ensures stands { (history : List Entry) → VersionStandsFor 0 history last.now → IfOk result (λ version. VersionStandsFor 0 (history ++ sample_entry now.0 ∷ []) (arc_value version)) }
+    ensures swept { IfOk result (λ version. (arc_value version).swept ≡ last.now.swept) }
 {
     let draft = draft_of(alloc)?;
-    let (version, _number) = last.register(now, draft).ok()?;
-    Arc::new(alloc, version).ok()
+    let Ok((version, _number)) = last.register(now, draft) else {
+        return Err(Starved);
+    };
+    Ok(Arc::new(alloc, version)?)
 }
 
 /// The version after this one.
-pub fn version_after(alloc: Global, last: &Directory) -> Option<Arc<Directory>> {
+pub fn version_after(alloc: Global, last: &Directory) -> Result<Arc<Directory>, Starved> {
     let now = Moment(last.entries().min(1_000_000) + 1);
     if now < last.at() || now < last.swept() {
-        return None;
+        return Err(Starved);
     }
     version_at(alloc, last, now)
 }
 
 /// The empty version.
-pub fn empty(alloc: Global) -> Option<Arc<Directory>>
-    ensures stands { IfSome result (λ version. VersionStandsFor 0 [] (arc_value version)) }
-    ensures unswept { IfSome result (λ version. (arc_value version).swept ≡ 0) }
+pub fn empty(alloc: Global) -> Result<Arc<Directory>, Starved>
+    ensures stands { IfOk result (λ version. VersionStandsFor 0 [] (arc_value version)) }
+    ensures unswept { IfOk result (λ version. (arc_value version).swept ≡ 0) }
 {
-    Arc::new(alloc, Directory::empty(alloc, 0).ok()?).ok()
+    Ok(Arc::new(alloc, Directory::empty(alloc, 0)?)?)
 }
 
 /// Publishes what is staged, with the entry of a moment.
@@ -97,33 +102,30 @@ fn publish_at<E: Entering, R: Wait>(rt: &R, publisher: &mut Publisher, now: Mome
 
 impl SampleBoard {
     /// A board with so many lookers, which shows the empty version.
-    pub fn open<R: Wait>(alloc: Global, rt: &R, lookers: u32) -> Option<(SampleBoard, Lookers)>
+    pub fn open<R: Wait>(
+        alloc: Global,
+        rt: &R,
+        lookers: u32,
+    ) -> Result<(SampleBoard, Lookers), Starved>
         requires lookers { (1 ≤ lookers) × (lookers ≤ 16) }
     {
         let first = empty(alloc)?;
-        let last = Arc::try_clone(&first).ok()?;
-        let (publisher, lookers) = board(alloc, rt, lookers, first).ok()?;
-        Some((SampleBoard { publisher, last }, lookers))
+        let last = Arc::try_clone(&first)?;
+        let (publisher, lookers) = board(alloc, rt, lookers, first)?;
+        Ok((SampleBoard { publisher, last }, lookers))
     }
 
-    /// Publishes the next version. Whether it could.
-    pub fn publish_next<R: Wait>(&mut self, alloc: Global, rt: &R) -> bool {
+    /// Publishes the next version.
+    pub fn publish_next<R: Wait>(&mut self, alloc: Global, rt: &R) -> Result<(), Starved> {
         let now = Moment(self.last.entries().min(1_000_000) + 1);
         if now < self.last.at() {
-            return false;
+            return Err(Starved);
         }
-        let Some(next) = version_at(alloc, &self.last, now) else {
-            return false;
-        };
-        let Ok(staged) = Arc::try_clone(&next) else {
-            return false;
-        };
-        if self.publisher.stage(staged).is_err() {
-            return false;
-        }
+        let next = version_at(alloc, &self.last, now)?;
+        self.publisher.stage(Arc::try_clone(&next)?)?;
         publish_at::<Brand, R>(rt, &mut self.publisher, now);
         self.last = next;
-        true
+        Ok(())
     }
 
     /// Ends the board.

@@ -48,25 +48,30 @@ fn params_of(alloc: Global) -> Result<RegParams, Starved>
 
 /// The draft of the endpoint.
 #[tactic(auto, using(crate::proofs::Sampled::sample_allowed, crate::proofs::Sampled::sample_made))]
-fn draft_of(alloc: Global) -> Option<Draft>
-    ensures draft { IfSome result IsDraft }
-    ensures made { IfSome result (λ draft. draft ≡ drafted sample_peer sample_params []) }
+fn draft_of(alloc: Global) -> Result<Draft, Starved>
+    ensures draft { IfOk result IsDraft }
+    ensures made { IfOk result (λ draft. draft ≡ drafted sample_peer sample_params []) }
 {
-    let params = params_of(alloc).ok()?;
-    build(alloc, params, PEER, b"").ok()
+    let params = params_of(alloc)?;
+    let Ok(draft) = build(alloc, params, PEER, b"") else {
+        return Err(Starved);
+    };
+    Ok(draft)
 }
 
 /// The version in which the endpoint registers at a moment.
-fn version_at(alloc: Global, last: &Directory, now: Moment) -> Option<Arc<Directory>>
+fn version_at(alloc: Global, last: &Directory, now: Moment) -> Result<Arc<Directory>, Starved>
     requires at { last.now.at ≤ now.0 }
     requires swept { last.now.swept ≤ now.0 }
     requires moment { now.0 ≤ 10 ^ 15 }
-    ensures stands { (history : List Entry) → VersionStandsFor 0 history last.now → IfSome result (λ version. VersionStandsFor 0 (history ++ sample_entry now.0 ∷ []) (arc_value version)) }
-    ensures swept { IfSome result (λ version. (arc_value version).swept ≡ last.now.swept) }
+    ensures stands { (history : List Entry) → VersionStandsFor 0 history last.now → IfOk result (λ version. VersionStandsFor 0 (history ++ sample_entry now.0 ∷ []) (arc_value version)) }
+    ensures swept { IfOk result (λ version. (arc_value version).swept ≡ last.now.swept) }
 {
     let draft = draft_of(alloc)?;
-    let (version, _number) = last.register(now, draft).ok()?;
-    Arc::new(alloc, version).ok()
+    let Ok((version, _number)) = last.register(now, draft) else {
+        return Err(Starved);
+    };
+    Ok(Arc::new(alloc, version)?)
 }
 
 /// Publishes what is staged, with the entry of a moment.
@@ -83,39 +88,33 @@ fn publish_at<E: Entering, R: Wait>(rt: &R, publisher: &mut Publisher, now: Mome
 
 impl SampleBoard {
     /// A board with so many lookers, which shows the empty version.
-    pub fn open<R: Wait>(alloc: Global, rt: &R, lookers: u32) -> Option<(SampleBoard, Lookers)>
+    pub fn open<R: Wait>(
+        alloc: Global,
+        rt: &R,
+        lookers: u32,
+    ) -> Result<(SampleBoard, Lookers), Starved>
         requires lookers { (1 ≤ lookers) × (lookers ≤ 16) }
-        ensures lookers { IfSome result (λ made. made.1 ≡ replicate lookers (new_looker made.0.publisher.name)) }
+        ensures lookers { IfOk result (λ made. made.1 ≡ replicate lookers (new_looker made.0.publisher.name)) }
     {
-        let first = Arc::new(alloc, Directory::empty(alloc, 0).ok()?).ok()?;
-        if first.swept() != Moment(0) {
-            return None;
-        }
-        let last = Arc::try_clone(&first).ok()?;
-        let (publisher, lookers) = board(alloc, rt, lookers, first).ok()?;
-        Some((SampleBoard { publisher, last }, lookers))
+        let first = Arc::new(alloc, Directory::empty(alloc, 0)?)?;
+        let last = Arc::try_clone(&first)?;
+        let (publisher, lookers) = board(alloc, rt, lookers, first)?;
+        Ok((SampleBoard { publisher, last }, lookers))
     }
 
-    /// Publishes the next version. Whether it could.
-    pub fn publish_next<R: Wait>(&mut self, alloc: Global, rt: &R) -> bool
+    /// Publishes the next version.
+    pub fn publish_next<R: Wait>(&mut self, alloc: Global, rt: &R) -> Result<(), Starved>
         ensures name { self.new.publisher.name ≡ self.old.publisher.name }
     {
         let now = Moment(self.last.entries().min(1_000_000) + 1);
         if now < self.last.at() {
-            return false;
+            return Err(Starved);
         }
-        let Some(next) = version_at(alloc, &self.last, now) else {
-            return false;
-        };
-        let Ok(staged) = Arc::try_clone(&next) else {
-            return false;
-        };
-        if self.publisher.stage(staged).is_err() {
-            return false;
-        }
+        let next = version_at(alloc, &self.last, now)?;
+        self.publisher.stage(Arc::try_clone(&next)?)?;
         publish_at::<Brand, R>(rt, &mut self.publisher, now);
         self.last = next;
-        true
+        Ok(())
     }
 
     /// A looker of the board meets the publisher.

@@ -17,32 +17,35 @@ use std::time::{Clock, Duration};
 const PUBLISHINGS: u64 = 10_000;
 
 /// How often a looker looks at most.
-const LOOKS: u64 = 1_000_000;
+const LOOKS: u64 = 50_000;
 
 /// How many microseconds a looker rests between two looks.
-const PAUSE: u64 = 50;
+const PAUSE: u64 = 1_000;
 
-// Publishes so many versions. Whether it could.
-fn publish<R: Wait>(alloc: Global, rt: &R, board: &mut SampleBoard, count: u64) -> bool {
+// Publishes so many versions.
+fn publish<R: Wait>(
+    alloc: Global,
+    rt: &R,
+    board: &mut SampleBoard,
+    count: u64,
+) -> Result<(), Starved> {
     for _ in 0..count {
-        if !board.publish_next(alloc, rt) {
-            return false;
-        }
+        board.publish_next(alloc, rt)?;
     }
-    true
+    Ok(())
 }
 
-// Publishes so many versions, and then says that all is done. Whether it could.
+// Publishes so many versions, and then says that all is done.
 fn publish_all<R: Wait>(
     alloc: Global,
     rt: &R,
     board: &mut SampleBoard,
     count: u64,
     is_done: &AtomicU64,
-) -> bool {
-    let is_published = publish(alloc, rt, board, count);
+) -> Result<(), Starved> {
+    let published = publish(alloc, rt, board, count);
     is_done.store(1, Ordering::SeqCst);
-    is_published
+    published
 }
 
 // Looks, until a look that began after all was done. The entries of the last version, or None where a version has fewer than the one before, or was never published: the entry with the number `n` came at the moment `n`.
@@ -70,23 +73,24 @@ fn watched<R: Threads + Wait + Clock + Sync>(
     rt: &R,
     board: &mut SampleBoard,
     lookers: Lookers,
-) -> Option<Vec<Option<u64>>> {
+) -> Result<Vec<Option<u64>>, Starved> {
     let is_done = AtomicU64::new(0);
     let done = &is_done;
-    let (is_published, watched) = join(
+    let (published, watched) = join(
         rt,
         || publish_all(alloc, rt, board, PUBLISHINGS, done),
         || thread::map_vec(rt, lookers.into_vec(), &|looker| watch(rt, looker, done)),
     );
-    if is_published { watched.ok() } else { None }
+    published?;
+    Ok(watched?)
 }
 
 #[test]
 fn lookers_see_entries_grow(rt: HostRuntime) -> Result<(), Fail> {
-    let (mut board, lookers) = SampleBoard::open(rt.alloc(), &rt, 4).ok_or("no board")?;
+    let (mut board, lookers) = SampleBoard::open(rt.alloc(), &rt, 4)?;
     let watched = watched(rt.alloc(), &rt, &mut board, lookers);
     board.end(&rt);
-    assert_eq!(rt; watched.as_deref(), Some([Some(PUBLISHINGS); 4].as_slice()));
+    assert_eq!(rt; watched?.as_slice(), [Some(PUBLISHINGS); 4].as_slice());
     Ok(())
 }
 
@@ -128,65 +132,69 @@ fn look_and_leave<C: Clock>(
     is_shown && is_waiting
 }
 
-// While one reads the empty version, the second publishing waits, and a look of the other shows the first one.
+// While one reads the empty version, the second publishing waits, and a look of the other shows the first one. Whether it did.
 fn looked_meanwhile<R: Threads + Wait + Clock + Sync>(
     alloc: Global,
     rt: &R,
     board: &mut SampleBoard,
     lookers: &mut Lookers,
-) -> bool {
+) -> Result<bool, Starved> {
     let Some(first) = lookers.take_first() else {
-        return false;
+        return Ok(false);
     };
     let Some(mut second) = lookers.take_first() else {
-        return false;
+        return Ok(false);
     };
     let Ok(reading) = take(first.into_reader()) else {
-        return false;
+        return Ok(false);
     };
     let held = Held { reading };
     let is_done = AtomicU64::new(0);
     let done = &is_done;
     let looker = &mut second;
-    let (is_published, is_good) = join(
+    let (published, is_good) = join(
         rt,
         || publish_all(alloc, rt, board, 2, done),
         move || look_and_leave(rt, looker, done, held),
     );
-    is_published && is_good
+    published?;
+    Ok(is_good)
 }
 
 #[test]
 fn a_look_while_a_publish_waits(rt: HostRuntime) -> Result<(), Fail> {
-    let (mut board, mut lookers) = SampleBoard::open(rt.alloc(), &rt, 2).ok_or("no board")?;
-    let is_good = looked_meanwhile(rt.alloc(), &rt, &mut board, &mut lookers);
+    let (mut board, mut lookers) = SampleBoard::open(rt.alloc(), &rt, 2)?;
+    let looked = looked_meanwhile(rt.alloc(), &rt, &mut board, &mut lookers);
     board.end(&rt);
-    assert!(rt; is_good);
+    assert!(rt; looked?);
     Ok(())
 }
 
 // Publishings, meetings and looks by turns. How many entries the last look showed.
-fn met<R: Wait>(alloc: Global, rt: &R, board: &mut SampleBoard, looker: &mut Looker) -> Option<u64>
+fn met<R: Wait>(
+    alloc: Global,
+    rt: &R,
+    board: &mut SampleBoard,
+    looker: &mut Looker,
+) -> Result<u64, Starved>
     requires name { looker.old.name ≡ board.old.publisher.name }
 {
     let mut entries = 0;
     'rounds: for _ in 0..3 {
-        if !board.publish_next(alloc, rt) {
-            return None;
-        }
+        board.publish_next(alloc, rt)?;
         board.meet(looker);
-        entries = looker.look().ok()?.entries();
+        entries = looker.look()?.entries();
     }
-    Some(entries)
+    Ok(entries)
 }
 
 #[test]
 fn ends_of_a_board(rt: HostRuntime) -> Result<(), Fail> {
-    let (mut board, lookers) = SampleBoard::open(rt.alloc(), &rt, 16).ok_or("no board")?;
+    let (mut board, lookers) = SampleBoard::open(rt.alloc(), &rt, 16)?;
     let mut lookers = lookers.into_vec();
     let met = met(rt.alloc(), &rt, &mut board, &mut lookers[15]);
     board.end(&rt);
-    assert_eq!(rt; met, Some(3));
+    assert_eq!(rt; met?, 3);
     assert_eq!(rt; lookers[15].look().err(), Some(Starved));
     Ok(())
 }
