@@ -14,3 +14,7 @@ pub mod FitLaws
 pub mod AnswerLaws
 pub mod SweptLaws
 pub mod IndexLaws
+pub mod PageLaws
+pub mod RaceLaws
+pub mod CandidateLaws
+pub mod LookupLaws

@@ -12,3 +12,5 @@ pub mod AfterEntries
 pub mod EntryAnswers
 pub mod Swept
 pub mod IndexedPairs
+pub mod Races
+pub mod Pages

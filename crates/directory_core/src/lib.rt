@@ -9,6 +9,8 @@ mod kept;
 mod lapsing;
 mod lookup;
 mod names;
+mod pages;
+mod races;
 mod reads;
 mod records;
 mod refusals;

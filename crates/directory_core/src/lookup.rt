@@ -1,18 +1,40 @@
 //! Lookups (RFC 9176 section 6).
-ghost use Rattle.std.specs.Prelude.{◌≡◌, ◌+◌, ◌*◌, ◌≤◌, ℕ, List, length, IfOk, Contains};
+ghost use Rattle.std.specs.Prelude.{◌≡◌, ◌+◌, ◌*◌, ◌≤◌, [], ℕ, List, length, IfOk, OnOk, Contains};
 ghost use Rattle.rd_base.specs.declared.queries.Criterion.{Criterion};
 ghost use Rattle.history_model.specs.declared.entries.Entry.{Entry};
 ghost use Rattle.history_model.specs.Listing.{listing};
 ghost use Rattle.history_model.specs.Versions.{VersionStandsFor};
 ghost use Rattle.attribute_index.specs.Entries as index;
-ghost use Rattle.directory_core.specs.Bounds as bounds;
 ghost use Rattle.directory_core.specs.Bounds.{AreEntriesOf, attribute_criteria};
+ghost use Rattle.directory_core.specs.Pages.{finished, live_lines};
 
 use crate::Directory;
+use crate::pages::Page;
+use crate::races::fewest_carriers;
 use rd_base::{Bytes, Moment, Query, Starved, Steps};
 use std::sync::ledger::Ledger;
 
 impl Directory {
+    /// Gives a page the lines of the records that are live at this moment, in ascending number: it goes over the carriers of
+    /// the criterion that has fewest, and over all records where no criterion has carriers. `Starved`: out of memory.
+    fn fill<L: Ledger>(
+        &self,
+        page: &mut Page,
+        query: &Query,
+        now: Moment,
+        steps: &mut Steps<L>,
+    ) -> Result<(), Starved>
+        ensures lines { OnOk result (finished page.new [] ≡ finished page.old (live_lines query.now now.0 self.now.records)) }
+        ensures counted { (entries : List index.Entry) (criterion : Criterion) → AreEntriesOf self.now.records entries → Contains (attribute_criteria query.now.criteria) criterion → steps.new ≤ steps.old + length (attribute_criteria query.now.criteria) * (length (index.carriers_of criterion.name criterion.pattern entries) + 1) }
+    {
+        match fewest_carriers(self.alloc, &self.index, query.criteria.as_slice(), steps)? {
+            Some(numbers) => {
+                page.add_numbered(self.alloc, query, &self.records, numbers.as_slice(), now)
+            }
+            None => page.add_all(self.alloc, query, &self.records, now, steps),
+        }
+    }
+
     /// The listing of a lookup at this moment, which is not before the last entry and not before the last sweep. Where the
     /// query has criteria about attributes, and not about targets or anchors alone, it counts at most so many steps: for
     /// each of these criteria one, and one for each of the fewest carriers that any of them has. A carrier is a record with
@@ -29,6 +51,8 @@ impl Directory {
         ensures listing { (first : ℕ) (history : List Entry) → VersionStandsFor first history self.now → IfOk result (λ octets. octets ≡ listing query.now history now.0) }
         ensures counted { (entries : List index.Entry) (criterion : Criterion) → AreEntriesOf self.now.records entries → Contains (attribute_criteria query.now.criteria) criterion → steps.new ≤ steps.old + length (attribute_criteria query.now.criteria) * (length (index.carriers_of criterion.name criterion.pattern entries) + 1) }
     {
-        Err(Starved)
+        let mut page = Page::of(self.alloc, query);
+        self.fill(&mut page, query, now, steps)?;
+        Ok(page.into_text())
     }
 }

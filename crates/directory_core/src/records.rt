@@ -1,5 +1,6 @@
 //! Records by their numbers, as versions that never change.
 ghost use Rattle.std.specs.Prelude.{◌≡◌, [], not, filter, IfOk, option_map};
+ghost use Rattle.std.specs.Map.{values_of};
 ghost use Rattle.std.specs.Option.{option_copied};
 ghost use Rattle.rd_base.proofs.lemmas.Pairs.{PairsByRecursion};
 ghost use Rattle.history_model.specs.Replay.{is_numbered, numbered};
@@ -7,7 +8,7 @@ ghost use Rattle.history_model.proofs.NumberLaws.{IsBelow};
 ghost use Rattle.directory_core.specs.NumberOrder.{with_record};
 
 use crate::kept::Kept;
-use chunk_map::ChunkMap;
+use chunk_map::{ChunkMap, RangeIter};
 use rd_base::Starved;
 use std::alloc::Global;
 use std::marker::Model;
@@ -59,6 +60,13 @@ impl Records {
         ensures { option_copied result ≡ numbered number self.now }
     {
         self.pairs.get(&number)
+    }
+
+    /// A cursor over all of them, in ascending number. Takes no memory.
+    pub(crate) fn all(&self) -> RangeIter<'_, u64, Kept>
+        ensures { values_of result ≡ self.now }
+    {
+        self.pairs.range(&0)
     }
 
     /// The records with one more, in place of that of its number where there is one. `Starved`: out of memory.

@@ -1,6 +1,6 @@
-use Rattle.std.proofs.Common.{◌≡◌, ℕ, ◌^◌, ◌<◌, List, [], sym, ap, ◌∙◌, subst}
+use Rattle.std.proofs.Common.{ℕ, List, [], sym, ap, subst}
 use Rattle.history_model.specs.Versions.{Version, VersionStandsFor}
-use Rattle.history_model.proofs.VersionLaws.{empty_version, empty-VersionStandsFor}
+use Rattle.history_model.proofs.VersionLaws.{empty-VersionStandsFor}
 use Rattle.rd_base.specs.declared.records.Record.{Record}
 use Rattle.directory_core.proofs.EmptyLaws.{kept_empty}
 use Rattle.directory_core.proofs.IndexLaws.{no_entries}

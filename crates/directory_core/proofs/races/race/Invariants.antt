@@ -1,0 +1,14 @@
+use Rattle.std.proofs.Common.{◌≡◌, ◌<◌, length, map}
+use Rattle.directory_core.specs.Races.{whole}
+use Rattle.directory_core.proofs.RaceLaws.{IsFair, left_of}
+use Rattle.directory_core.proofs.races.race.Given as goal
+
+abbrev pub invariant-turns : goal.invariant-turns
+invariant-turns g l = record {
+  within : l.at < length l.racers;
+  same : map whole l.racers ≡ map whole l.fn.racers;
+  fair : IsFair l.fn.steps l.steps (length l.fn.racers) l.at l.at l.racers;
+}
+
+abbrev pub decreases-turns : goal.decreases-turns
+decreases-turns g l = left_of l.racers

@@ -1,0 +1,111 @@
+//! Pages of listings, to which registrations give their lines one after another (RFC 9176 section 6).
+ghost use Rattle.std.specs.Prelude.{◌≡◌, ◌<◌, ◌^◌, ◌++◌, [], ℕ, List, length, OnOk};
+ghost use Rattle.record_model.specs.ListingLines.{shown};
+ghost use Rattle.directory_core.specs.Pages.{finished, live_part, live_lines, numbered_lines};
+
+use crate::kept::Kept;
+use crate::records::Records;
+use listing::{lines, page_bounds};
+use rd_base::{Bytes, Moment, Query, Starved, Steps};
+use std::alloc::Global;
+use std::sync::ledger::Ledger;
+
+/// A page of a listing while it is written.
+#[derive(Drop)]
+pub struct Page {
+    /// Its lines, with a comma between each two.
+    text: Bytes,
+    /// How many of the lines that come are still passed over.
+    skip: u64,
+    /// How many lines it still takes at most.
+    most: u64,
+}
+
+impl Page {
+    /// The page that a query asks for, before any line.
+    pub(crate) fn of(alloc: Global, query: &Query) -> Page
+        ensures { (lines : List (List ℕ)) → length lines < 2 ^ 64 → finished result lines ≡ shown query.now lines }
+    {
+        let (skip, most) = page_bounds(query);
+        Page {
+            text: Bytes::new(alloc),
+            skip,
+            most,
+        }
+    }
+
+    /// Adds the lines that the record gives to the query where it is live at this moment. `Starved`: out of memory.
+    fn add(&mut self, alloc: Global, query: &Query, kept: &Kept, now: Moment) -> Result<(), Starved>
+        ensures { OnOk result ((more : List (List ℕ)) → finished self.new more ≡ finished self.old (live_part query.now now.0 kept.now ++ more)) }
+    {
+        if !kept.is_live_at(now) {
+            return Ok(());
+        }
+        let (skipped, written) = lines(
+            alloc,
+            query,
+            kept.as_record(),
+            self.skip,
+            self.most,
+            &mut self.text,
+        )?;
+        self.skip -= skipped;
+        self.most -= written;
+        Ok(())
+    }
+
+    /// Adds the lines of all records that are live at this moment, in ascending number; it goes no further once the page is
+    /// full. `Starved`: out of memory.
+    pub(crate) fn add_all<L: Ledger>(
+        &mut self,
+        alloc: Global,
+        query: &Query,
+        records: &Records,
+        now: Moment,
+        steps: &mut Steps<L>,
+    ) -> Result<(), Starved>
+        ensures { OnOk result (finished self.new [] ≡ finished self.old (live_lines query.now now.0 records.now)) }
+    {
+        let mut left = records.all();
+        'records: while let Some((_, kept)) = left.step(steps) {
+            if self.most == 0 {
+                return Ok(());
+            }
+            self.add(alloc, query, kept, now)?;
+        }
+        Ok(())
+    }
+
+    /// Adds the lines of the records of these numbers that are live at this moment, in their order; it goes no further once
+    /// the page is full. `Starved`: out of memory.
+    pub(crate) fn add_numbered(
+        &mut self,
+        alloc: Global,
+        query: &Query,
+        records: &Records,
+        numbers: &[u64],
+        now: Moment,
+    ) -> Result<(), Starved>
+        ensures { OnOk result (finished self.new [] ≡ finished self.old (numbered_lines query.now now.0 records.now numbers.now)) }
+    {
+        let mut left = numbers;
+        'numbers: while let Some((number, more)) = left.split_first() {
+            if self.most == 0 {
+                return Ok(());
+            }
+            if let Some(kept) = records.get(*number) {
+                self.add(alloc, query, kept, now)?;
+            }
+            left = more;
+        }
+        Ok(())
+    }
+
+    /// The text of the page, where no more line comes. Takes no memory.
+    pub(crate) fn into_text(self) -> Bytes
+        ensures { result ≡ finished self [] }
+    {
+        let Page { text, .. } = self;
+        text
+    }
+}

@@ -1,0 +1,139 @@
+//! Which records can give a line to a query: cursors over the carriers of its criteria go on by turns until one of them ends.
+ghost use Rattle.std.specs.Prelude.{◌≡◌, ◌+◌, ◌*◌, ◌<◌, ◌≤◌, ℕ, length, map, Contains, IfOk, OnOk, IfSome, IfNone, vec_len, []};
+ghost use Rattle.std.specs.List.{AllByRecursion, HoldsAt};
+ghost use Rattle.rd_base.specs.declared.queries.Criterion.{Criterion};
+ghost use Rattle.rd_base.proofs.lemmas.Pairs.{PairsByRecursion};
+ghost use Rattle.attribute_index.specs.Entries.{carriers_of, has_number};
+ghost use Rattle.directory_core.specs.Bounds as bounds;
+ghost use Rattle.directory_core.specs.Bounds.{attribute_criteria};
+ghost use Rattle.directory_core.specs.Races as races;
+ghost use Rattle.directory_core.specs.Races.{AreNumbersOf, HasTurned, whole};
+
+use attribute_index::{AttributeIndex, Carriers};
+use rd_base::{Criterion, Starved, Steps};
+use std::alloc::Global;
+use std::marker::Model;
+use std::sync::ledger::Ledger;
+
+/// A cursor over the carriers of a criterion, with the numbers that it gave.
+#[derive(Drop)]
+pub struct Racer<'a> {
+    /// The numbers that it gave, the last one last.
+    numbers: Vec<u64>,
+    /// The carriers that are left.
+    left: Carriers<'a>,
+}
+
+impl<'a> Model for Racer<'a> {
+    ghost use Rattle.directory_core.specs.Races.{Run};
+
+    ghost Value = { Run };
+
+    ghost view = { λ r. record { given = r.numbers.items; left = r.left } };
+}
+
+impl<'a> Racer<'a> {
+    /// Takes the next number of the cursor; false exactly at its end. `Starved`: out of memory.
+    fn advance<L: Ledger>(&mut self, steps: &mut Steps<L>) -> Result<bool, Starved>
+        ensures turned { HasTurned self.old self.new result }
+        ensures counted { steps.new ≡ steps.old + 1 }
+    {
+        let Some(number) = self.left.step(steps) else {
+            return Ok(false);
+        };
+        self.numbers.push(number)?;
+        Ok(true)
+    }
+}
+
+/// Whether the criterion is about attributes, and not about targets or anchors.
+fn is_of_attributes(criterion: &Criterion) -> bool
+    ensures { result ≡ bounds.is_of_attributes criterion.now }
+{
+    criterion.name.as_bytes() != b"href".as_slice()
+        && criterion.name.as_bytes() != b"anchor".as_slice()
+}
+
+/// A cursor at the first carrier of each criterion that is about attributes, in their order. `Starved`: out of memory.
+fn racers_of<'a>(
+    alloc: Global,
+    index: &'a AttributeIndex,
+    criteria: &[Criterion],
+) -> Result<Vec<Racer<'a>>, Starved>
+    ensures { IfOk result (λ racers. racers.items ≡ races.runs_of index.now criteria.now) }
+{
+    let mut racers = Vec::new(alloc);
+    let mut rest = criteria;
+    'criteria: while let Some((criterion, more)) = rest.split_first() {
+        rest = more;
+        if !is_of_attributes(criterion) {
+            continue;
+        }
+        let left = index.carriers(alloc, criterion.name.as_str(), criterion.pattern.as_str())?;
+        racers.push(Racer {
+            numbers: Vec::new(alloc),
+            left,
+        })?;
+    }
+    Ok(racers)
+}
+
+/// Lets the cursors go on by turns until one of them ends, and answers where that one stands. `Starved`: out of memory.
+fn race<L: Ledger>(racers: &mut [Racer<'_>], steps: &mut Steps<L>) -> Result<usize, Starved>
+    requires { 0 < length racers.old }
+    ensures within { IfOk result (λ at. at < length racers.new) }
+    ensures ended { IfOk result (λ at. HoldsAt (λ run. whole run ≡ run.given) racers.new at) }
+    ensures same { OnOk result (map whole racers.new ≡ map whole racers.old) }
+    ensures counted { AllByRecursion (λ numbers. steps.new ≤ steps.old + length racers.old * (length numbers + 1)) (map whole racers.old) }
+{
+    let mut at = 0;
+    'turns: while racers[at].advance(steps)? {
+        at += 1;
+        if at == racers.len() {
+            at = 0;
+        }
+    }
+    Ok(at)
+}
+
+/// The numbers of the cursor that ends first where all go on by turns. `Starved`: out of memory.
+fn fewest<L: Ledger>(mut racers: Vec<Racer<'_>>, steps: &mut Steps<L>) -> Result<Vec<u64>, Starved>
+    requires { 0 < vec_len racers }
+    ensures found { IfOk result (λ numbers. Contains (map whole racers.entry.items) numbers.items) }
+    ensures counted { AllByRecursion (λ numbers. steps.new ≤ steps.old + vec_len racers.entry * (length numbers + 1)) (map whole racers.entry.items) }
+{
+    let at = race(racers.as_mut_slice(), steps)?;
+    Ok(racers.swap_remove(at).numbers)
+}
+
+/// The numbers in ascending order, each once.
+fn sorted(mut numbers: Vec<u64>) -> Vec<u64>
+    ensures rising { PairsByRecursion (λ m n. m < n) result.items }
+    ensures same { (n : ℕ) → has_number result.items n ≡ has_number numbers.items n }
+{
+    numbers.sort_unstable();
+    numbers.dedup();
+    numbers
+}
+
+/// The numbers, in ascending order and each once, of the carriers of a criterion that is about attributes; None where no
+/// criterion is. It counts at most so many steps: for each such criterion one, and one for each of the fewest carriers
+/// that any of them has. `Starved`: out of memory.
+pub(crate) fn fewest_carriers<L: Ledger>(
+    alloc: Global,
+    index: &AttributeIndex,
+    criteria: &[Criterion],
+    steps: &mut Steps<L>,
+) -> Result<Option<Vec<u64>>, Starved>
+    ensures none { IfOk result (λ found. IfNone found (attribute_criteria criteria.now ≡ [])) }
+    ensures rising { IfOk result (λ found. IfSome found (λ numbers. PairsByRecursion (λ m n. m < n) numbers.items)) }
+    ensures carriers { IfOk result (λ found. IfSome found (λ numbers. AreNumbersOf index.now criteria.now numbers.items)) }
+    ensures counted { (criterion : Criterion) → Contains (attribute_criteria criteria.now) criterion → steps.new ≤ steps.old + length (attribute_criteria criteria.now) * (length (carriers_of criterion.name criterion.pattern index.now) + 1) }
+{
+    let racers = racers_of(alloc, index, criteria)?;
+    if racers.is_empty() {
+        return Ok(None);
+    }
+    let numbers = fewest(racers, steps)?;
+    Ok(Some(sorted(numbers)))
+}
