@@ -60,18 +60,18 @@ fn draft_of(alloc: Global) -> Result<Draft, Starved>
 }
 
 /// The version in which the endpoint registers at a moment.
-fn version_at(alloc: Global, last: &Directory, now: Moment) -> Result<Arc<Directory>, Starved>
+fn registered(alloc: Global, last: &Directory, now: Moment) -> Result<Directory, Starved>
     requires at { last.now.at ≤ now.0 }
     requires swept { last.now.swept ≤ now.0 }
     requires moment { now.0 ≤ 10 ^ 15 }
-    ensures stands { (history : List Entry) → VersionStandsFor 0 history last.now → IfOk result (λ version. VersionStandsFor 0 (history ++ sample_entry now.0 ∷ []) (arc_value version)) }
-    ensures swept { IfOk result (λ version. (arc_value version).swept ≡ last.now.swept) }
+    ensures stands { (history : List Entry) → VersionStandsFor 0 history last.now → IfOk result (VersionStandsFor 0 (history ++ sample_entry now.0 ∷ [])) }
+    ensures swept { IfOk result (λ version. version.swept ≡ last.now.swept) }
 {
     let draft = draft_of(alloc)?;
     let Ok((version, _number)) = last.register(now, draft) else {
         return Err(Starved);
     };
-    Ok(Arc::new(alloc, version)?)
+    Ok(version)
 }
 
 /// Publishes what is staged, with the entry of a moment.
@@ -110,7 +110,7 @@ impl SampleBoard {
         if now < self.last.at() {
             return Err(Starved);
         }
-        let next = version_at(alloc, &self.last, now)?;
+        let next = Arc::new(alloc, registered(alloc, &self.last, now)?)?;
         self.publisher.stage(Arc::try_clone(&next)?)?;
         publish_at::<Brand, R>(rt, &mut self.publisher, now);
         self.last = next;
