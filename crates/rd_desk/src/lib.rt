@@ -35,5 +35,3 @@ pub use write_jobs::WriteJob;
 
 #[cfg(test)]
 mod tests;
-#[cfg(test)]
-mod watching_tests;
