@@ -3,3 +3,15 @@ pub mod Replies
 pub mod Sendings
 pub mod Asking
 pub mod Writing
+pub mod Watching
+pub mod WriteJobs
+pub mod Admitting
+pub mod Marks
+pub mod Entering
+pub mod Joining
+pub mod Noticing
+pub mod Desks
+pub mod UnderWay
+pub mod KeepJobs
+pub mod Looking
+pub mod Stepping

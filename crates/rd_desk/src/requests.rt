@@ -1,5 +1,7 @@
 //! What a request asks beyond its options: its query, the block that it wants, and whether it only looks (RFC 9176 sections 4.1 and 6).
 ghost use Rattle.std.specs.Prelude.{◌≡◌, Some, None, IfOk, IfErr, OnOk};
+ghost use Rattle.std.specs.Option.{ForSome};
+ghost use Rattle.message_model.specs.Blocks.{IsBlock};
 ghost use Rattle.message_model.specs.Message.{Message};
 ghost use Rattle.coap_message.specs.Views.{message_in};
 ghost use Rattle.coap_options.specs.Meanings.{IsMeaning, HasShortBlocks, HasReadableBlocks};
@@ -55,6 +57,7 @@ pub(crate) fn has_bad_query(meaning: &Meaning<'_>) -> bool
 pub(crate) fn asked_block(meaning: &Meaning<'_>) -> Option<Block>
     requires short { HasShortBlocks meaning.now }
     ensures asked { (m : Message) → IsMeaning m meaning.now → result ≡ requests_of.asked_block m }
+    ensures block { ForSome result IsBlock }
 {
     match meaning.block2 {
         None => None,
@@ -94,7 +97,7 @@ fn is_lookup(path: &Path) -> bool
 }
 
 /// Whether it is that of discovery (RFC 9176 section 4.1).
-fn is_discovery(path: &Path) -> bool
+pub(crate) fn is_discovery(path: &Path) -> bool
     ensures { result ≡ requests_of.is_discovery path.now }
 {
     match path {

@@ -1,6 +1,6 @@
 use Rattle.std.proofs.Common.{◌≡◌, refl, arith}
 use Rattle.message_model.specs.Blocks.{block_size}
-use Rattle.rd_desk.proofs.ReplySizes.{block_short}
+use Rattle.rd_desk.proofs.answers.ReplySizes.{block_short}
 use Rattle.rd_desk.proofs.bodies.body_reply.Goals as goal
 
 pub returns-clause-reply : goal.returns-clause-reply

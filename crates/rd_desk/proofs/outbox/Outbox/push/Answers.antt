@@ -1,5 +1,5 @@
-use Rattle.std.proofs.Common.{◌≡◌, ℕ, ◌+◌, ◌++◌, ◌∷◌, [], List, length, map, true, false, not, sym, ap, ◌∙◌, arith, is_ok, cond}
-use Rattle.rd_desk.proofs.OutboxLaws.{pushed}
+use Rattle.std.proofs.Common.{◌≡◌, ◌++◌, true, not, ap, ◌∙◌, arith, is_ok}
+use Rattle.rd_desk.proofs.answers.OutboxLaws.{pushed}
 use Rattle.rd_desk.proofs.outbox.Outbox.push.Goals as goal
 
 pub returns : goal.returns

@@ -5,7 +5,7 @@ use Rattle.message_model.specs.Message.{Message}
 use Rattle.message_model.specs.Spelling.{spelling}
 use Rattle.event_model.specs.declared.notes.Note.{Note}
 use Rattle.journal_model.specs.declared.steps.Step.{Step}
-use Rattle.journal_model.specs.Effects.{Reply, nothing, answer, answering, drawn_for}
+use Rattle.journal_model.specs.Effects.{Reply, nothing, noting, sending, answer, answering, drawn_for}
 use Rattle.journal_model.specs.UnfinishedRow.{drawing}
 use Rattle.rd_desk.specs.declared.mids.Mids.{Mids}
 use Rattle.rd_desk.specs.Sendings.{IsStepOf, Sends}
@@ -24,3 +24,12 @@ sends_answer s m reply notes sender before now mids_before mids datagram of sent
 -- nothing is sent, and nothing is drawn
 pub sends_nothing : (before : List (Peer × List ℕ)) (mids : Mids) → Sends nothing before before mids mids
 sends_nothing before mids = record { sent = sym (append-nil before); worker = refl; drawn = refl }
+
+-- nothing is sent, and this is noted
+pub sends_notes : (notes : List Note) (before : List (Peer × List ℕ)) (mids : Mids) → Sends (noting notes) before before mids mids
+sends_notes notes before mids = record { sent = sym (append-nil before); worker = refl; drawn = refl }
+
+-- octets are sent to the peer of the step
+pub sends_octets : (s : Step) (sender : Peer) (octets : List ℕ) (before now : List (Peer × List ℕ)) (mids : Mids) → s.peer ≡ sender → now ≡ before ++ (sender, octets) ∷ []
+    → Sends (sending s.peer octets) before now mids mids
+sends_octets s sender octets before now mids of sent = record { sent = sent ∙ ap (λ (p : Peer). before ++ (p, octets) ∷ []) (sym of); worker = refl; drawn = refl }

@@ -1,0 +1,31 @@
+use Rattle.std.proofs.Common.{[], Some, sym, subst}
+use Rattle.coap_message.specs.Views.{message_in}
+use Rattle.journal_model.specs.Effects.{Reply, answering}
+use Rattle.journal_model.specs.Looks.{look_sent}
+use Rattle.rd_desk.specs.declared.looks.Found.{Found}
+use Rattle.rd_desk.specs.Looking.{look_found, is_starved_look, look_done}
+use Rattle.rd_desk.specs.Replies.{reply_said}
+use Rattle.rd_desk.specs.Sendings.{Sends}
+use Rattle.rd_desk.proofs.answers.LookLaws.{given_links}
+use Rattle.rd_desk.proofs.looks.give.Goals as goal
+
+pub returns-in-Valid-clause-sends : goal.returns-in-Valid-clause-sends
+returns-in-Valid-clause-sends c s of =
+    let m = message_in c.args.meaning.now.view in
+    subst (λ (f : Found). Sends (look_sent s m (Some (look_found m f))) c.args.out.now c.answer.new.out c.args.mids.now c.answer.new.mids) (sym c.in-Valid.is)
+    (subst (λ (reply : Reply). Sends (answering s m reply []) c.args.out.now c.answer.new.out c.args.mids.now c.answer.new.mids) c.still_valid.ensures.said (c.answer.ensures.sends s [] of))
+
+pub returns-in-Listing-clause-sends : goal.returns-in-Listing-clause-sends
+returns-in-Listing-clause-sends c s of =
+    let m = message_in c.args.meaning.now.view in
+    subst (λ (f : Found). Sends (look_done (is_starved_look c.give_listing.result) s m (look_found m f)) c.args.out.now c.give_listing.new.out c.args.mids.now c.give_listing.new.mids) (sym c.in-Listing.is)
+    (c.give_listing.ensures.sends s of)
+
+pub returns-in-OwnLinks-clause-sends : goal.returns-in-OwnLinks-clause-sends
+returns-in-OwnLinks-clause-sends c s of =
+    let m = message_in c.args.meaning.now.view in
+    subst (λ (f : Found). Sends (look_sent s m (Some (look_found m f))) c.args.out.now c.answer-in-OwnLinks.new.out c.args.mids.now c.answer-in-OwnLinks.new.mids) (sym c.in-OwnLinks.is)
+    (subst (λ (reply : Reply). Sends (answering s m reply []) c.args.out.now c.answer-in-OwnLinks.new.out c.args.mids.now c.answer-in-OwnLinks.new.mids)
+    (given_links m c.in-OwnLinks.octets c.as_slice.result.now c.asked_block-asked.result (reply_said c.body_reply-reply.result) (c.asked_block-asked.ensures.asked m c.requires.meaning) c.as_slice.ensures.value
+    c.body_reply-reply.ensures.said)
+    (c.answer-in-OwnLinks.ensures.sends s [] of))

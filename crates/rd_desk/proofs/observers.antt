@@ -1,0 +1,10 @@
+pub mod MarkLaws
+pub mod WalkLaws
+pub mod FoundObservers
+pub mod WatchingParts
+pub mod WatchingLaws
+pub mod WatchedLaws
+pub mod WatcherParts
+pub mod WatchingNotes
+pub mod JoiningLaws
+pub mod TickLaws

@@ -1,0 +1,12 @@
+pub mod EffectLaws
+pub mod MakingLaws
+pub mod FetchLaws
+pub mod NoteTopics
+pub mod AsideLaws
+pub mod WayLaws
+pub mod PartLaws
+pub mod DeskLaws
+pub mod WriteLaws
+pub mod EmptyMessageLaws
+pub mod KeepLaws
+pub mod AdmissionLaws

@@ -1,0 +1,40 @@
+-- What a desk shows, and the journal that it stands for.
+use Rattle.std.specs.Prelude.{◌≡◌, ℕ, ◌≤◌, List}
+use Rattle.history_model.specs.Versions.{Version, VersionStandsFor}
+use Rattle.event_model.specs.Observers.{observe_values_sent}
+use Rattle.journal_model.specs.declared.rows.Row.{Row}
+use Rattle.journal_model.specs.Journal.{events, entries, now}
+use Rattle.journal_model.specs.Ticks.{octets_sent}
+use Rattle.exchange_core.specs.Table as exchanges
+use Rattle.exchange_core.specs.ExchangeEvents.{ExchangesStandFor}
+use Rattle.transfers.specs.TransferEvents as transfers
+use Rattle.transfers.specs.TransferEvents.{TransfersStandFor}
+use Rattle.simple_registration.specs.Table as fetches
+use Rattle.simple_registration.specs.FetchEvents.{FetchesStandFor}
+use Rattle.rd_desk.specs.Watching.{Watching, WatchingStandsFor}
+
+-- its moment, the version of the directory, the tables, and how many Observe values it gave, as 64 bits count
+pub record Seen : Type 0 where
+  pub moment : ℕ
+  pub version : Version
+  pub exchanges : exchanges.Table
+  pub transfers : transfers.Table
+  pub watching : Watching
+  pub fetches : fetches.Table
+  pub observed : ℕ
+
+-- a version stands for the entries of a journal, and may be asked at its moment
+pub record DirectoryStandsFor (rows : List Row) (v : Version) : Type 0 where
+  pub history : VersionStandsFor 0 (entries rows) v
+  pub at : v.at ≤ now rows
+  pub swept : v.swept ≤ now rows
+
+-- a desk stands for a journal: its moment is that of the last row that is no look, and each table stands for the events
+pub record StandsFor (rows : List Row) (d : Seen) : Type 0 where
+  pub moment : d.moment ≡ now rows
+  pub directory : DirectoryStandsFor rows d.version
+  pub exchanges : ExchangesStandFor (now rows) (events rows) d.exchanges
+  pub transfers : TransfersStandFor (now rows) (events rows) d.transfers
+  pub watching : WatchingStandsFor rows d.watching
+  pub fetches : FetchesStandFor (octets_sent rows) (events rows) d.fetches
+  pub observed : d.observed ≡ observe_values_sent (events rows)

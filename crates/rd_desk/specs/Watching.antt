@@ -1,0 +1,67 @@
+-- What the watched queries and their observers show together, and the journal that they stand for (RFC 7641 section 4).
+use Rattle.std.specs.Prelude.{◌≡◌, ℕ, true, false, List, [], ◌∷◌, Some, map}
+use Rattle.std.specs.List.{AllByRecursion}
+use Rattle.rd_base.specs.declared.queries.Query.{Query}
+use Rattle.history_model.specs.Listing.{listing}
+use Rattle.event_model.specs.Flights.{Sent}
+use Rattle.event_model.specs.Observers.{observers}
+use Rattle.journal_model.specs.declared.rows.Row.{Row}
+use Rattle.journal_model.specs.Journal.{events, entries, now, transitions}
+use Rattle.journal_model.specs.Ticks.{octets_sent, is_confirmable_with}
+use Rattle.watch_table.specs.WatchedQueries as watched
+use Rattle.watch_table.specs.WatchedQueries.{Watched, query_at}
+use Rattle.watch_table.specs.Watchers.{WatchesStandFor}
+use Rattle.observers.specs.Watchers.{Watcher, is_named}
+use Rattle.observers.specs.ObserverEvents.{observer_of, ObserversStandFor}
+
+-- the watched queries at their places, and the observers, each with the place of its query
+pub record Watching : Type 0 where
+  pub watches : watched.Table
+  pub observers : List Watcher
+
+-- the query of an observer is watched at its place
+abbrev pub IsPlaced : watched.Table → (ℕ → Query) → Watcher → Type 0
+IsPlaced t queries w = query_at w.place t ≡ Some (queries w.place)
+
+-- by the queries at their places, each query is watched as often as it is observed
+pub record AreWatchedBy (queries : ℕ → Query) (t : watched.Table) (ws : List Watcher) : Type 0 where
+  pub placed : AllByRecursion (IsPlaced t queries) ws
+  pub watches : WatchesStandFor (map (observer_of queries) ws) t
+
+-- two observers have not the same peer and token
+abbrev pub IsOtherName : Watcher → Watcher → Type 0
+IsOtherName w other = is_named w.peer w.token other ≡ false
+
+-- no two have (RFC 7641 section 4.1)
+abbrev pub HaveOtherNames : List Watcher → Type 0
+HaveOtherNames [] = Unit {0}
+HaveOtherNames (w ∷ ws) = AllByRecursion (IsOtherName w) ws × HaveOtherNames ws
+
+-- each query is watched as often as it is observed, and no two observers have the same peer and token
+pub record AreWatched (t : watched.Table) (ws : List Watcher) : Type 0 where
+  pub queries : ℕ → Query
+  pub by : AreWatchedBy queries t ws
+  pub apart : HaveOtherNames ws
+
+-- a body that is set is the listing of its query
+abbrev pub HasListing : List Row → ℕ × Watched → Type 0
+HasListing rows e = (body : List ℕ) → e.1.body ≡ Some body → body ≡ listing e.1.query (entries rows) (now rows)
+
+-- no mark is set
+abbrev pub IsUnmarked : ℕ × Watched → Type 0
+IsUnmarked e = e.1.marked ≡ false
+
+-- a notice in flight is a confirmable message with its Message ID
+abbrev pub IsConfirmable : Watcher → Type 0
+IsConfirmable w = (s : Sent) → w.flight ≡ Some s → is_confirmable_with s.mid s.octets ≡ true
+
+-- they stand for a journal: the observers of its events, each due as its transitions say and with the notice that waits for it, and each query is watched as
+-- often as it is observed. No mark is left, and each body that is set is the listing now
+pub record WatchingStandsFor (rows : List Row) (w : Watching) : Type 0 where
+  pub queries : ℕ → Query
+  pub placed : AllByRecursion (IsPlaced w.watches queries) w.observers
+  pub watches : WatchesStandFor (observers (events rows)) w.watches
+  pub observers : ObserversStandFor queries (octets_sent rows) (events rows) (transitions rows) w.observers
+  pub confirmable : AllByRecursion IsConfirmable w.observers
+  pub unmarked : AllByRecursion IsUnmarked w.watches
+  pub bodies : AllByRecursion (HasListing rows) w.watches

@@ -1,0 +1,85 @@
+//! Writes as they are heard (RFC 7252 sections 4.2 and 4.5).
+ghost use Rattle.std.specs.Prelude.{◌≡◌, ◌<◌, ◌≤◌, Bool, [], ◌∷◌, List, length, if◌then◌else◌};
+ghost use Rattle.message_model.specs.Message.{longest_token};
+ghost use Rattle.coap_message.specs.Views.{message_in};
+ghost use Rattle.event_model.specs.declared.notes.Note.TheVariants as note;
+ghost use Rattle.journal_model.specs.declared.steps.Step.{Step};
+ghost use Rattle.journal_model.specs.declared.rows.Row.{Row};
+ghost use Rattle.journal_model.specs.Effects.{nothing};
+ghost use Rattle.journal_model.specs.Journal.{events};
+ghost use Rattle.journal_model.specs.Rows.{row_moment};
+ghost use Rattle.journal_model.specs.Writes.{write_effects};
+ghost use Rattle.rd_desk.specs.Admitting.{is_starved_admission, write_heard, IsHeldFor};
+ghost use Rattle.rd_desk.specs.Outboxes.{most_datagrams};
+ghost use Rattle.rd_desk.specs.UnderWay.{UnderWay};
+
+use crate::server_errors::{answer_full, answer_starved};
+use crate::tables::Tables;
+use crate::{Admitted, Mids, Outbox, WriteJob};
+use coap_message::View;
+use exchange_core::Keyed;
+use rd_base::{Bytes, Peer};
+use std::alloc::Global;
+
+impl Tables {
+    /// A write that nothing refuses repeats another, or there is no room for it, or it is admitted. Whether it is admitted. Takes no memory.
+    fn admit_write(
+        &mut self,
+        mids: &mut Mids,
+        peer: Peer,
+        view: &View<'_>,
+        out: &mut Outbox,
+    ) -> bool
+        requires token { length view.now.token.now ≤ longest_token }
+        requires room { length out.old < most_datagrams }
+        ensures way { (rows : List Row) (s : Step) (starved : Bool) → s.peer ≡ peer → UnderWay rows s starved nothing self.old out.old mids.old
+            → UnderWay rows s starved (write_effects (events rows) (row_moment rows s) s (message_in view.now)) self.new out.new mids.new }
+        ensures admitted { (rows : List Row) (s : Step) (starved : Bool) → s.peer ≡ peer → UnderWay rows s starved nothing self.old out.old mids.old
+            → (write_effects (events rows) (row_moment rows s) s (message_in view.now)).notes ≡ (if result then note.Admitted s.peer view.now.mid ∷ [] else []) }
+        ensures moment { self.new.moment ≡ self.old.moment }
+    {
+        match self.exchanges.admit_key(self.moment, peer, view.mid) {
+            Keyed::Fresh => return true,
+            Keyed::InFlight => return false,
+            Keyed::Kept(reply) => {
+                out.push(peer, reply.as_slice());
+                return false;
+            }
+            Keyed::FullExchanges => {
+                answer_full(mids, peer, view, b"exchanges", out);
+                return false;
+            }
+        }
+    }
+
+    /// A write that nothing refuses. The datagram is copied into the job before anything changes: it takes memory.
+    pub(crate) fn hear_write(
+        &mut self,
+        alloc: Global,
+        mids: &mut Mids,
+        peer: Peer,
+        view: &View<'_>,
+        datagram: &[u8],
+        out: &mut Outbox,
+    ) -> Admitted
+        requires token { length view.now.token.now ≤ longest_token }
+        requires room { length out.old < most_datagrams }
+        ensures way { (rows : List Row) (s : Step) → s.peer ≡ peer → UnderWay rows s (is_starved_admission result) nothing self.old out.old mids.old
+            → UnderWay rows s (is_starved_admission result) (write_heard (is_starved_admission result) rows s (message_in view.now)) self.new out.new mids.new }
+        ensures held { (rows : List Row) (s : Step) → s.peer ≡ peer → s.datagram ≡ datagram.now → UnderWay rows s (is_starved_admission result) nothing self.old out.old mids.old
+            → IsHeldFor result (write_heard (is_starved_admission result) rows s (message_in view.now)).notes s (row_moment rows s) }
+    {
+        let Ok(copied) = Bytes::copy_of(alloc, datagram) else {
+            answer_starved(mids, peer, view, out);
+            return Admitted::Starved;
+        };
+        if self.admit_write(mids, peer, view, out) {
+            return Admitted::Held(WriteJob {
+                peer,
+                datagram: copied,
+                admitted: self.moment,
+            });
+        }
+        Admitted::Done
+    }
+}

@@ -1,0 +1,117 @@
+//! Listings that looks formed are kept for their further blocks (RFC 7959 section 2.4).
+ghost use Rattle.std.specs.Prelude.{◌≡◌, ◌<◌, ◌≤◌, ◌^◌, ℕ, [], ◌∷◌, List, length, IfOk};
+ghost use Rattle.std.specs.Arc.{arc_value};
+ghost use Rattle.message_model.specs.Reading.{reading};
+ghost use Rattle.message_model.specs.RequestKey.{key_in};
+ghost use Rattle.coap_message.specs.Views.{message_in};
+ghost use Rattle.coap_options.specs.Meanings.{IsMeaning};
+ghost use Rattle.event_model.specs.declared.notes.Note.TheVariants as note;
+ghost use Rattle.event_model.specs.Events.{Event, noted};
+ghost use Rattle.journal_model.specs.declared.steps.Step.{Step};
+ghost use Rattle.journal_model.specs.declared.rows.Row.{Row};
+ghost use Rattle.journal_model.specs.Effects.{nothing};
+ghost use Rattle.journal_model.specs.declared.steps.StepKind.TheVariants as step;
+ghost use Rattle.journal_model.specs.Rows.{kept_body, row};
+ghost use Rattle.transfers.specs.TransferEvents.{AnswersStandFor};
+ghost use Rattle.rd_desk.specs.Outboxes.{most_datagrams};
+ghost use Rattle.rd_desk.specs.Stepping.{is_starved_step};
+ghost use Rattle.rd_desk.specs.UnderWay.{UnderWay, IsCalled, Made};
+
+use crate::bodies::body_reply;
+use crate::looks::look_meaning;
+use crate::replies::answer;
+use crate::requests::asked_block;
+use crate::server_errors::answer_starved;
+use crate::tables::Tables;
+use crate::{KeepJob, Mids, Outbox, Stepped};
+use coap_options::{Meaning, request_key};
+use rd_base::{Bytes, Moment, Peer, Starved, Tag};
+use std::alloc::Global;
+use std::sync::Arc;
+use transfers::{Answer, Answers, Ready, Transfers};
+
+/// The kept answers with a listing kept after them, under who asked and the key of the request. The listing is shared. `Starved`: out of
+/// memory.
+fn with_listing(
+    transfers: &Transfers,
+    alloc: Global,
+    now: Moment,
+    peer: Peer,
+    meaning: &Meaning<'_>,
+    body: &Arc<Bytes>,
+    tag: Tag,
+) -> Result<Ready, Starved>
+    requires meaning { IsMeaning (message_in meaning.now.view) meaning.now }
+    ensures { IfOk result (λ ready. (events : List Event) (place word : ℕ) → AnswersStandFor events transfers.now.answers
+        → AnswersStandFor (noted place now.0 word (note.Kept peer (key_in (message_in meaning.now.view)) (arc_value body.now) tag.0 ∷ []) events) ready) }
+{
+    let key = request_key(alloc, meaning)?;
+    let body = Arc::try_clone(body)?;
+    let mut answers = Vec::new(alloc);
+    answers.push(Answer {
+        peer,
+        key,
+        body,
+        tag,
+    })?;
+    transfers.ready(alloc, now, Answers::of(answers))
+}
+
+impl Tables {
+    /// A listing is kept under its tag, and the block of it that the look asked for is sent. What takes memory comes before anything changes.
+    fn keep_listing(
+        &mut self,
+        alloc: Global,
+        mids: &mut Mids,
+        job: KeepJob,
+        out: &mut Outbox,
+    ) -> Stepped
+        requires room { length out.old < most_datagrams }
+        ensures way { (rows : List Row) (s : Step) → s.peer ≡ job.peer → UnderWay rows s (is_starved_step result) nothing self.old out.old mids.old
+            → UnderWay rows s (is_starved_step result) (kept_body (is_starved_step result) s (reading job.datagram) job.answer.body job.answer.tag) self.new out.new mids.new }
+    {
+        let KeepJob {
+            peer,
+            datagram,
+            body,
+            tag,
+        } = job;
+        let meaning = look_meaning(datagram.as_slice());
+        let ready = with_listing(
+            &self.transfers,
+            alloc,
+            self.moment,
+            peer,
+            &meaning,
+            &body,
+            tag,
+        );
+        let Ok(ready) = ready else {
+            answer_starved(mids, peer, &meaning.view, out);
+            return Stepped::Starved;
+        };
+        let asked = asked_block(&meaning);
+        let reply = body_reply(Some(tag), None, &asked, body.as_slice());
+        answer(mids, peer, &meaning.view, &reply, out);
+        self.transfers.adopt(ready);
+        Stepped::Done
+    }
+
+    /// The step that does the job to keep a listing, at a moment that is at most 10^15; one below that of the tables is lifted to it. `out` is empty.
+    pub(crate) fn keep(
+        &mut self,
+        alloc: Global,
+        now: Moment,
+        mids: &mut Mids,
+        job: KeepJob,
+        out: &mut Outbox,
+    ) -> Stepped
+        requires moment { now.0 ≤ 10 ^ 15 }
+        requires empty { out.old ≡ [] }
+        ensures made { (rows : List Row) (s : Step) → s.kind ≡ step.Keep job.answer.body job.answer.tag → s.peer ≡ job.peer → s.datagram ≡ job.datagram → IsCalled rows s now mids.old self.old
+            → Made rows (row rows s (is_starved_step result)) self.new out.new mids.old mids.new }
+    {
+        self.pass(now);
+        self.keep_listing(alloc, mids, job, out)
+    }
+}

@@ -1,0 +1,296 @@
+//! Lookups and discovery that are answered from one version of the directory (RFC 9176 sections 4.1 and 6, RFC 7252 section 5.10.6.2).
+ghost use Rattle.std.specs.Prelude.{◌≡◌, ◌≤◌, ◌<◌, true, false, List, length, Ok, Some, IfOk};
+ghost use Rattle.message_model.specs.Message.{longest_token};
+ghost use Rattle.message_model.specs.Reading.{reading};
+ghost use Rattle.coap_message.specs.Views.{message_in};
+ghost use Rattle.coap_options.specs.Meanings.{IsMeaning, HasShortBlocks};
+ghost use Rattle.history_model.specs.declared.entries.Entry.{Entry};
+ghost use Rattle.history_model.specs.Listing.{listing, tag};
+ghost use Rattle.history_model.specs.Versions.{VersionStandsFor};
+ghost use Rattle.journal_model.specs.declared.steps.Step.{Step};
+ghost use Rattle.journal_model.specs.Looks as looks_of;
+ghost use Rattle.journal_model.specs.Machine.{is_look_datagram};
+ghost use Rattle.journal_model.specs.Requests as requests_of;
+ghost use Rattle.rd_desk.specs.Looking.{look_found, is_starved_look, look_done, look_left, IsHeld};
+ghost use Rattle.rd_desk.specs.Outboxes.{most_datagrams};
+ghost use Rattle.rd_desk.specs.Replies.{IsReply, reply_said};
+ghost use Rattle.rd_desk.specs.Sendings.{IsStepOf, Sends};
+
+use crate::bodies::{body_reply, is_long};
+use crate::replies::{Reply, answer};
+use crate::requests::{asked, asked_block, is_discovery};
+use crate::server_errors::answer_starved;
+use crate::{KeepJob, Mids, Outbox};
+use coap_message::view;
+use coap_options::{Meaning, Path, etags, queries};
+use directory_core::Directory;
+use listing::discovery;
+use query_text::{QueryBad, lookup_query};
+use rd_base::{Bytes, Kind, Moment, Peer, Query, Starved, Steps, Tag};
+use std::alloc::Global;
+use std::marker::Brand;
+use std::sync::ledger::{Blank, Ledger};
+
+/// How a look ends.
+#[derive(Drop)]
+pub enum Looked {
+    /// It is answered.
+    Done,
+    /// Its listing is longer than one block: nothing is sent yet, and the worker has this job.
+    Held(KeepJob),
+    /// Out of memory: it is answered 5.00.
+    Starved,
+}
+
+/// A listing under its entity tag.
+#[derive(Drop)]
+struct TaggedListing {
+    /// The listing.
+    octets: Bytes,
+    /// Its entity tag.
+    tag: Tag,
+}
+
+/// What a look finds.
+#[derive(Drop)]
+enum Found {
+    /// The client has the listing already, under this tag.
+    Valid(Tag),
+    /// The listing.
+    Listing(TaggedListing),
+    /// The links of the directory itself, which have no tag.
+    OwnLinks(Bytes),
+}
+
+/// The kind of what is looked up at a path.
+fn kind_of(path: &Path) -> Kind
+    ensures { result ≡ requests_of.kind_of path.now }
+{
+    match path {
+        Path::Res => Kind::Resource,
+        Path::Ep => Kind::Endpoint,
+        Path::Core | Path::SimpleRd | Path::Rd | Path::Location(_) | Path::Other => Kind::Discovery,
+    }
+}
+
+/// What a lookup or a discovery asks for, whose query options are not refused. `Starved`: out of memory.
+fn query_of(alloc: Global, meaning: &Meaning<'_>) -> Result<Query, Starved>
+    requires meaning { IsMeaning (message_in meaning.now.view) meaning.now }
+    requires good { requests_of.has_bad_query (message_in meaning.now.view) ≡ false }
+    requires looks { requests_of.only_looks (message_in meaning.now.view) ≡ true }
+    ensures { IfOk result (λ query. query ≡ requests_of.query_of (message_in meaning.now.view)) }
+{
+    match lookup_query(alloc, kind_of(&meaning.path), queries(meaning)) {
+        Ok(query) => Ok(query),
+        Err(QueryBad::Starved) => Err(Starved),
+        Err(QueryBad::At { .. }) => unreachable!(),
+    }
+}
+
+/// Whether a tag is among those that the request names (RFC 7252 section 5.10.6.2).
+fn names_tag(meaning: &Meaning<'_>, tag: Tag) -> bool
+    ensures { result ≡ looks_of.names_tag tag.0 (message_in meaning.now.view) }
+{
+    'tags: for named in etags(meaning) {
+        if tag.0.as_slice() == named {
+            return true;
+        }
+    }
+    false
+}
+
+/// The listing of a query at a moment. `Starved`: out of memory.
+fn listing_at<L: Ledger>(
+    blank: Blank,
+    version: &Directory,
+    now: Moment,
+    query: &Query,
+) -> Result<Bytes, Starved>
+    requires name { blank.name ≡ L.name }
+    requires parts { blank.parts ≡ L.parts }
+    requires some { 0 < L.parts }
+    requires after_at { version.now.at ≤ now.0 }
+    requires after_sweep { version.now.swept ≤ now.0 }
+    ensures { (history : List Entry) → VersionStandsFor 0 history version.now → IfOk result (λ octets. octets ≡ listing query.now history now.0) }
+{
+    let mut steps = Steps::<L>::new(blank);
+    version.lookup(query, now, &mut steps)
+}
+
+/// What a lookup finds in a version at a moment: its listing, unless the client has it. `Starved`: out of memory.
+fn find_listing(
+    version: &Directory,
+    now: Moment,
+    meaning: &Meaning<'_>,
+    query: &Query,
+) -> Result<Found, Starved>
+    requires after_at { version.now.at ≤ now.0 }
+    requires after_sweep { version.now.swept ≤ now.0 }
+    ensures { (history : List Entry) → VersionStandsFor 0 history version.now
+        → IfOk result (λ found. looks_of.found_under (Some (tag history now.0)) (message_in meaning.now.view) (listing query.now history now.0) ≡ look_found (message_in meaning.now.view) found) }
+{
+    let tag = version.tag(now);
+    if names_tag(meaning, tag) {
+        return Ok(Found::Valid(tag));
+    }
+    let octets = listing_at::<Brand>(Blank::new(1), version, now, query)?;
+    Ok(Found::Listing(TaggedListing { octets, tag }))
+}
+
+/// What a look finds in a version at a moment. `Starved`: out of memory.
+fn find(
+    alloc: Global,
+    version: &Directory,
+    now: Moment,
+    meaning: &Meaning<'_>,
+) -> Result<Found, Starved>
+    requires meaning { IsMeaning (message_in meaning.now.view) meaning.now }
+    requires good { requests_of.has_bad_query (message_in meaning.now.view) ≡ false }
+    requires looks { requests_of.only_looks (message_in meaning.now.view) ≡ true }
+    requires after_at { version.now.at ≤ now.0 }
+    requires after_sweep { version.now.swept ≤ now.0 }
+    ensures { (history : List Entry) → VersionStandsFor 0 history version.now
+        → IfOk result (λ found. looks_of.look history now.0 (message_in meaning.now.view) ≡ Some (look_found (message_in meaning.now.view) found)) }
+{
+    let query = query_of(alloc, meaning)?;
+    if is_discovery(&meaning.path) {
+        let octets = discovery(alloc, &query)?;
+        return Ok(Found::OwnLinks(octets));
+    }
+    find_listing(version, now, meaning, &query)
+}
+
+/// What is answered to a request that names the tag of what is found: 2.03 with this tag alone (RFC 7252 section 5.10.6.2).
+fn still_valid(tag: Tag) -> Reply<'static>
+    ensures said { reply_said result ≡ looks_of.still_valid tag.0 }
+    ensures reply { IsReply result }
+{
+    Reply {
+        code: 67,
+        tag: Some(tag),
+        observe: None,
+        location: None,
+        format: false,
+        block2: None,
+        block1: None,
+        payload: b"",
+    }
+}
+
+/// What is found is sent, or held where it is a listing longer than the block that is asked for.
+fn give(
+    alloc: Global,
+    mids: &mut Mids,
+    peer: Peer,
+    datagram: &[u8],
+    meaning: &Meaning<'_>,
+    found: Found,
+    out: &mut Outbox,
+) -> Looked
+    requires looks { is_look_datagram datagram.now ≡ true }
+    requires meaning { IsMeaning (message_in meaning.now.view) meaning.now }
+    requires short { HasShortBlocks meaning.now }
+    requires token { length meaning.now.view.token.now ≤ longest_token }
+    requires room { length out.old < most_datagrams }
+    ensures sends { (s : Step) → IsStepOf s peer mids.old
+        → Sends (look_done (is_starved_look result) s (message_in meaning.now.view) (look_found (message_in meaning.now.view) found)) out.old out.new mids.old mids.new }
+    ensures held { IsHeld peer datagram.now (look_left (is_starved_look result) (look_found (message_in meaning.now.view) found)) result }
+{
+    match found {
+        Found::Valid(tag) => {
+            answer(mids, peer, &meaning.view, &still_valid(tag), out);
+            return Looked::Done;
+        }
+        Found::Listing(tagged) => {
+            return give_listing(alloc, mids, peer, datagram, meaning, tagged, out);
+        }
+        Found::OwnLinks(octets) => {
+            let asked = asked_block(meaning);
+            let reply = body_reply(None, None, &asked, octets.as_slice());
+            answer(mids, peer, &meaning.view, &reply, out);
+            return Looked::Done;
+        }
+    }
+}
+
+/// A listing is sent, or held where it is longer than the block that is asked for.
+fn give_listing(
+    alloc: Global,
+    mids: &mut Mids,
+    peer: Peer,
+    datagram: &[u8],
+    meaning: &Meaning<'_>,
+    tagged: TaggedListing,
+    out: &mut Outbox,
+) -> Looked
+    requires looks { is_look_datagram datagram.now ≡ true }
+    requires meaning { IsMeaning (message_in meaning.now.view) meaning.now }
+    requires short { HasShortBlocks meaning.now }
+    requires token { length meaning.now.view.token.now ≤ longest_token }
+    requires room { length out.old < most_datagrams }
+    ensures sends { (s : Step) → IsStepOf s peer mids.old
+        → Sends (look_done (is_starved_look result) s (message_in meaning.now.view) (look_found (message_in meaning.now.view) (Found.Listing tagged))) out.old out.new mids.old mids.new }
+    ensures held { IsHeld peer datagram.now (look_left (is_starved_look result) (look_found (message_in meaning.now.view) (Found.Listing tagged))) result }
+{
+    let TaggedListing { octets, tag } = tagged;
+    let asked = asked_block(meaning);
+    if !is_long(&asked, octets.as_slice()) {
+        let reply = body_reply(Some(tag), None, &asked, octets.as_slice());
+        answer(mids, peer, &meaning.view, &reply, out);
+        return Looked::Done;
+    }
+    let Ok(job) = KeepJob::of(alloc, peer, datagram, octets, tag) else {
+        answer_starved(mids, peer, &meaning.view, out);
+        return Looked::Starved;
+    };
+    Looked::Held(job)
+}
+
+/// What the datagram of a request that only looks means.
+pub(crate) fn look_meaning(datagram: &[u8]) -> Meaning<'_>
+    requires { is_look_datagram datagram.now ≡ true }
+    ensures read { reading datagram.now ≡ Ok (message_in result.view) }
+    ensures meaning { IsMeaning (message_in result.view) result }
+    ensures short { HasShortBlocks result }
+    ensures token { length result.view.token.now ≤ longest_token }
+    ensures good { requests_of.has_bad_query (message_in result.view) ≡ false }
+    ensures looks { requests_of.only_looks (message_in result.view) ≡ true }
+{
+    let Ok(view) = view(datagram) else {
+        unreachable!()
+    };
+    let Ok(meaning) = asked(&view) else {
+        unreachable!()
+    };
+    meaning
+}
+
+/// A request that only looks ([`is_look`](crate::is_look)) is answered from a version of the directory at a moment, which is not before
+/// its last entry and its last sweep: 2.05 with what is found, or 2.03 where the request names the tag of the listing (RFC 7252 section
+/// 5.10.6.2). A listing that is longer than the block that is asked for is not sent: it is held, to be kept first. `out` has room for one
+/// datagram more.
+pub fn look(
+    alloc: Global,
+    version: &Directory,
+    now: Moment,
+    mids: &mut Mids,
+    peer: Peer,
+    datagram: &[u8],
+    out: &mut Outbox,
+) -> Looked
+    requires looks { is_look_datagram datagram.now ≡ true }
+    requires after_at { version.now.at ≤ now.0 }
+    requires after_sweep { version.now.swept ≤ now.0 }
+    requires room { length out.old < most_datagrams }
+    ensures sends { (s : Step) (history : List Entry) → VersionStandsFor 0 history version.now → IsStepOf s peer mids.old
+        → Sends (looks_of.looked (is_starved_look result) history now.0 s (reading datagram.now)) out.old out.new mids.old mids.new }
+    ensures held { (history : List Entry) → VersionStandsFor 0 history version.now
+        → IsHeld peer datagram.now (looks_of.held_after (is_starved_look result) history now.0 (reading datagram.now)) result }
+{
+    let meaning = look_meaning(datagram);
+    let Ok(found) = find(alloc, version, now, &meaning) else {
+        answer_starved(mids, peer, &meaning.view, out);
+        return Looked::Starved;
+    };
+    give(alloc, mids, peer, datagram, &meaning, found, out)
+}

@@ -1,0 +1,93 @@
+//! The tables of a desk, and what stands in them together (RFC 9176, RFC 7252, RFC 7641, RFC 7959).
+ghost use Rattle.std.specs.Prelude.{◌≡◌, ◌≤◌, ◌^◌, ℕ, Bool, [], List, IfOk, max};
+ghost use Rattle.rd_base.specs.declared.peers.Peer.{Peer};
+ghost use Rattle.journal_model.specs.declared.steps.Step.{Step};
+ghost use Rattle.journal_model.specs.declared.rows.Row.{Row};
+ghost use Rattle.journal_model.specs.Effects.{nothing};
+ghost use Rattle.rd_desk.specs.declared.mids.Mids.{Mids};
+ghost use Rattle.rd_desk.specs.Desks.{StandsFor};
+ghost use Rattle.rd_desk.specs.UnderWay.{UnderWay, IsCalled};
+
+use crate::watching::Watching;
+use directory_core::Directory;
+use exchange_core::Exchanges;
+use rd_base::{Moment, Starved};
+use simple_registration::Fetches;
+use std::alloc::Global;
+use std::marker::Model;
+use std::sync::Arc;
+use transfers::Transfers;
+
+/// What a desk keeps between its steps. Contracts say which journal it stands for; and while a step is under way, what was done of its row so far.
+#[derive(Drop)]
+pub(crate) struct Tables {
+    /// The greatest moment that was handed in, at most 10^15.
+    pub(crate) moment: Moment,
+    /// The registrations.
+    pub(crate) version: Arc<Directory>,
+    /// The writes that were admitted.
+    pub(crate) exchanges: Exchanges,
+    /// The uploads and the kept answers.
+    pub(crate) transfers: Transfers,
+    /// The observed queries and their observers.
+    pub(crate) watching: Watching,
+    /// The fetches of simple registrations.
+    pub(crate) fetches: Fetches,
+    /// How many Observe values were given, modulo 2^64.
+    pub(crate) observed: u64,
+}
+
+impl Model for Tables {
+    ghost use Rattle.std.specs.Prelude.{◌≤◌, ◌^◌};
+    ghost use Rattle.std.specs.Arc.{arc_value};
+    ghost use Rattle.rd_desk.specs.Desks.{Seen};
+
+    ghost Value = { Seen };
+
+    ghost view = { λ t. record { moment = t.moment.0; version = arc_value t.version; exchanges = t.exchanges; transfers = t.transfers; watching = t.watching; fetches = t.fetches; observed = t.observed } };
+
+    ghost invariant = { λ t. (t.moment.0 ≤ 10 ^ 15) × (t.exchanges.moment ≤ t.moment.0) × ((arc_value t.version).at ≤ t.moment.0) × ((arc_value t.version).swept ≤ t.moment.0) };
+}
+
+/// The later of two moments.
+fn later(one: Moment, other: Moment) -> Moment
+    ensures { result.0 ≡ max other.0 one.0 }
+{
+    if one.0 < other.0 {
+        return other;
+    }
+    one
+}
+
+impl Tables {
+    /// Tables of a directory in which nothing was done, at the moment 0, with all the room that they take. `Starved`: out of memory.
+    pub(crate) fn make(alloc: Global) -> Result<Tables, Starved>
+        ensures { IfOk result (StandsFor []) }
+    {
+        let version = Arc::new(alloc, Directory::empty(alloc, 0)?)?;
+        let exchanges = Exchanges::make(alloc)?;
+        let transfers = Transfers::make(alloc)?;
+        let watching = Watching::make(alloc)?;
+        let fetches = Fetches::make(alloc)?;
+        Ok(Tables {
+            moment: Moment(0),
+            version,
+            exchanges,
+            transfers,
+            watching,
+            fetches,
+            observed: 0,
+        })
+    }
+
+    /// Time passes to a moment, at most 10^15, or stands where it is not later than that of the tables; the observers are due whose listing a lapse meanwhile
+    /// changes. A step begins with it. Takes no memory.
+    pub(crate) fn pass(&mut self, now: Moment)
+        requires { now.0 ≤ 10 ^ 15 }
+        ensures { (rows : List Row) (s : Step) (starved : Bool) (out : List (Peer × List ℕ)) (mids : Mids) → out ≡ [] → IsCalled rows s now mids self.old → UnderWay rows s starved nothing self.new out mids }
+    {
+        let to = later(self.moment, now);
+        self.watching.pass(&*self.version, self.moment, to);
+        self.moment = to;
+    }
+}

@@ -1,0 +1,30 @@
+//! Datagrams that are no messages (RFC 7252 sections 3 and 4.2).
+ghost use Rattle.std.specs.Prelude.{◌≡◌, ◌<◌, length};
+ghost use Rattle.journal_model.specs.declared.steps.Step.{Step};
+ghost use Rattle.journal_model.specs.Rows.{unread_answered};
+ghost use Rattle.rd_desk.specs.declared.mids.Mids.{Mids};
+ghost use Rattle.rd_desk.specs.Outboxes.{most_datagrams};
+ghost use Rattle.rd_desk.specs.Sendings.{Sends};
+
+use crate::Outbox;
+use crate::empty_messages::send_empty;
+use coap_message::{Kind4, Unread};
+use rd_base::Peer;
+
+/// A confirmable message with a format error is rejected by a Reset. What else is no message is passed over.
+pub(crate) fn reject(peer: Peer, fault: Unread, out: &mut Outbox)
+    requires { length out.old < most_datagrams }
+    ensures { (s : Step) (mids : Mids) → s.peer ≡ peer → Sends (unread_answered s fault) out.old out.new mids mids }
+{
+    match fault {
+        Unread::Format(Kind4::Con, mid) => {
+            send_empty(peer, Kind4::Rst, mid, out);
+            return;
+        }
+        Unread::Format(Kind4::Non, _) => return,
+        Unread::Format(Kind4::Ack, _) => return,
+        Unread::Format(Kind4::Rst, _) => return,
+        Unread::Short => return,
+        Unread::Version => return,
+    }
+}
