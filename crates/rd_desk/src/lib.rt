@@ -35,3 +35,5 @@ pub use write_jobs::WriteJob;
 
 #[cfg(test)]
 mod tests;
+#[cfg(test)]
+mod watching_tests;
