@@ -1,0 +1,5 @@
+pub mod Fronts
+pub mod Steps
+pub mod Tries
+pub mod Contents
+pub mod Sampled
