@@ -1,5 +1,5 @@
 -- Beginnings of one list.
-use Rattle.std.proofs.Common.{◌≡◌, ◌⊎◌, inl, inr, ℕ, ◌≤◌, List, [], ◌∷◌, ◌++◌, length, refl, ap, sym, ◌∙◌, arith, append_assoc, length-append, ⊎_elim}
+use Rattle.std.proofs.Common.{◌≡◌, inl, inr, ◌≤◌, List, [], ◌∷◌, ◌++◌, length, refl, ap, sym, ◌∙◌, arith, append_assoc, ⊎_elim}
 use Rattle.std.proofs.lemmas.List.{append-nil}
 use mathlib.Core.List.{IsPrefix}
 use Rattle.version_board.specs.Books.{InOrder}
@@ -8,6 +8,7 @@ use Rattle.version_board.specs.Books.{InOrder}
 pub prefix_self : {A : Type 0} (xs : List A) → IsPrefix xs xs
 prefix_self xs = ([], append-nil xs)
 
+-- a beginning of a beginning is a beginning
 pub prefix_trans : {A : Type 0} (xs ys zs : List A) → IsPrefix xs ys → IsPrefix ys zs → IsPrefix xs zs
 prefix_trans xs ys zs p q = (p.0 ++ q.0, sym (append_assoc xs p.0 q.0) ∙ (ap (λ w. w ++ q.0) p.1 ∙ q.1))
 

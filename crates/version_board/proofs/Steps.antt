@@ -9,12 +9,14 @@ use Rattle.history_model.specs.declared.entries.Entry.{Entry}
 use Rattle.version_board.specs.Books.{IsKept, Enters}
 use Rattle.version_board.proofs.Fronts.{prefix_whole}
 
+-- the rule of a book shows nothing, and no answer moves anything
 abbrev pub shown : List Entry → List Entry
 shown log = []
 
 abbrev pub moved : List Entry → List Entry → ℕ → Type 0
 moved xs ys n = Unit {0}
 
+-- in a book with these entries the step enters one more, or finds another number than it expects
 pub enters_goes : (log v : List Entry) (e : Entry) (old new : ℕ) → length v ≡ old → new ≡ old + 1 → IsPrefix v log
     → (b : Bool) → (length log == old) ≡ b
     → Goes IsKept shown moved 0 (v, (no_nib, None)) (λ n. either (n == old) new n) (Enters (step 0 old new e) (v, (no_nib, None))) ((length log, true) ∷ (0, true) ∷ []) log

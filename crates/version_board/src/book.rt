@@ -1,5 +1,5 @@
 //! The book of a board: the list of the entries that were published, which only grows. It exists in contracts alone; of it the code has one word, the number of its entries.
-ghost use Rattle.std.specs.Prelude.{◌≡◌, ◌+◌, ◌∷◌, ◌++◌, [], true, length};
+ghost use Rattle.std.specs.Prelude.{◌≡◌, ◌≢◌, ◌+◌, ◌∷◌, ◌++◌, [], true, false, length};
 ghost use Rattle.version_board.specs.Books.{head_of, InOrder};
 
 use crate::entering::Entering;
@@ -35,7 +35,7 @@ pub type Front = Seen<Entry, u64, BookRule>;
 /// The word of a book: the number of its entries.
 pub(crate) type Head = Word<Entry, u64, BookRule>;
 
-/// Who enters trades nothing.
+/// What a step that enters an entry gains: nothing. No value of it is made.
 struct Nothing;
 
 impl Gain<Entry, u64> for Nothing {
@@ -81,13 +81,14 @@ pub(crate) fn compare(one: &Front, other: &Front)
     both.learn(other);
 }
 
-/// Enters the entry after those of the front, which are `old`, if the book has no others. Whether it did.
+/// Enters the entry after those of the front, if the book has no others. Whether it did; if not, the front has the others too. The front has `old` entries.
 fn try_enter<E: Entering>(head: &Head, front: &mut Front, old: u64, new: u64) -> bool
     requires head { head.now ≡ head_of front.old.book }
     requires old { old ≡ length front.old.log }
     requires new { new ≡ old + 1 }
     ensures book { front.new.book ≡ front.old.book }
     ensures entered { result ≡ true → front.new.log ≡ front.old.log ++ E.entered ∷ [] }
+    ensures longer { result ≡ false → length front.new.log ≢ old }
 {
     let mut offer: Offer<Entry, u64, BookRule, Nothing> = front.plain::<
         Nothing,
@@ -98,7 +99,7 @@ fn try_enter<E: Entering>(head: &Head, front: &mut Front, old: u64, new: u64) ->
     head.compare_exchange::<EnteringStep<E>, Nothing>(old, new, front, &mut offer, &mut pen) == old
 }
 
-/// Enters the entry after those of the front, which are `old`. Who enters is alone, so it takes one step.
+/// Enters the entry after those of the front, of which there are `old`. Who enters is alone, so it takes one step.
 pub(crate) fn enter<E: Entering, R: Wait>(
     rt: &R,
     head: &Head,

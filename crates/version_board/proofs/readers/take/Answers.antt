@@ -1,4 +1,4 @@
-use Rattle.std.proofs.Common.{◌≡◌, ℕ, true, List, sym, refl, ⊎_elim, ◌≢◌}
+use Rattle.std.proofs.Common.{◌≡◌, sym, refl, ⊎_elim, ◌≢◌}
 use mathlib.Core.Option.{some}
 use lib.ListN.{get_elem?}
 use Rattle.atomic_table.proofs.Lists.{at_set}

@@ -1,4 +1,4 @@
-use Rattle.std.proofs.Common.{◌≡◌, ◌∷◌, ◌++◌, [], drop, sym, ap, ◌∙◌}
+use Rattle.std.proofs.Common.{◌∷◌, ◌++◌, [], sym, ap, ◌∙◌}
 use Rattle.version_board.specs.Contents.{content_of}
 use Rattle.version_board.proofs.Contents.{content_same}
 use Rattle.version_board.proofs.Tries.{at_ok}

@@ -1,4 +1,4 @@
-use Rattle.std.proofs.Common.{◌≡◌, ◌≢◌, ℕ, ◌∷◌, [], ◌++◌, true, false, sym, refl, ap, subst, ◌∙◌, ⊎_elim, true≢false, List, set}
+use Rattle.std.proofs.Common.{◌≡◌, ◌≢◌, true, false, sym, ap, subst, ◌∙◌, ⊎_elim, true≢false, List, set}
 use mathlib.Core.Option.{some}
 use lib.ListN.{get_elem?}
 use Rattle.atomic_table.proofs.Lists.{at_set, at_snoc, set_again}
@@ -7,6 +7,7 @@ use Rattle.version_board.specs.Names.{name_of, knowing, unknown}
 use Rattle.version_board.specs.declared.readers.Known.{Known}
 use Rattle.version_board.proofs.writers.reader.Goals as goal
 
+-- a view that is unknown knows nothing
 nothing_known : (v : Known) → unknown ≡ v → v.known ≡ true → false ≡ true
 nothing_known v e k = ap (λ (u : Known). u.known) e ∙ k
 

@@ -1,6 +1,5 @@
-use Rattle.std.proofs.Common.{◌≡◌, sym, ap, ◌∙◌}
-use Rattle.left_right.specs.Sides.{view}
-use Rattle.version_board.specs.Names.{name_of, knowing}
+use Rattle.std.proofs.Common.{sym, ap, ◌∙◌}
+use Rattle.version_board.specs.Names.{name_of}
 use Rattle.version_board.proofs.writers.show.Goals as goal
 
 pub show_pending-requires-clause-pending : goal.show_pending-requires-clause-pending

@@ -1,4 +1,4 @@
-use Rattle.std.proofs.Common.{◌≡◌, ◌≢◌, ℕ, ◌∷◌, [], true, false, drop, sym, refl, ap, ◌∙◌, ⊎_elim, List}
+use Rattle.std.proofs.Common.{◌≡◌, ◌≢◌, false, sym, refl, ap, ◌∙◌, ⊎_elim}
 use Rattle.std.specs.Prelude.{is_ok}
 use Rattle.std.specs.List.{fold}
 use mathlib.Core.Option.{some}

@@ -1,5 +1,5 @@
-use Rattle.std.proofs.Common.{◌≡◌, ◌≢◌, ℕ, ◌∷◌, [], true, false, drop, sym, refl, ap, ◌∙◌, ⊎_elim, Result, Ok, Err, true≢false, List}
-use Rattle.std.specs.Prelude.{MatchResult, is_ok}
+use Rattle.std.proofs.Common.{◌≡◌, ◌≢◌, false, sym, refl, ap, ◌∙◌, ⊎_elim}
+use Rattle.std.specs.Prelude.{is_ok}
 use Rattle.std.specs.List.{fold}
 use mathlib.Core.Option.{some}
 use lib.ListN.{get_elem?}
@@ -7,7 +7,6 @@ use Rattle.atomic_table.proofs.Lists.{at_set}
 use Rattle.left_right.specs.Sides.{view}
 use Rattle.version_board.specs.Contents.{content_of}
 use Rattle.version_board.specs.Names.{name_of, knowing}
-use Rattle.version_board.specs.declared.readers.Known.{Known}
 use Rattle.version_board.specs.declared.published.Published.{Published}
 use Rattle.version_board.specs.declared.published.Content.{Content}
 use Rattle.version_board.proofs.Tries.{at_err}

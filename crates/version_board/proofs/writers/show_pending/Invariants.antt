@@ -1,7 +1,5 @@
-use Rattle.std.proofs.Common.{◌≡◌, ◌∷◌, [], drop}
+use Rattle.std.proofs.Common.{◌≡◌, drop}
 use Rattle.left_right.specs.Sides.{view}
-use Rattle.version_board.specs.Names.{name_of, knowing}
-use Rattle.version_board.specs.declared.published.Published.{Published}
 use Rattle.version_board.proofs.writers.show_pending.Given as goal
 
 abbrev pub invariant-tries : goal.invariant-tries
