@@ -10,8 +10,10 @@ mod datagrams;
 mod exchanges;
 mod leases;
 mod listings;
+mod looks;
 mod maps;
 mod registrations;
+mod sample_boards;
 mod tables;
 mod turns;
 
@@ -29,7 +31,8 @@ fn measured<R: Threads + Wait + Net + Sync>(rt: &HostRuntime, threads: &R) -> Re
     registrations::measured(rt)?;
     listings::measured(rt)?;
     turns::measured(rt, threads)?;
-    datagrams::measured(rt, threads)
+    datagrams::measured(rt, threads)?;
+    looks::measured(rt, threads)
 }
 
 fn main(rt: HostRuntime) {

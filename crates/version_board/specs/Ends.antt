@@ -1,0 +1,20 @@
+-- What contracts see of the ends of a board.
+use Rattle.std.specs.Prelude.{ℕ, List, [], Option}
+use Rattle.history_model.specs.Versions.{Version}
+use Rattle.history_model.specs.declared.entries.Entry.{Entry}
+
+-- a publisher: the name of its board, the entries of what is published, the version that is, and the one that comes next, where it is staged
+pub record PublisherSeen : Type 0 where
+  pub name : List ℕ
+  pub told : List Entry
+  pub published : Option Version
+  pub staged : Option Version
+
+-- a looker: the name of its board, and the entries that it has seen
+pub record LookerSeen : Type 0 where
+  pub name : List ℕ
+  pub seen : List Entry
+
+-- a looker that has seen nothing
+abbrev pub new_looker : List ℕ → LookerSeen
+new_looker name = record { name = name; seen = [] }

@@ -1,0 +1,5 @@
+pub mod Books
+pub mod Names
+pub mod Contents
+pub mod Ends
+pub mod Samples

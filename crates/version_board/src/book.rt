@@ -1,0 +1,123 @@
+//! The book of a board: the list of the entries that were published, which only grows. It exists in contracts alone; of it the code has one word, the number of its entries.
+ghost use Rattle.std.specs.Prelude.{◌≡◌, ◌≢◌, ◌+◌, ◌∷◌, ◌++◌, [], true, false, length};
+ghost use Rattle.version_board.specs.Books.{head_of, InOrder};
+
+use crate::entering::Entering;
+use history_model::Entry;
+use logbook::{Gain, Offer, Plain, Play, Rule, Seen, Start, Word};
+use std::marker::PhantomData;
+use std::sync::Wait;
+
+/// The rule of a book. No value of it is made.
+pub struct BookRule;
+
+impl Rule<Entry, u64> for BookRule {
+    ghost use Rattle.std.specs.Prelude.{[]};
+    ghost use base.Fml.{ftrue};
+    ghost use Rattle.version_board.specs.Books.{IsKept};
+
+    ghost holds = { λ cells log. IsKept cells log };
+
+    ghost first = { [] };
+
+    ghost hinted = { λ n log. Unit {0} };
+
+    ghost shows = { λ log. [] };
+
+    ghost keeps = { λ names log. ftrue };
+
+    ghost moves = { λ ask before after answer. Unit {0} };
+}
+
+/// The first entries of a book. It has no bytes.
+pub type Front = Seen<Entry, u64, BookRule>;
+
+/// The word of a book: the number of its entries.
+pub(crate) type Head = Word<Entry, u64, BookRule>;
+
+/// What a step that enters an entry gains: nothing. No value of it is made.
+struct Nothing;
+
+impl Gain<Entry, u64> for Nothing {
+    ghost use base.Fml.{ftrue};
+
+    ghost after = { λ names about answer. ftrue };
+}
+
+/// The step that enters an entry, or finds that the book is longer. No value of it is made.
+struct EnteringStep<E> {
+    marker: PhantomData<E>,
+}
+
+impl<E> Play<Entry, u64> for EnteringStep<E> {
+    ghost use Rattle.version_board.specs.Books.{Enters};
+
+    ghost then = { Enters };
+}
+
+impl<E: Entering> Plain<(), Entry, u64> for EnteringStep<E> {
+    ghost use Rattle.std.specs.Prelude.{None};
+
+    ghost ask = { λ _. E.entered };
+
+    ghost state = { λ _. None };
+}
+
+/// A new book without entries: its word, and its front.
+pub(crate) fn open() -> (Head, Front)
+    ensures head { result.0 ≡ head_of result.1.book }
+    ensures empty { result.1.log ≡ [] }
+{
+    let (front, mut pen, _other) = Seen::open(Start::alone(), 0, 0);
+    (Word::tracked(0, &mut pen), front)
+}
+
+/// Two fronts of one book are compared: one is the beginning of the other.
+pub(crate) fn compare(one: &Front, other: &Front)
+    requires { other.now.book ≡ one.now.book }
+    ensures { InOrder one.now.log other.now.log }
+{
+    let mut both = one.again();
+    both.learn(other);
+}
+
+/// Enters the entry after those of the front, if the book has no others. Whether it did; if not, the front has the others too. The front has `old` entries.
+fn try_enter<E: Entering>(head: &Head, front: &mut Front, old: u64, new: u64) -> bool
+    requires head { head.now ≡ head_of front.old.book }
+    requires old { old ≡ length front.old.log }
+    requires new { new ≡ old + 1 }
+    ensures book { front.new.book ≡ front.old.book }
+    ensures entered { result ≡ true → front.new.log ≡ front.old.log ++ E.entered ∷ [] }
+    ensures longer { result ≡ false → length front.new.log ≢ old }
+{
+    let mut offer: Offer<Entry, u64, BookRule, Nothing> = front.plain::<
+        Nothing,
+        (),
+        EnteringStep<E>,
+    >(&());
+    let mut pen = front.no_pen();
+    head.compare_exchange::<EnteringStep<E>, Nothing>(old, new, front, &mut offer, &mut pen) == old
+}
+
+/// Enters the entry after those of the front, of which there are `old`. Who enters is alone, so it takes one step.
+pub(crate) fn enter<E: Entering, R: Wait>(
+    rt: &R,
+    head: &Head,
+    front: &Front,
+    old: u64,
+    new: u64,
+) -> Front
+    requires head { head.now ≡ head_of front.now.book }
+    requires old { old ≡ length front.now.log }
+    requires new { new ≡ old + 1 }
+    ensures book { result.book ≡ front.now.book }
+    ensures entered { result.log ≡ front.now.log ++ E.entered ∷ [] }
+{
+    'steps: for _ in rt.forever() {
+        let mut longer = front.again();
+        if try_enter::<E>(head, &mut longer, old, new) {
+            return longer;
+        }
+    }
+    unreachable!()
+}

@@ -1,0 +1,122 @@
+//! A looker: it reads what is shown, and waits for nobody.
+ghost use Rattle.std.specs.Prelude.{◌≡◌, ◌≤◌, List, [], true, IfOk, IfErr};
+ghost use Rattle.std.specs.Arc.{arc_value};
+ghost use mathlib.Core.List.{IsPrefix};
+ghost use Rattle.left_right.specs.Sides.{view};
+ghost use Rattle.history_model.specs.Versions.{VersionStandsFor};
+ghost use Rattle.history_model.specs.declared.entries.Entry.{Entry};
+ghost use Rattle.version_board.specs.Books.{InOrder};
+ghost use Rattle.version_board.specs.Names.{name_of, knowing};
+ghost use Rattle.version_board.specs.Ends.{new_looker};
+
+use crate::book::{Front, compare};
+use crate::publisher::Publisher;
+use crate::readers::{BoardReader, read};
+use directory_core::Directory;
+use rd_base::Starved;
+use std::marker::Model;
+use std::mem;
+use std::sync::Arc;
+
+/// Who reads what is published. Contracts see the name of its board, and the entries that it has seen.
+#[derive(Drop)]
+pub struct Looker {
+    /// It is there between any two calls.
+    reader: Option<BoardReader>,
+    /// The entries that it has seen. They have no bytes.
+    front: Front,
+    /// How many they are.
+    entries: u64,
+}
+
+impl Model for Looker {
+    ghost use Rattle.std.specs.Prelude.{◌≡◌, length, IsSome, IfSome};
+    ghost use Rattle.left_right.specs.Sides.{view as known_at};
+    ghost use Rattle.version_board.specs.Names.{name_of, knowing};
+    ghost use Rattle.version_board.specs.Ends.{LookerSeen};
+
+    ghost Value = { LookerSeen };
+
+    ghost view = { λ l. record { name = name_of l.front.book; seen = l.front.log } };
+
+    ghost invariant = { λ l. IsSome l.reader × IfSome l.reader (λ reader. known_at reader.place ≡ knowing (name_of l.front.book)) × (l.entries ≡ length l.front.log) };
+}
+
+impl Looker {
+    /// A looker that has seen nothing.
+    pub(crate) fn of(reader: BoardReader, front: Front) -> Looker
+        requires reader { view reader.place ≡ knowing (name_of front.book) }
+        requires none { front.log ≡ [] }
+        ensures { result ≡ new_looker (name_of front.book) }
+    {
+        Looker {
+            reader: Some(reader),
+            front,
+            entries: 0,
+        }
+    }
+
+    /// The version that was published last, or Starved where its owners are too many to count one more, or where the board has ended. It waits for nobody.
+    ///
+    /// The version has all entries that the looker had seen, and from then on the looker has seen all of its entries.
+    #[tactic(auto, using(crate::proofs::Fronts::shorter_first))]
+    pub fn look(&mut self) -> Result<Arc<Directory>, Starved>
+        ensures name { self.new.name ≡ self.old.name }
+        ensures seen { IsPrefix self.old.seen self.new.seen }
+        ensures stands { IfOk result (λ version. VersionStandsFor 0 self.new.seen (arc_value version)) }
+        ensures unswept { IfOk result (λ version. (arc_value version).swept ≤ (arc_value version).at) }
+        ensures starved { IfErr result (λ _. self.new.seen ≡ self.old.seen) }
+    {
+        let held = mem::replace(&mut self.reader, None);
+        let Some(reader) = held else { unreachable!() };
+        let (reader, shown) = read(reader, &self.front);
+        self.reader = Some(reader);
+        let Some(shown) = shown else {
+            return Err(Starved);
+        };
+        // What is shown is never older than what was shown before, though no clause of its readers says so.
+        let entries = shown.version.entries();
+        if entries < self.entries {
+            return Err(Starved);
+        }
+        compare(&self.front, &shown.front);
+        self.front = shown.front;
+        self.entries = entries;
+        Ok(shown.version)
+    }
+
+    /// The looker has seen, from then on, all that the publisher has published.
+    ///
+    /// Each beginning of what the looker had seen is also the beginning of what is published, or has all of that as its beginning: so no version that the looker gave before has an entry where the published one has another.
+    pub fn meet(&mut self, publisher: &mut Publisher)
+        requires name { self.old.name ≡ publisher.old.name }
+        ensures publisher { publisher.new ≡ publisher.old }
+        ensures name { self.new.name ≡ self.old.name }
+        ensures seen { IsPrefix self.old.seen self.new.seen }
+        ensures met { IsPrefix publisher.old.told self.new.seen }
+        ensures order { (entries : List Entry) → IsPrefix entries self.old.seen → InOrder entries publisher.old.told }
+    {
+        let (told, entries) = publisher.front();
+        compare(&self.front, told);
+        if self.entries < entries {
+            self.front = told.again();
+            self.entries = entries;
+        }
+    }
+}
+
+#[cfg(test)]
+impl Looker {
+    /// Its reader.
+    pub(crate) fn into_reader(self) -> BoardReader
+        ensures { (view result.place).known ≡ true }
+    {
+        let Looker {
+            reader: held,
+            front: _front,
+            entries: _,
+        } = self;
+        let Some(reader) = held else { unreachable!() };
+        reader
+    }
+}

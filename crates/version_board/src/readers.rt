@@ -1,0 +1,68 @@
+//! Readers of what is shown, and what they know.
+ghost use Rattle.std.specs.Prelude.{◌≡◌, true, IfOk, IfErr, IfSome};
+ghost use Rattle.left_right.specs.Sides.{view};
+ghost use Rattle.version_board.specs.Names.{name_of, knowing};
+
+use crate::book::Front;
+use crate::published::Published;
+use crossbeam_utils::rule::{Outcome, Protocol};
+use left_right::reader::{Reader, Reading};
+use std::collections::LinkedList;
+
+/// What an end of a board knows of the board's name. No value of it is made.
+pub struct Known {
+    /// Whether it knows it.
+    pub known: bool,
+    /// The name.
+    pub name: LinkedList<u64>,
+}
+
+/// The rule of what is shown: who knows a name knows that of the board. No value of it is made.
+pub struct BoardRule;
+
+impl Protocol<Published, Known> for BoardRule {
+    ghost use Rattle.version_board.specs.Names.{AllKnow, unknown};
+
+    ghost holds = { AllKnow };
+
+    ghost first = { unknown };
+}
+
+/// The step of a reader that takes what is shown.
+struct TakeShown;
+
+impl Outcome<Published, Known> for TakeShown {
+    ghost use Rattle.version_board.specs.Names.{Takes};
+
+    ghost then = { Takes };
+}
+
+/// A reader of what is shown.
+pub(crate) type BoardReader = Reader<Published, Known, BoardRule>;
+
+/// A reader with what it has taken.
+pub(crate) type BoardReading = Reading<Published, Known, BoardRule>;
+
+/// Takes what is shown. The reader comes back where the board has ended.
+pub(crate) fn take(reader: BoardReader) -> Result<BoardReading, BoardReader>
+    requires known { (view reader.place).known ≡ true }
+    ensures taken { IfOk result (λ reading. (view reading.place ≡ view reader.place) × (view reader.place ≡ knowing (name_of reading.part.value.front.book))) }
+    ensures back { IfErr result (λ back. view back.place ≡ view reader.place) }
+{
+    reader.enter_as::<TakeShown>()
+}
+
+/// A copy of what is shown, where there is something and its version can be shared.
+pub(crate) fn read(reader: BoardReader, mine: &Front) -> (BoardReader, Option<Published>)
+    requires { view reader.place ≡ knowing (name_of mine.now.book) }
+    ensures reader { view result.0.place ≡ view reader.place }
+    ensures book { IfSome result.1 (λ shown. shown.front.book ≡ mine.now.book) }
+{
+    match take(reader) {
+        Ok(reading) => {
+            let shown = reading.get().share().ok();
+            (reading.leave(), shown)
+        }
+        Err(reader) => (reader, None),
+    }
+}
