@@ -6,7 +6,9 @@
 #![tactic(auto)]
 
 mod attributes;
+mod blocks;
 mod datagrams;
+mod directories;
 mod exchanges;
 mod leases;
 mod listings;
@@ -25,11 +27,13 @@ use tables::Trouble;
 /// Measures all calls, one after another. `threads` starts threads, waits and opens sockets.
 fn measured<R: Threads + Wait + Net + Sync>(rt: &HostRuntime, threads: &R) -> Result<(), Trouble> {
     exchanges::measured(rt)?;
+    blocks::measured(rt)?;
     maps::measured(rt)?;
     leases::measured(rt)?;
     attributes::measured(rt)?;
     registrations::measured(rt)?;
     listings::measured(rt)?;
+    directories::measured(rt)?;
     turns::measured(rt, threads)?;
     datagrams::measured(rt, threads)?;
     looks::measured(rt, threads)
