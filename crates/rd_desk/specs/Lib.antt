@@ -15,3 +15,4 @@ pub mod UnderWay
 pub mod KeepJobs
 pub mod Looking
 pub mod Stepping
+pub mod Shown

@@ -3,6 +3,7 @@
 
 mod admissions;
 mod bodies;
+mod desk;
 mod empty_messages;
 mod heard_empties;
 mod heard_writes;
@@ -25,6 +26,7 @@ mod watching;
 mod write_jobs;
 
 pub use admissions::Admitted;
+pub use desk::Desk;
 pub use keep_jobs::KeepJob;
 pub use looks::{Looked, look};
 pub use mids::Mids;

@@ -1,0 +1,98 @@
+//! The core of the directory: one call is one step, and does what the journal says of its row (RFC 9176, RFC 7252, RFC 7641, RFC 7959).
+ghost use Rattle.std.specs.Prelude.{◌≡◌, ◌≤◌, ◌^◌, ℕ, Bool, false, true, [], List, None, IfOk, IfSome, length, option_map, slice_get};
+ghost use Rattle.std.specs.Arc.{arc_value};
+ghost use Rattle.event_model.specs.Observers.{max_observers};
+ghost use Rattle.journal_model.specs.declared.steps.Step.{Step};
+ghost use Rattle.journal_model.specs.declared.steps.StepKind.TheVariants as step;
+ghost use Rattle.journal_model.specs.declared.rows.Row.{Row};
+ghost use Rattle.journal_model.specs.Rows.{row};
+ghost use Rattle.rd_desk.specs.Desks.{StandsFor};
+ghost use Rattle.rd_desk.specs.Shown.{AreToldOf};
+ghost use Rattle.rd_desk.specs.Stepping.{is_starved_step};
+ghost use Rattle.rd_desk.specs.UnderWay.{IsCalled, Made};
+
+use crate::tables::Tables;
+use crate::{KeepJob, Mids, Outbox, Stepped};
+use directory_core::{Board, Directory};
+use rd_base::{Moment, Starved};
+use std::alloc::Global;
+use std::marker::Model;
+use std::sync::Arc;
+
+/// A directory. Contracts see what it keeps, which says the journal that it stands for, and the board that its versions are laid on.
+#[derive(Drop)]
+pub struct Desk<B: Board + Drop> {
+    /// Where its memory comes from.
+    alloc: Global,
+    /// What it keeps.
+    tables: Tables,
+    /// Where a version with an entry is laid, to be published after the step that made it.
+    board: B,
+}
+
+impl<B: Board + Drop> Model for Desk<B> {
+    ghost use Rattle.rd_desk.specs.Shown.{Shown};
+
+    ghost Value = { Shown B };
+
+    ghost view = { λ d. record { tables = d.tables; board = d.board } };
+}
+
+impl<B: Board + Drop> Desk<B> {
+    /// A directory in which nothing was done, with all the room that its tables take. Nothing is staged on the board, and its entries, where it tells them, are none.
+    /// `Starved`: out of memory.
+    pub fn make(alloc: Global, board: B) -> Result<Desk<B>, Starved>
+        requires free { B.has_staged board ≡ false }
+        requires told { IfSome (B.told board) (λ history. history ≡ []) }
+        ensures stands { IfOk result (λ desk. StandsFor [] desk.tables) }
+        ensures board { IfOk result (λ desk. desk.board ≡ board) }
+    {
+        let tables = Tables::make(alloc)?;
+        Ok(Desk {
+            alloc,
+            tables,
+            board,
+        })
+    }
+
+    /// The step that does the job to keep a listing, at a moment in milliseconds that is at most 10^15; one below that of the directory is lifted to it. `out` is empty, and gets
+    /// what is sent: the block of the listing that was asked for (RFC 7959 section 2.4). `Starved`: out of memory; nothing is kept, and the request is answered 5.00.
+    pub fn keep(
+        &mut self,
+        now: Moment,
+        mids: &mut Mids,
+        job: KeepJob,
+        out: &mut Outbox,
+    ) -> Stepped
+        requires moment { now.0 ≤ 10 ^ 15 }
+        requires empty { out.old ≡ [] }
+        requires free { B.has_staged self.old.board ≡ false }
+        requires told { AreToldOf self.old.tables.version (B.told self.old.board) }
+        ensures made { (rows : List Row) (s : Step) → s.kind ≡ step.Keep job.answer.body job.answer.tag → s.peer ≡ job.peer → s.datagram ≡ job.datagram → IsCalled rows s now mids.old self.old.tables
+            → Made rows (row rows s (is_starved_step result)) self.new.tables out.new mids.old mids.new }
+        ensures board { self.new.board ≡ self.old.board }
+    {
+        self.tables.keep(self.alloc, now, mids, job, out)
+    }
+
+    /// The version of the registrations now.
+    pub fn version(&self) -> &Arc<Directory>
+        ensures { arc_value result.now ≡ self.now.tables.version }
+    {
+        &self.tables.version
+    }
+
+    /// The greatest moment that was handed in, in milliseconds.
+    pub fn moment(&self) -> Moment
+        ensures { result.0 ≡ self.now.tables.moment }
+    {
+        self.tables.moment
+    }
+
+    /// How many observers there are.
+    pub fn watchers(&self) -> usize
+        ensures { result ≡ length self.now.tables.watching.observers }
+    {
+        self.tables.watching.len()
+    }
+}
