@@ -16,3 +16,4 @@ pub mod KeepJobs
 pub mod Looking
 pub mod Stepping
 pub mod Shown
+pub mod Watchers

@@ -1,18 +1,23 @@
 //! The core of the directory: one call is one step, and does what the journal says of its row (RFC 9176, RFC 7252, RFC 7641, RFC 7959).
 ghost use Rattle.std.specs.Prelude.{◌≡◌, ◌≤◌, ◌^◌, ℕ, Bool, false, true, [], List, None, IfOk, IfSome, length, option_map, slice_get};
 ghost use Rattle.std.specs.Arc.{arc_value};
-ghost use Rattle.event_model.specs.Observers.{max_observers};
+ghost use Rattle.std.specs.Borrow.{Lends, sem};
+ghost use Rattle.event_model.specs.declared.notes.Observer.{Observer as Observed};
+ghost use Rattle.event_model.specs.Observers.{observers};
 ghost use Rattle.journal_model.specs.declared.steps.Step.{Step};
 ghost use Rattle.journal_model.specs.declared.steps.StepKind.TheVariants as step;
 ghost use Rattle.journal_model.specs.declared.rows.Row.{Row};
+ghost use Rattle.journal_model.specs.Journal.{events};
 ghost use Rattle.journal_model.specs.Rows.{row};
+ghost use Rattle.observers.specs.Watchers.{Watcher as Kept};
 ghost use Rattle.rd_desk.specs.Desks.{StandsFor};
 ghost use Rattle.rd_desk.specs.Shown.{AreToldOf};
 ghost use Rattle.rd_desk.specs.Stepping.{is_starved_step};
 ghost use Rattle.rd_desk.specs.UnderWay.{IsCalled, Made};
+ghost use Rattle.rd_desk.specs.Watchers.{IsShownAs, IsObserverAfter};
 
 use crate::tables::Tables;
-use crate::{KeepJob, Mids, Outbox, Stepped};
+use crate::{KeepJob, Mids, Outbox, Stepped, Watcher};
 use directory_core::{Board, Directory};
 use rd_base::{Moment, Starved};
 use std::alloc::Global;
@@ -39,6 +44,8 @@ impl<B: Board + Drop> Model for Desk<B> {
 }
 
 impl<B: Board + Drop> Desk<B> {
+    ghost use Rattle.rd_desk.specs.contracts.desk.Desk.{the_row};
+
     /// A directory in which nothing was done, with all the room that its tables take. Nothing is staged on the board, and its entries, where it tells them, are none.
     /// `Starved`: out of memory.
     pub fn make(alloc: Global, board: B) -> Result<Desk<B>, Starved>
@@ -89,10 +96,27 @@ impl<B: Board + Drop> Desk<B> {
         self.tables.moment
     }
 
+    /// The observer with an index, in the order in which they joined; none from their number on.
+    pub fn observer(&self, index: usize) -> Option<Watcher>
+        ensures shown { (x : Kept) → slice_get self.now.tables.watching.observers index ≡ Some x → IfSome result (IsShownAs x) }
+        ensures none { slice_get self.now.tables.watching.observers index ≡ None → result ≡ None }
+        ensures observer { (rows : List Row) (o : Observed) → StandsFor rows self.now.tables → slice_get (observers (events rows)) index ≡ Some o → IfSome result (IsObserverAfter rows o) }
+    {
+        self.tables.observer(index)
+    }
+
     /// How many observers there are.
     pub fn watchers(&self) -> usize
         ensures { result ≡ length self.now.tables.watching.observers }
     {
         self.tables.watching.len()
+    }
+
+    /// The board. What the desk keeps stays as it is, and the board is what the reference leaves.
+    pub fn board(&mut self) -> &mut B
+        ensures value { result.now ≡ self.old.board }
+        ensures* writes_back { sem 𝓛 (Lends (the_row B.row B.Board) B.row self.entry result (λ (board : B). record { tables = self.old.tables; board = board })) }
+    {
+        &mut self.board
     }
 }

@@ -22,6 +22,7 @@ mod server_errors;
 mod steps;
 mod tables;
 mod unread_datagrams;
+mod watchers;
 mod watching;
 mod write_jobs;
 
@@ -33,6 +34,7 @@ pub use mids::Mids;
 pub use outbox::Outbox;
 pub use requests::is_look;
 pub use steps::Stepped;
+pub use watchers::Watcher;
 pub use write_jobs::WriteJob;
 
 #[cfg(test)]
