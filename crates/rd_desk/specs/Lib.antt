@@ -12,6 +12,7 @@ pub mod Joining
 pub mod Noticing
 pub mod Desks
 pub mod UnderWay
+pub mod Outcomes
 pub mod KeepJobs
 pub mod Looking
 pub mod Stepping

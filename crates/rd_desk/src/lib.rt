@@ -4,6 +4,7 @@
 mod admissions;
 mod bodies;
 mod empty_messages;
+mod entries;
 mod heard_empties;
 mod heard_writes;
 mod joining;
@@ -13,6 +14,7 @@ mod looks;
 mod marks;
 mod mids;
 mod outbox;
+mod outcomes;
 mod refusals;
 mod refused_requests;
 mod replies;

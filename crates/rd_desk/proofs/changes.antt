@@ -1,0 +1,3 @@
+pub mod OutcomeLaws
+pub mod EntryLaws
+pub mod SettlingLaws
