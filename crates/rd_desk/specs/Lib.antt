@@ -13,6 +13,7 @@ pub mod Noticing
 pub mod Desks
 pub mod UnderWay
 pub mod Outcomes
+pub mod Committing
 pub mod KeepJobs
 pub mod Looking
 pub mod Stepping

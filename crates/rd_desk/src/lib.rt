@@ -20,6 +20,7 @@ mod refused_requests;
 mod replies;
 mod requests;
 mod server_errors;
+mod settling;
 mod steps;
 mod tables;
 mod unread_datagrams;

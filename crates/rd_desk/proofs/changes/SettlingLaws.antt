@@ -9,11 +9,8 @@ use Rattle.journal_model.specs.declared.steps.Step.{Step}
 use Rattle.journal_model.specs.Changes.{Outcome}
 use Rattle.journal_model.specs.Commits.{settling}
 use Rattle.journal_model.specs.Effects.{Effects, Reply, nothing, joined, noting, drawn_for, answer, answering}
+use Rattle.rd_desk.specs.Committing.{answering_settled}
 use Rattle.rd_desk.proofs.parts.EffectLaws.{effects_same}
-
--- a request is answered, and its write is settled by that
-abbrev pub answering_settled : ℕ → Step → Message → Reply → Effects
-answering_settled place s m reply = answering s m reply (note.Settled place (spelling (answer s m reply)) ∷ [])
 
 -- what comes of a write is settled by its answer and its notes
 settling_same : (place : ℕ) (s : Step) (m : Message) (reply : Reply) (notes : List Note) (meant : Outcome) → reply ≡ meant.reply → notes ≡ meant.notes → settling place s m (record { reply = reply; notes = notes }) ≡ settling place s m meant
