@@ -9,6 +9,7 @@ pub mod Admitting
 pub mod Marks
 pub mod Entering
 pub mod Joining
+pub mod Lookups
 pub mod Noticing
 pub mod Desks
 pub mod UnderWay

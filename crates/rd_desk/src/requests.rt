@@ -7,7 +7,7 @@ ghost use Rattle.coap_message.specs.Views.{message_in};
 ghost use Rattle.coap_options.specs.Meanings.{IsMeaning, HasShortBlocks, HasReadableBlocks};
 ghost use Rattle.journal_model.specs.Requests as requests_of;
 ghost use Rattle.journal_model.specs.Machine.{is_look_datagram};
-ghost use Rattle.rd_desk.specs.Asking.{is_plain_lookup, refused_with, IsRefusedBy};
+ghost use Rattle.rd_desk.specs.Asking.{begins_observation, is_plain_lookup, refused_with, IsRefusedBy};
 
 use block_wise::block_read;
 use coap_message::{View, role_of, view};
@@ -66,7 +66,7 @@ pub(crate) fn asked_block(meaning: &Meaning<'_>) -> Option<Block>
 }
 
 /// Whether that block comes after the first.
-fn is_later_block(meaning: &Meaning<'_>) -> bool
+pub(crate) fn is_later_block(meaning: &Meaning<'_>) -> bool
     requires short { HasShortBlocks meaning.now }
     ensures { (m : Message) → IsMeaning m meaning.now → result ≡ requests_of.is_later_block m }
 {
@@ -83,6 +83,16 @@ fn is_heeded(observe: Option<u32>) -> bool
     match observe {
         None => false,
         Some(value) => value == 0 || value == 1,
+    }
+}
+
+/// Whether the value of Observe begins an observation (RFC 7641 section 2).
+pub(crate) fn begins_observation(observe: Option<u32>) -> bool
+    ensures { result ≡ begins_observation observe }
+{
+    match observe {
+        None => false,
+        Some(value) => value == 0,
     }
 }
 
