@@ -10,3 +10,6 @@ pub mod WriteLaws
 pub mod EmptyMessageLaws
 pub mod KeepLaws
 pub mod AdmissionLaws
+pub mod ForgottenLaws
+pub mod LookupLaws
+pub mod HearingLaws

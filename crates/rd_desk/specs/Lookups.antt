@@ -68,12 +68,12 @@ abbrev pub value_given : Bool → List Event → Option ℕ
 value_given added events = if added then Some (observe_value events) else None
 
 -- who asks to observe, by the request, and the body that it is answered with
-pub record IsJoining (peer : Peer) (m : Message) (body : List ℕ) (j : Joining) : Type 0 where
+pub record IsJoining (peer : Peer) (m : Message) (octets : List ℕ) (j : Joining) : Type 0 where
   pub peer_is : j.peer ≡ peer
   pub token : j.token ≡ m.token
   pub key : j.key ≡ key_in m
   pub szx : j.szx ≡ szx_of (asked_block m)
-  pub body : arc_value j.body ≡ body
+  pub body : arc_value j.body ≡ octets
 
 -- a further block of the answer that is kept under a peer and a key was sent, which is a use of it
 pub record IsUsed (at moment : ℕ) (peer : Peer) (key : List ℕ) (m : Message) (events : List Event) (after : Table) (out sent : List (Peer × List ℕ)) (mids_before mids : Mids) : Type 0 where

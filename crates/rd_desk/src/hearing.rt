@@ -13,26 +13,25 @@ ghost use Rattle.journal_model.specs.Effects.{nothing};
 ghost use Rattle.journal_model.specs.Machine.{is_look_message, is_look_datagram};
 ghost use Rattle.journal_model.specs.Requests as requests_of;
 ghost use Rattle.journal_model.specs.Rows.{message_effects, row_moment, row};
-ghost use Rattle.rd_desk.specs.Admitting.{is_starved_admission, IsHeldFor, message_takes, takes_memory};
+ghost use Rattle.rd_desk.specs.Admitting.{is_starved_admission, IsHeldFor, jobless, message_takes, takes_memory};
 ghost use Rattle.rd_desk.specs.Outboxes.{most_datagrams};
 ghost use Rattle.rd_desk.specs.UnderWay.{UnderWay, IsCalled, Made};
 
 use crate::empty_messages::send_empty;
 use crate::refused_requests::refuse;
-use crate::requests::asked;
+use crate::requests::{asked, is_lookup, is_write};
 use crate::tables::Tables;
 use crate::unread_datagrams::reject;
 use crate::{Admitted, Mids, Outbox, Stepped};
 use coap_message::{Kind4, View, role_of, view};
-use coap_options::{Meaning, Path};
+use coap_options::Meaning;
 use message_model::Role;
 use rd_base::{Moment, Peer};
 use std::alloc::Global;
 
 /// What comes of a datagram that leaves no job.
 fn without_job(stepped: Stepped) -> Admitted
-    ensures starved { is_starved_admission result ≡ is_starved_step stepped }
-    ensures held { result ≡ admitted_by stepped }
+    ensures { result ≡ jobless stepped }
 {
     match stepped {
         Stepped::Done => Admitted::Done,
@@ -65,14 +64,13 @@ impl Tables {
         ensures unstarved { (rows : List Row) (s : Step) → s.peer ≡ peer → UnderWay rows s false nothing self.old out.old mids.old
             → message_takes role.Request rows (row_moment rows s) s (message_in meaning.now.view) ≡ false → is_starved_admission result ≡ false }
     {
-        match meaning.path {
-            Path::Res | Path::Ep => without_job(self.hear_lookup(alloc, mids, peer, meaning, out)),
-            Path::SimpleRd | Path::Rd | Path::Location(_) => {
-                self.hear_write(alloc, mids, peer, &meaning.view, datagram, out)
-            }
-            Path::Core => unreachable!(),
-            Path::Other => Admitted::Done,
+        if is_lookup(&meaning.path) {
+            return without_job(self.hear_lookup(alloc, mids, peer, meaning, out));
         }
+        if is_write(&meaning.path) {
+            return self.hear_write(alloc, mids, peer, &meaning.view, datagram, out);
+        }
+        Admitted::Done
     }
 
     /// A request that does not only look: it is refused for itself, or served.

@@ -7,7 +7,7 @@ ghost use Rattle.coap_message.specs.Views.{message_in};
 ghost use Rattle.coap_options.specs.Meanings.{IsMeaning, HasShortBlocks, HasReadableBlocks};
 ghost use Rattle.journal_model.specs.Requests as requests_of;
 ghost use Rattle.journal_model.specs.Machine.{is_look_datagram};
-ghost use Rattle.rd_desk.specs.Asking.{begins_observation, is_plain_lookup, refused_with, IsRefusedBy};
+ghost use Rattle.rd_desk.specs.Asking.{begins_observation, is_plain_lookup, is_write_path, refused_with, IsRefusedBy};
 
 use block_wise::block_read;
 use coap_message::{View, role_of, view};
@@ -97,12 +97,22 @@ pub(crate) fn begins_observation(observe: Option<u32>) -> bool
 }
 
 /// Whether the path is that of a lookup of resources or of endpoints (RFC 9176 section 6).
-fn is_lookup(path: &Path) -> bool
+pub(crate) fn is_lookup(path: &Path) -> bool
     ensures { result ≡ requests_of.is_lookup path.now }
 {
     match path {
         Path::Res | Path::Ep => true,
         Path::Core | Path::SimpleRd | Path::Rd | Path::Location(_) | Path::Other => false,
+    }
+}
+
+/// Whether it is that of a registration, a simple registration, or a request on a registration (RFC 9176 sections 5, 5.1 and 5.3).
+pub(crate) fn is_write(path: &Path) -> bool
+    ensures { result ≡ is_write_path path.now }
+{
+    match path {
+        Path::SimpleRd | Path::Rd | Path::Location(_) => true,
+        Path::Core | Path::Res | Path::Ep | Path::Other => false,
     }
 }
 

@@ -1,9 +1,11 @@
 -- What a lookup does that the journal takes part in, part by part (RFC 7959 section 2.4, RFC 7641 sections 3 and 4.1).
-use Rattle.std.proofs.Common.{◌≡◌, ℕ, ◌+◌, ◌%◌, ◌^◌, ◌<◌, ◌||◌, ◌&&◌, ◌==◌, not, Bool, true, false, List, [], ◌∷◌, ◌++◌, length, map, Option, Some, None, is_some, refl, sym, ap, subst, ◌∙◌, append-nil, append_assoc, arith, if◌then◌else◌}
+use Rattle.std.proofs.Common.{◌≡◌, ℕ, ◌+◌, ◌%◌, ◌^◌, ◌<◌, ◌||◌, ◌&&◌, ◌==◌, not, Bool, true, false, List, [], ◌∷◌, ◌++◌, length, map, Option, Some, None, is_some, Result, IfOk, refl, sym, ap, subst, ◌∙◌, append-nil, append_assoc, arith, if◌then◌else◌}
 use Rattle.std.specs.Prelude.{count_by}
 use Rattle.std.specs.Arc.{arc_value}
 use Rattle.std.specs.List.{list_any}
 use Rattle.std.proofs.lemmas.Bool.{false≢true}
+use Rattle.std.proofs.lemmas.Result.{IfOk-weaker}
+use Rattle.rd_base.specs.declared.out_of_memory.Starved.{Starved}
 use Rattle.rd_base.specs.declared.peers.Peer.{Peer}
 use Rattle.rd_base.specs.declared.queries.Query.{Query}
 use Rattle.message_model.specs.declared.blocks.Block.{Block}
@@ -36,22 +38,29 @@ use Rattle.journal_model.proofs.UnfinishedRowLaws.{now-making, events-making_not
 use Rattle.transfers.specs.TransferEvents.{Table, UploadsStandFor, AnswersStandFor, TransfersStandFor}
 use Rattle.transfers.proofs.TransferLaws.{UploadsStandFor-noted}
 use Rattle.rd_desk.specs.declared.joining.Joining.{Joining}
+use Rattle.rd_desk.specs.declared.listings.Formed.{Formed}
 use Rattle.rd_desk.specs.declared.mids.Mids.{Mids}
 use Rattle.rd_desk.specs.Asking.{begins_observation}
 use Rattle.rd_desk.specs.Desks.{Seen}
 use Rattle.rd_desk.specs.Joining.{observer_joining, joining_notes}
-use Rattle.rd_desk.specs.Lookups.{answer_at, has_asked_block, AreWith, IsJoining, IsUsed, kept_if, giving, value_given, lookup_heard}
+use Rattle.rd_desk.specs.Lookups.{answer_listed, answer_at, has_asked_block, AreWith, IsFormed, IsJoining, IsUsed, kept_if, giving, value_given, lookup_heard}
 use Rattle.rd_desk.specs.Sendings.{IsStepOf, Sends}
 use Rattle.rd_desk.specs.UnderWay.{UnderWay}
 use Rattle.rd_desk.specs.Watching.{Watching, WatchingStandsFor}
 use Rattle.rd_desk.proofs.answers.SendingLaws.{sends_notes}
-use Rattle.rd_desk.proofs.parts.EffectLaws.{effects_same}
+use Rattle.rd_desk.proofs.parts.EffectLaws.{effects_same, joined-nothing_first}
 use Rattle.rd_desk.proofs.parts.MakingLaws.{entries-making_nothing}
 use Rattle.rd_desk.proofs.parts.NoteTopics as topic
 use Rattle.rd_desk.proofs.parts.NoteTopics.{AreAbout}
 use Rattle.rd_desk.proofs.parts.PartLaws.{more_transfers, more_watching, more_unformed, more_silent, only_silent}
 use Rattle.rd_desk.proofs.parts.WayLaws.{noting_more, way_moment, step_of, only}
 use Rattle.rd_desk.proofs.parts.WriteLaws.{without_memory-notes}
+
+-- an answer by its parts
+pub answer_same : (one other : Answer) → one.body ≡ other.body → one.tag ≡ other.tag → one ≡ other
+answer_same one other whole current =
+    let made = λ (b t : List ℕ). let a : Answer = record { body = b; tag = t } in a in
+    ap (λ (b : List ℕ). made b one.tag) whole ∙ ap (λ (t : List ℕ). made other.body t) current
 
 -- ---- a body is given
 
@@ -102,6 +111,15 @@ given_kept rows s starved done x d t answers out sent mids_before mids sender m 
     (UploadsStandFor-noted (row_moment rows s) x.transfers.uploads (length rows) (row_moment rows s) s.word e.notes past no_upload h.uploads) (kept h.answers))
     (sends_giving true observe s m answer shown out sent mids_before mids same (λ ns. sends s ns (step_of rows s starved done d out mids_before sender of undrawn way))) way)
 
+-- what was formed is the listing now, to be kept as a test of it says
+pub formed_now : (test : Option Block → List ℕ → Bool) (keep : Bool) (asked : Option Block) (shown : List ℕ) (given meant : Answer) (m : Message) (r : Result Formed Starved) → keep ≡ test asked shown → asked ≡ asked_block m → shown ≡ given.body
+    → given ≡ meant → IfOk r (IsFormed keep given) → IfOk r (IsFormed (test (asked_block m) meant.body) meant)
+formed_now test keep asked shown given meant m r tested block whole same =
+    IfOk-weaker r (IsFormed keep given) (IsFormed (test (asked_block m) meant.body) meant) (λ f h. record {
+      listed = h.listed ∙ same;
+      kept = h.kept ∙ (tested ∙ (ap (λ (b : Option Block). test b shown) block ∙ ap (λ (b : List ℕ). test (asked_block m) b) (whole ∙ ap (λ (a : Answer). a.body) same)));
+    })
+
 -- ---- what is done first, and then given
 
 noted_first : (notes more : List Note) (s : Step) (m : Message) (reply : Reply) → joined (noting notes) (answering s m reply more) ≡ answering s m reply (notes ++ more)
@@ -110,9 +128,6 @@ noted_first notes more s m reply =
     let n : 0 + (answering s m reply (notes ++ more)).drew ≡ (answering s m reply (notes ++ more)).drew = omega arith in
     effects_same (joined (noting notes) (answering s m reply more)) (answering s m reply (notes ++ more)) refl refl n
 
-nothing_first : (more : List Note) (s : Step) (m : Message) (reply : Reply) → joined nothing (answering s m reply more) ≡ answering s m reply more
-nothing_first more s m reply = noted_first [] more s m reply
-
 -- an answer that is longer than a block is kept
 keeping-is : (s : Step) (m : Message) (answer : Answer) → kept_if (is_long (asked_block m) answer.body) s m answer ≡ keeping s m answer
 keeping-is s m answer = by (is_long (asked_block m) answer.body)
@@ -120,6 +135,15 @@ keeping-is s m answer = by (is_long (asked_block m) answer.body)
     by : (b : Bool) → kept_if b s m answer ≡ (if b then note.Kept s.peer (key_in m) answer.body answer.tag ∷ [] else [])
     by true = refl
     by false = refl
+
+answering-notes : (notes : List Note) (s : Step) (m : Message) (reply : Reply) → (answering s m reply notes).notes ≡ notes
+unfolding answering
+answering-notes notes s m reply = refl
+
+-- what was formed is given as the answer that it is
+formed-giving : (keep : Bool) (observe : Option ℕ) (s : Step) (m : Message) (answer : Answer) (f : Formed) → IsFormed keep answer f → giving (is_some f.ready) observe s m (answer_listed f.listed) ≡ giving keep observe s m answer
+formed-giving keep observe s m answer f formed =
+    ap (λ (b : Bool). giving b observe s m (answer_listed f.listed)) formed.kept ∙ ap (λ (a : Answer). giving keep observe s m a) formed.listed
 
 -- ---- a further block
 
@@ -333,9 +357,89 @@ used_way rows s x d t out sent mids_before mids sender m key seen of same later 
     e : Effects
     e = answering s m (body_reply (Some it.answer.tag) None (asked_block m) it.answer.body) (note.Used s.peer (key_in m) ∷ [])
 
+    noted_use : e.notes ≡ note.Used s.peer (key_in m) ∷ []
+    noted_use = answering-notes (note.Used s.peer (key_in m) ∷ []) s m (body_reply (Some it.answer.tag) None (asked_block m) it.answer.body)
+
     about : AreAbout topic.transfers e.notes
-    unfolding answering
-    about = refl
+    about = ap (list_any (topic.is_beside topic.transfers)) noted_use
 
     stands : TransfersStandFor (row_moment rows s) past x.transfers → TransfersStandFor (row_moment rows s) (noting_more rows s e.notes past) t
-    stands h = it.stands (event_at (length rows) (row_moment rows s) s.word (note.Used s.peer (key_in m))) (ap (λ (p : Peer). note.Used p (key_in m)) of ∙ ap (λ (k : List ℕ). note.Used sender k) (sym same)) (sym moment)
+    stands h = subst (λ (ns : List Note). TransfersStandFor (row_moment rows s) (noting_more rows s ns past) t) (sym noted_use)
+        (it.stands (event_at (length rows) (row_moment rows s) s.word (note.Used s.peer (key_in m))) (ap (λ (p : Peer). note.Used p (key_in m)) of ∙ ap (λ (k : List ℕ). note.Used sender k) (sym same)) (sym moment))
+
+-- a further block of the listing now, where none is kept: what was given is all that the step does
+pub fresh_way : (rows : List Row) (s : Step) (x d after : Seen) (t : Table) (out out_then sent : List (Peer × List ℕ)) (mids_before mids_then mids : Mids) (sender : Peer) (m : Message) (key : List ℕ) (f : Formed) → x ≡ d → s.peer ≡ sender
+    → key ≡ key_in m → is_later_block m ≡ true → ((at : ℕ) (events : List Event) → TransfersStandFor at events x.transfers → kept_answer x.moment (sender, key) events ≡ None) → t ≡ x.transfers → out_then ≡ out → mids_then ≡ mids_before
+    → ((history : List Entry) → VersionStandsFor 0 history x.version → IsFormed (has_asked_block (asked_block m) (answer_at history x.moment (query_of m)).body) (answer_at history x.moment (query_of m)) f)
+    → (UnderWay rows s false nothing (record x { transfers = t }) out_then mids_then → UnderWay rows s false (joined nothing (giving (is_some f.ready) None s m (answer_listed f.listed))) after sent mids)
+    → UnderWay rows s false nothing d out mids_before → UnderWay rows s false (lookup_heard false rows s m) after sent mids
+fresh_way rows s x d after t out out_then sent mids_before mids_then mids sender m key f seen of same later none kept_on unsent undrawn formed given way =
+    let here = subst (λ (y : Seen). UnderWay rows s false nothing y out mids_before) (sym seen) way in
+    let moment : x.moment ≡ row_moment rows s = way_moment rows s false nothing x out mids_before here in
+    let past = events (making rows s false nothing) in
+    let begun : TransfersStandFor (row_moment rows s) past x.transfers = subst (λ (at : ℕ). TransfersStandFor at past x.transfers) (now-making rows s false nothing here.no_look) here.stands.transfers in
+    let unkept : kept_answer (row_moment rows s) (s.peer, key_in m) (events rows) ≡ None =
+    ap (λ (es : List Event). kept_answer (row_moment rows s) (s.peer, key_in m) es) (sym (events-making_nothing rows s false))
+    ∙ (ap (λ (p : Peer). kept_answer (row_moment rows s) (p, key_in m) past) of
+    ∙ (ap (λ (k : List ℕ). kept_answer (row_moment rows s) (sender, k) past) (sym same) ∙ (ap (λ (at : ℕ). kept_answer at (sender, key) past) (sym moment) ∙ none (row_moment rows s) past begun))) in
+    let now_formed : IsFormed (has_asked_block (asked_block m) (answer_at (entries rows) (row_moment rows s) (query_of m)).body) (answer_at (entries rows) (row_moment rows s) (query_of m)) f =
+    subst (λ (at : ℕ). IsFormed (has_asked_block (asked_block m) (answer_at (entries rows) at (query_of m)).body) (answer_at (entries rows) at (query_of m)) f) moment
+    (formed (entries rows) (history_begun rows s false x out mids_before here)) in
+    subst (λ (e : Effects). UnderWay rows s false e after sent mids)
+    (joined-nothing_first (giving (is_some f.ready) None s m (answer_listed f.listed))
+    ∙ (formed-giving (has_asked_block (asked_block m) (answer_at (entries rows) (row_moment rows s) (query_of m)).body) None s m (answer_at (entries rows) (row_moment rows s) (query_of m)) f now_formed ∙ later_fresh rows s m later unkept))
+    (given (subst (λ (table : Table). UnderWay rows s false nothing (record x { transfers = table }) out_then mids_then) (sym kept_on)
+    (subst (λ (sends : List (Peer × List ℕ)). UnderWay rows s false nothing x sends mids_then) (sym unsent) (subst (λ (ids : Mids). UnderWay rows s false nothing x out ids) (sym undrawn) here))))
+
+-- where memory ran out then, it is answered 5.00
+pub fresh_starved : (rows : List Row) (s : Step) (x d : Seen) (t : Table) (out out_then sent : List (Peer × List ℕ)) (mids_before mids_then mids : Mids) (sender : Peer) (m : Message) → x ≡ d → s.peer ≡ sender
+    → t ≡ x.transfers → out_then ≡ out → mids_then ≡ mids_before → ((step : Step) → IsStepOf step sender mids_then → Sends (without_memory step m) out_then sent mids_then mids)
+    → UnderWay rows s true nothing d out mids_before → UnderWay rows s true (lookup_heard true rows s m) (record x { transfers = t }) sent mids
+fresh_starved rows s x d t out out_then sent mids_before mids_then mids sender m seen of kept_on unsent undrawn sends way =
+    lookup_starved rows s (record x { transfers = t }) out_then sent mids_then mids sender m of sends
+    (subst (λ (table : Table). UnderWay rows s true nothing (record x { transfers = table }) out_then mids_then) (sym kept_on)
+    (subst (λ (o : List (Peer × List ℕ)). UnderWay rows s true nothing x o mids_then) (sym unsent) (subst (λ (ids : Mids). UnderWay rows s true nothing x out ids) (sym undrawn)
+    (subst (λ (y : Seen). UnderWay rows s true nothing y out mids_before) (sym seen) way))))
+
+-- an observation that begins
+pub observed_way : (rows : List Row) (s : Step) (d after : Seen) (out sent : List (Peer × List ℕ)) (mids_before mids : Mids) (sender : Peer) (m : Message) (query : Query) (j : Joining) (value : Option ℕ) (f : Formed) → s.peer ≡ sender
+    → is_later_block m ≡ false → begins_observation (observe_in m) ≡ true → query ≡ query_of m → IsJoining sender m (arc_value f.listed.body) j
+    → ((history : List Entry) → VersionStandsFor 0 history d.version → IsFormed (is_long (asked_block m) (answer_at history d.moment (query_of m)).body) (answer_at history d.moment (query_of m)) f)
+    → value ≡ value_given (has_room_for query (without (j.peer, j.token) (observers (events rows)))) (events rows)
+    → UnderWay rows s false (joined (noting (joining_notes (is_some value) (observer_joining query j) (arc_value j.body) (observers (events rows)))) (giving (is_some f.ready) value s m (answer_listed f.listed))) after sent mids
+    → UnderWay rows s false nothing d out mids_before → UnderWay rows s false (lookup_heard false rows s m) after sent mids
+observed_way rows s d after out sent mids_before mids sender m query j value f of first begins asks joins formed gives given way =
+    let moment : d.moment ≡ row_moment rows s = way_moment rows s false nothing d out mids_before way in
+    let answer = answer_at (entries rows) (row_moment rows s) (query_of m) in
+    let now_formed : IsFormed (is_long (asked_block m) answer.body) answer f =
+    subst (λ (at : ℕ). IsFormed (is_long (asked_block m) (answer_at (entries rows) at (query_of m)).body) (answer_at (entries rows) at (query_of m)) f) moment
+    (formed (entries rows) (history_begun rows s false d out mids_before way)) in
+    let room = has_room_for (query_of m) (without (s.peer, m.token) (observers (events rows))) in
+    let asked : value ≡ value_given room (events rows) =
+    gives ∙ (ap (λ (q : Query). value_given (has_room_for q (without (j.peer, j.token) (observers (events rows)))) (events rows)) asks
+    ∙ (ap (λ (p : Peer). value_given (has_room_for (query_of m) (without (p, j.token) (observers (events rows)))) (events rows)) (joins.peer_is ∙ sym of)
+    ∙ ap (λ (token : List ℕ). value_given (has_room_for (query_of m) (without (s.peer, token) (observers (events rows)))) (events rows)) joins.token)) in
+    let body : arc_value j.body ≡ answer.body = joins.body ∙ ap (λ (a : Answer). a.body) now_formed.listed in
+    let done = λ (v : Option ℕ) (o : Observer) (b : List ℕ) (e : Effects). joined (noting (joining_notes (is_some v) o b (observers (events rows)))) e in
+    subst (λ (e : Effects). UnderWay rows s false e after sent mids)
+    (ap (λ (o : Observer). done value o (arc_value j.body) (giving (is_some f.ready) value s m (answer_listed f.listed))) (joining-is s sender m (arc_value f.listed.body) query j of asks joins)
+    ∙ (ap (λ (b : List ℕ). done value (observer_of s m) b (giving (is_some f.ready) value s m (answer_listed f.listed))) body
+    ∙ (ap (λ (e : Effects). done value (observer_of s m) answer.body e) (formed-giving (is_long (asked_block m) answer.body) value s m answer f now_formed)
+    ∙ (ap (λ (v : Option ℕ). done v (observer_of s m) answer.body (giving (is_long (asked_block m) answer.body) v s m answer)) asked ∙ observed-is rows s m first begins)))) given
+
+-- one that ends
+pub unobserved_way : (rows : List Row) (s : Step) (d after : Seen) (out sent : List (Peer × List ℕ)) (mids_before mids : Mids) (sender : Peer) (m : Message) (f : Formed) → s.peer ≡ sender
+    → is_later_block m ≡ false → begins_observation (observe_in m) ≡ false → is_heeded (observe_in m) ≡ true
+    → ((history : List Entry) → VersionStandsFor 0 history d.version → IsFormed (is_long (asked_block m) (answer_at history d.moment (query_of m)).body) (answer_at history d.moment (query_of m)) f)
+    → UnderWay rows s false (joined (noting (removal (sender, m.token) (observers (events rows)))) (giving (is_some f.ready) None s m (answer_listed f.listed))) after sent mids
+    → UnderWay rows s false nothing d out mids_before → UnderWay rows s false (lookup_heard false rows s m) after sent mids
+unobserved_way rows s d after out sent mids_before mids sender m f of first begins heeded formed given way =
+    let moment : d.moment ≡ row_moment rows s = way_moment rows s false nothing d out mids_before way in
+    let answer = answer_at (entries rows) (row_moment rows s) (query_of m) in
+    let now_formed : IsFormed (is_long (asked_block m) answer.body) answer f =
+    subst (λ (at : ℕ). IsFormed (is_long (asked_block m) (answer_at (entries rows) at (query_of m)).body) (answer_at (entries rows) at (query_of m)) f) moment
+    (formed (entries rows) (history_begun rows s false d out mids_before way)) in
+    subst (λ (e : Effects). UnderWay rows s false e after sent mids)
+    (ap (λ (p : Peer). joined (noting (removal (p, m.token) (observers (events rows)))) (giving (is_some f.ready) None s m (answer_listed f.listed))) (sym of)
+    ∙ (ap (λ (e : Effects). joined (noting (removal (s.peer, m.token) (observers (events rows)))) e) (formed-giving (is_long (asked_block m) answer.body) None s m answer f now_formed)
+    ∙ unobserved-is rows s m first begins heeded)) given
