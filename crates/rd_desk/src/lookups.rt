@@ -213,7 +213,8 @@ impl Tables {
         ensures moment { self.new.moment ≡ self.old.moment }
         ensures unchanged { OnErr result (self.new ≡ self.old) }
     {
-        if !self.watching.join(alloc, query, joining)? {
+        let added = self.watching.join(alloc, query, joining)?;
+        if !added {
             return Ok(None);
         }
         self.observed = self.observed.wrapping_add(1);

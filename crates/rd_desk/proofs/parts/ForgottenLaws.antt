@@ -104,7 +104,7 @@ forgotten_stands : (rows : List Row) (s : Step) (m : Message) (sender : Peer) (a
     → ((at : ℕ) (past : List Event) (e : Event) (place : ℕ) → IsOpen place sender m.mid after.moment past → e.note ≡ note.Failed place → ExchangesStandFor at past after.exchanges → ExchangesStandFor at (e ∷ past) t)
     → ExchangesStandFor (row_moment rows s) (events rows) t
 forgotten_stands rows s m sender after t out mids of notes way forgets = record {
-  kept = (forgets (row_moment rows s) (admitted ∷ events rows) failed (length rows) open refl there).kept
+  kept = (forgets (row_moment rows s) (admitted ∷ events rows) failed (length rows) still_open refl there).kept
       ∙ exchanges_at-forgotten (row_moment rows s) (length rows) (row_moment rows s) s.word sender m.mid (events rows) ready.new_place;
 }
   where
@@ -129,8 +129,8 @@ forgotten_stands rows s m sender after t out mids of notes way forgets = record 
     moment : after.moment ≡ row_moment rows s
     moment = way_moment rows s true (write_effects (events rows) (row_moment rows s) s m) after out mids way
 
-    open : IsOpen (length rows) sender m.mid after.moment (admitted ∷ events rows)
-    open =
+    still_open : IsOpen (length rows) sender m.mid after.moment (admitted ∷ events rows)
+    still_open =
         subst (λ (at : ℕ). IsOpen (length rows) sender m.mid at (admitted ∷ events rows)) (sym moment)
         (IsOpen-admitted sender m.mid admitted (events rows) refl
         (IsOrderly-admitted sender m.mid admitted (events rows) refl
@@ -142,17 +142,22 @@ forgotten_stands rows s m sender after t out mids of notes way forgets = record 
         (subst (λ (at : ℕ). ExchangesStandFor at past after.exchanges) (now-making rows s true (write_effects (events rows) (row_moment rows s) s m) way.no_look) way.stands.exchanges)
 
 -- so the request is answered 5.00, and the desk stands for the journal as before
-pub way_forgotten : (rows : List Row) (s : Step) (m : Message) (sender : Peer) (x d after : Seen) (t : Table) (out sent : List (Peer × List ℕ)) (mids_before mids : Mids) → x ≡ d → s.peer ≡ sender
+pub way_forgotten : (rows : List Row) (s : Step) (m : Message) (sender : Peer) (x d after : Seen) (t : Table) (out out_then sent : List (Peer × List ℕ)) (mids_before mids_then mids : Mids) → x ≡ after
+    → after ≡ record d { exchanges = after.exchanges } → s.peer ≡ sender → out_then ≡ out → mids_then ≡ mids_before
     → (write_effects (events rows) (row_moment rows s) s m).notes ≡ note.Admitted s.peer m.mid ∷ []
-    → UnderWay rows s true (write_effects (events rows) (row_moment rows s) s m) after out mids_before
-    → ((at : ℕ) (past : List Event) (e : Event) (place : ℕ) → IsOpen place sender m.mid after.moment past → e.note ≡ note.Failed place → ExchangesStandFor at past after.exchanges → ExchangesStandFor at (e ∷ past) t)
-    → ((step : Step) → IsStepOf step sender mids_before → Sends (without_memory step m) out sent mids_before mids)
+    → UnderWay rows s true (write_effects (events rows) (row_moment rows s) s m) after out_then mids_then
+    → ((at : ℕ) (past : List Event) (e : Event) (place : ℕ) → IsOpen place sender m.mid x.moment past → e.note ≡ note.Failed place → ExchangesStandFor at past x.exchanges → ExchangesStandFor at (e ∷ past) t)
+    → ((step : Step) → IsStepOf step sender mids_then → Sends (without_memory step m) out_then sent mids_then mids)
     → UnderWay rows s true nothing d out mids_before → UnderWay rows s true (without_memory s m) (record x { exchanges = t }) sent mids
-way_forgotten rows s m sender x d after t out sent mids_before mids seen of notes way forgets sends begun =
+way_forgotten rows s m sender x d after t out out_then sent mids_before mids_then mids seen alone of unsent undrawn notes way forgets sends begun =
     let silent = without_memory-notes s m in
-    let stands = forgotten_stands rows s m sender after t out mids_before of notes way forgets in
-    only rows s true (without_memory s m) (record x { exchanges = t }) sent mids
-    (more_exchanges rows s true nothing (without_memory s m) x d t out sent mids_before mids seen (ap (list_any (topic.is_beside topic.exchanges)) silent)
+    let stands = forgotten_stands rows s m sender x t out_then mids_then of notes
+    (subst (λ (y : Seen). UnderWay rows s true (write_effects (events rows) (row_moment rows s) s m) y out_then mids_then) (sym seen) way) forgets in
+    let here : UnderWay rows s true nothing d out_then mids_then =
+    subst (λ (o : List (Peer × List ℕ)). UnderWay rows s true nothing d o mids_then) (sym unsent) (subst (λ (ids : Mids). UnderWay rows s true nothing d out ids) (sym undrawn) begun) in
+    subst (λ (y : Seen). UnderWay rows s true (without_memory s m) y sent mids) (sym (ap (λ (y : Seen). record y { exchanges = t }) (seen ∙ alone)))
+    (only rows s true (without_memory s m) (record d { exchanges = t }) sent mids
+    (more_exchanges rows s true nothing (without_memory s m) d d t out_then sent mids_then mids refl (ap (list_any (topic.is_beside topic.exchanges)) silent)
     (λ before. subst (λ (es : List Event). ExchangesStandFor (row_moment rows s) es t)
     (sym (ap (λ (ns : List Note). noting_more rows s ns (events (making rows s true nothing))) silent ∙ events-making_nothing rows s true)) stands)
-    (sends s (step_of rows s true nothing d out mids_before sender of refl begun)) begun)
+    (sends s (step_of rows s true nothing d out_then mids_then sender of refl here)) here))

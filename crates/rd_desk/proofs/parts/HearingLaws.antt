@@ -173,11 +173,46 @@ pub jobless_starved : (x : Stepped) → is_starved_admission (jobless x) ≡ is_
 jobless_starved stepped.Done = refl
 jobless_starved stepped.Starved = refl
 
+-- it does what its part does, whether memory ran out or not
+pub jobless_way : (rows : List Row) (s : Step) (x : Stepped) (a : Admitted) (d after : Seen) (out sent : List (Peer × List ℕ)) (mids_before mids : Mids) (does all : Bool → Effects) → a ≡ jobless x → ((b : Bool) → does b ≡ all b)
+    → (UnderWay rows s (is_starved_step x) nothing d out mids_before → UnderWay rows s (is_starved_step x) (does (is_starved_step x)) after sent mids)
+    → UnderWay rows s (is_starved_admission a) nothing d out mids_before → UnderWay rows s (is_starved_admission a) (all (is_starved_admission a)) after sent mids
+jobless_way rows s x a d after out sent mids_before mids does all is same goes =
+    let starved : is_starved_admission a ≡ is_starved_step x = ap is_starved_admission is ∙ jobless_starved x in
+    subst (λ (b : Bool). UnderWay rows s b nothing d out mids_before → UnderWay rows s b (all b) after sent mids) (sym starved)
+    (λ way. subst (λ (e : Effects). UnderWay rows s (is_starved_step x) e after sent mids) (same (is_starved_step x)) (goes way))
+
+pub jobless_held : (x : Stepped) (a : Admitted) (all : Bool → Effects) (s : Step) (moment : ℕ) → a ≡ jobless x → ((b : Bool) → list_any is_admitting (all b).notes ≡ false) → IsHeldFor a (all (is_starved_admission a)).notes s moment
+jobless_held x a all s moment is none =
+    subst (λ (y : Admitted). IsHeldFor y (all (is_starved_admission a)).notes s moment) (sym is) (none_held x (all (is_starved_admission a)).notes s moment (none (is_starved_admission a)))
+
+-- so it is of a lookup
+pub served_admits : (rows : List Row) (s : Step) (starved : Bool) (m : Message) → refusal_of_request m ≡ None → is_lookup (path_in m) ≡ true
+    → list_any is_admitting (message_effects role.Request starved rows (row_moment rows s) s m).notes ≡ false
+served_admits rows s starved m none lookup = ap (λ (e : Effects). list_any is_admitting e.notes) (sym (served_lookup rows s starved m none lookup)) ∙ lookup_admits rows s starved m
+
 -- ---- a response
 
 pub response_is : (rows : List Row) (s : Step) (starved : Bool) (m : Message) → response_heard starved rows s m ≡ message_effects role.Response starved rows (row_moment rows s) s m
 response_is rows s true m = refl
 response_is rows s false m = refl
+
+-- ---- a message, by what it is for
+
+pub hears_as : (rows : List Row) (s : Step) (starved : Bool) (r : Role) (m : Message) (after : Seen) (sent : List (Peer × List ℕ)) (mids : Mids) → role_of m.kind m.code ≡ r
+    → UnderWay rows s starved (message_effects r starved rows (row_moment rows s) s m) after sent mids → UnderWay rows s starved (message_effects (role_of m.kind m.code) starved rows (row_moment rows s) s m) after sent mids
+hears_as rows s starved r m after sent mids is way = subst (λ (x : Role). UnderWay rows s starved (message_effects x starved rows (row_moment rows s) s m) after sent mids) (sym is) way
+
+pub held_as : (rows : List Row) (s : Step) (starved : Bool) (r : Role) (m : Message) → role_of m.kind m.code ≡ r
+    → list_any is_admitting (message_effects r starved rows (row_moment rows s) s m).notes ≡ false → list_any is_admitting (message_effects (role_of m.kind m.code) starved rows (row_moment rows s) s m).notes ≡ false
+held_as rows s starved r m is none = subst (λ (x : Role). list_any is_admitting (message_effects x starved rows (row_moment rows s) s m).notes ≡ false) (sym is) none
+
+pub takes_as : (rows : List Row) (s : Step) (r : Role) (m : Message) → role_of m.kind m.code ≡ r
+    → message_takes (role_of m.kind m.code) rows (row_moment rows s) s m ≡ false → message_takes r rows (row_moment rows s) s m ≡ false
+takes_as rows s r m is silent = ap (λ (x : Role). message_takes x rows (row_moment rows s) s m) (sym is) ∙ silent
+
+pub other_as : (m : Message) → role_of m.kind m.code ≡ role.Request → is_look_message (role_of m.kind m.code) m ≡ false → is_look_request m ≡ false
+other_as m is other = ap (λ (x : Role). is_look_message x m) (sym is) ∙ other
 
 -- ---- what does not only look
 
@@ -188,9 +223,6 @@ other_request m none other = let h = rw none at other in h
 pub other_message : (datagram : List ℕ) (m : Message) → reading datagram ≡ Ok m → is_look_datagram datagram ≡ false → is_look_message (role_of m.kind m.code) m ≡ false
 unfolding is_look_datagram
 other_message datagram m is other = subst (λ (r : Result Message Unread). is_look_reading r ≡ false) is other
-
-pub other_discovery : (m : Message) → only_looks m ≡ false → path_in m ≡ path.Core → ⊥
-other_discovery m other core = let h = rw core at other in false≢true (sym h)
 
 -- ---- the row
 

@@ -1,5 +1,5 @@
 -- What a lookup does that the journal takes part in, part by part (RFC 7959 section 2.4, RFC 7641 sections 3 and 4.1).
-use Rattle.std.proofs.Common.{◌≡◌, ℕ, ◌+◌, ◌%◌, ◌^◌, ◌<◌, ◌||◌, ◌&&◌, ◌==◌, not, Bool, true, false, List, [], ◌∷◌, ◌++◌, length, map, Option, Some, None, is_some, Result, IfOk, refl, sym, ap, subst, ◌∙◌, append-nil, append_assoc, arith, if◌then◌else◌}
+use Rattle.std.proofs.Common.{◌≡◌, ℕ, ◌+◌, ◌%◌, ◌^◌, ◌<◌, ◌||◌, ◌&&◌, ◌==◌, not, Bool, true, false, List, [], ◌∷◌, ◌++◌, length, map, Option, Some, None, is_some, Result, IfOk, IfSome, refl, sym, ap, subst, ◌∙◌, append-nil, append_assoc, arith, if◌then◌else◌}
 use Rattle.std.specs.Prelude.{count_by}
 use Rattle.std.specs.Arc.{arc_value}
 use Rattle.std.specs.List.{list_any}
@@ -14,7 +14,7 @@ use Rattle.message_model.specs.Message.{Message}
 use Rattle.message_model.specs.Request.{path_in, observe_in}
 use Rattle.message_model.specs.RequestKey.{key_in}
 use Rattle.history_model.specs.declared.entries.Entry.{Entry}
-use Rattle.history_model.specs.Versions.{VersionStandsFor}
+use Rattle.history_model.specs.Versions.{Version, VersionStandsFor}
 use Rattle.event_model.specs.declared.notes.Note.{Note}
 use Rattle.event_model.specs.declared.notes.Note.TheVariants as note
 use Rattle.event_model.specs.declared.notes.Observer.{Observer}
@@ -39,6 +39,7 @@ use Rattle.transfers.specs.TransferEvents.{Table, UploadsStandFor, AnswersStandF
 use Rattle.transfers.proofs.TransferLaws.{UploadsStandFor-noted}
 use Rattle.rd_desk.specs.declared.joining.Joining.{Joining}
 use Rattle.rd_desk.specs.declared.listings.Formed.{Formed}
+use Rattle.rd_desk.specs.declared.listings.Listed.{Listed}
 use Rattle.rd_desk.specs.declared.mids.Mids.{Mids}
 use Rattle.rd_desk.specs.Asking.{begins_observation}
 use Rattle.rd_desk.specs.Desks.{Seen}
@@ -91,11 +92,14 @@ about_kept observe s m answer = ap (list_any (topic.is_beside topic.transfers)) 
 
 pub given_kept : (rows : List Row) (s : Step) (starved : Bool) (done : Effects) (x d : Seen) (t : Table) (answers : List KeptAnswer) (out sent : List (Peer × List ℕ)) (mids_before mids : Mids) (sender : Peer) (m : Message)
     (observe : Option ℕ) (answer : Answer) (shown : List ℕ) (ready : Option (List KeptAnswer)) → x ≡ d → s.peer ≡ sender → done.drew ≡ 0 → ready ≡ Some answers → shown ≡ answer.body
-    → AreWith x.moment sender (key_in m) answer x.transfers.answers answers
+    → IfSome ready (AreWith d.moment sender (key_in m) answer d.transfers.answers)
     → ((at : ℕ) (events : List Event) → UploadsStandFor at events x.transfers.uploads → AnswersStandFor events answers → TransfersStandFor at events t)
     → ((step : Step) (notes : List Note) → IsStepOf step sender mids_before → Sends (answering step m (body_reply (Some answer.tag) observe (asked_block m) shown) notes) out sent mids_before mids)
     → UnderWay rows s starved done d out mids_before → UnderWay rows s starved (joined done (giving (is_some ready) observe s m answer)) (record x { transfers = t }) sent mids
-given_kept rows s starved done x d t answers out sent mids_before mids sender m observe answer shown ready seen of undrawn some same with_it adopted sends way =
+given_kept rows s starved done x d t answers out sent mids_before mids sender m observe answer shown ready seen of undrawn some same ready_it adopted sends way =
+    let with_it : AreWith x.moment sender (key_in m) answer x.transfers.answers answers =
+    subst (λ (y : Seen). AreWith y.moment sender (key_in m) answer y.transfers.answers answers) (sym seen)
+    (subst (λ (o : Option (List KeptAnswer)). IfSome o (AreWith d.moment sender (key_in m) answer d.transfers.answers)) some ready_it) in
     let e = giving true observe s m answer in
     let past = events (making rows s starved done) in
     let moment : x.moment ≡ row_moment rows s = ap (λ (y : Seen). y.moment) seen ∙ way_moment rows s starved done d out mids_before way in
@@ -112,10 +116,15 @@ given_kept rows s starved done x d t answers out sent mids_before mids sender m 
     (sends_giving true observe s m answer shown out sent mids_before mids same (λ ns. sends s ns (step_of rows s starved done d out mids_before sender of undrawn way))) way)
 
 -- what was formed is the listing now, to be kept as a test of it says
-pub formed_now : (test : Option Block → List ℕ → Bool) (keep : Bool) (asked : Option Block) (shown : List ℕ) (given meant : Answer) (m : Message) (r : Result Formed Starved) → keep ≡ test asked shown → asked ≡ asked_block m → shown ≡ given.body
-    → given ≡ meant → IfOk r (IsFormed keep given) → IfOk r (IsFormed (test (asked_block m) meant.body) meant)
-formed_now test keep asked shown given meant m r tested block whole same =
-    IfOk-weaker r (IsFormed keep given) (IsFormed (test (asked_block m) meant.body) meant) (λ f h. record {
+pub formed_now : (test : Option Block → List ℕ → Bool) (keep : Bool) (asked : Option Block) (shown : List ℕ) (l : Listed) (m : Message) (r : Result Formed Starved) (history : List Entry) (x d : Seen) (v : Version) (query meant : Query)
+    → keep ≡ test asked shown → asked ≡ asked_block m → shown ≡ arc_value l.body → x ≡ d → v ≡ x.version → query ≡ meant
+    → (VersionStandsFor 0 history v → answer_listed l ≡ answer_at history x.moment query) → VersionStandsFor 0 history d.version
+    → IfOk r (IsFormed keep (answer_listed l)) → IfOk r (IsFormed (test (asked_block m) (answer_at history d.moment meant).body) (answer_at history d.moment meant))
+formed_now test keep asked shown l m r history x d v query meant tested block whole seen version asks listed stands =
+    let same : answer_listed l ≡ answer_at history d.moment meant =
+    listed (subst (VersionStandsFor 0 history) (sym (version ∙ ap (λ (y : Seen). y.version) seen)) stands)
+    ∙ (ap (λ (y : Seen). answer_at history y.moment query) seen ∙ ap (λ (q : Query). answer_at history d.moment q) asks) in
+    IfOk-weaker r (IsFormed keep (answer_listed l)) (IsFormed (test (asked_block m) (answer_at history d.moment meant).body) (answer_at history d.moment meant)) (λ f h. record {
       listed = h.listed ∙ same;
       kept = h.kept ∙ (tested ∙ (ap (λ (b : Option Block). test b shown) block ∙ ap (λ (b : List ℕ). test (asked_block m) b) (whole ∙ ap (λ (a : Answer). a.body) same)));
     })
@@ -268,6 +277,15 @@ left_more rows s starved x d w out mids name seen stands way =
   where
     standing : List Observer
     standing = observers (events (making rows s starved nothing))
+
+-- that of a peer and a token, by the token as it is kept
+pub left_named : (rows : List Row) (s : Step) (starved : Bool) (x d : Seen) (w : Watching) (out : List (Peer × List ℕ)) (mids : Mids) (sender : Peer) (kept token : List ℕ) → x ≡ d → kept ≡ token
+    → (WatchingStandsFor (making rows s starved nothing) x.watching
+    → WatchingStandsFor (making rows s starved (joined nothing (noting (removal (sender, kept) (observers (events (making rows s starved nothing))))))) w)
+    → UnderWay rows s starved nothing d out mids → UnderWay rows s starved (noting (removal (sender, token) (observers (events rows)))) (record x { watching = w }) out mids
+left_named rows s starved x d w out mids sender kept token seen same stands way =
+    subst (λ (t : List ℕ). UnderWay rows s starved (noting (removal (sender, t) (observers (events rows)))) (record x { watching = w }) out mids) same
+    (left_more rows s starved x d w out mids (sender, kept) seen stands way)
 
 -- an observer is added, and an Observe value is given
 pub added_more : (rows : List Row) (s : Step) (starved : Bool) (x d : Seen) (w : Watching) (count : ℕ) (out : List (Peer × List ℕ)) (mids : Mids) (o : Observer) (body : List ℕ) → x ≡ d → count ≡ (x.observed + 1) % 2 ^ 64

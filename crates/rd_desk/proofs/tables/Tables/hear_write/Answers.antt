@@ -17,7 +17,10 @@ returns-then-not-admit_write-clause-held c rows s of datagram way =
 pub returns-in_default-clause-way : goal.returns-in_default-clause-way
 returns-in_default-clause-way c rows s of way =
     let m = message_in c.args.view.now in
-    let unsent = c.admit_write.ensures.unsent c.if-not-admit_write.false in ?way
+    let unsent = c.admit_write.ensures.unsent c.if-not-admit_write.false in
+    let notes = rw c.if-not-admit_write.false at c.admit_write.ensures.admitted rows s true of way in
+    way_forgotten rows s m c.args.peer _ c.args.self.now c.admit_write.new.self c.forget.new.self c.args.out.now c.admit_write.new.out c.answer_starved.new.out c.args.mids.now c.admit_write.new.mids c.answer_starved.new.mids
+    c.self.view_is c.admit_write.ensures.alone of unsent.0 unsent.1 notes (c.admit_write.ensures.way rows s true of way) c.forget.ensures.stands c.answer_starved.ensures.sends way
 
 pub returns-in_default-clause-held : goal.returns-in_default-clause-held
 returns-in_default-clause-held c rows s of datagram way = ap (list_any is_admitting) (without_memory-notes s (message_in c.args.view.now))
