@@ -283,15 +283,15 @@ impl Tables {
         ensures way { (rows : List Row) (s : Step) → s.peer ≡ peer → UnderWay rows s (is_starved_step result) nothing self.old out.old mids.old
             → UnderWay rows s (is_starved_step result) (lookup_heard (is_starved_step result) rows s (message_in meaning.now.view)) self.new out.new mids.new }
     {
-        let Ok(Observing {
-            query,
-            joining,
-            formed,
-        }) = self.form_observed(alloc, peer, meaning)
-        else {
+        let Ok(observing) = self.form_observed(alloc, peer, meaning) else {
             answer_starved(mids, peer, &meaning.view, out);
             return Stepped::Starved;
         };
+        let Observing {
+            query,
+            joining,
+            formed,
+        } = observing;
         let Ok(value) = self.join(alloc, &query, joining) else {
             answer_starved(mids, peer, &meaning.view, out);
             return Stepped::Starved;

@@ -110,7 +110,7 @@ served_other rows s m none other lookup writes = rw none (by (path_in m) (not_di
 -- what takes memory
 pub takes_write : (rows : List Row) (s : Step) (m : Message) → refusal_of_request m ≡ None → is_write_path (path_in m) ≡ true
     → message_takes role.Request rows (row_moment rows s) s m ≡ false → write_takes rows (row_moment rows s) s m ≡ false
-takes_write rows s m none writes silent = by (path_in m) writes (rw none at silent)
+takes_write rows s m none writes silent = by (path_in m) writes (sym (ap (λ (o : Option Reply). request_takes o rows (row_moment rows s) s m) none) ∙ silent)
   where
     by : (p : Path) → is_write_path p ≡ true → served_takes p rows (row_moment rows s) s m ≡ false → write_takes rows (row_moment rows s) s m ≡ false
     by path.Rd h g = g
@@ -119,7 +119,7 @@ takes_write rows s m none writes silent = by (path_in m) writes (rw none at sile
     by _ h g = absurd (false≢true h)
 
 pub takes_lookup : (rows : List Row) (s : Step) (m : Message) (starved : Bool) → refusal_of_request m ≡ None → is_lookup (path_in m) ≡ true → message_takes role.Request rows (row_moment rows s) s m ≡ false → starved ≡ false
-takes_lookup rows s m starved none lookup silent = by (path_in m) lookup (rw none at silent)
+takes_lookup rows s m starved none lookup silent = by (path_in m) lookup (sym (ap (λ (o : Option Reply). request_takes o rows (row_moment rows s) s m) none) ∙ silent)
   where
     by : (p : Path) → is_lookup p ≡ true → served_takes p rows (row_moment rows s) s m ≡ false → starved ≡ false
     by path.Res h g = absurd (false≢true (sym g))
@@ -218,7 +218,7 @@ other_as m is other = ap (λ (x : Role). is_look_message x m) (sym is) ∙ other
 
 pub other_request : (m : Message) → refusal_of_request m ≡ None → is_look_request m ≡ false → only_looks m ≡ false
 unfolding is_look_request
-other_request m none other = let h = rw none at other in h
+other_request m none other = sym (ap (λ (o : Option Reply). is_none o && only_looks m) none) ∙ other
 
 pub other_message : (datagram : List ℕ) (m : Message) → reading datagram ≡ Ok m → is_look_datagram datagram ≡ false → is_look_message (role_of m.kind m.code) m ≡ false
 unfolding is_look_datagram
@@ -242,7 +242,7 @@ admission_made rows s starved now read before after out mids_before mids kind is
 pub record OpenJob (rows : List Row) (r : Row) (job : Write) : Type 0 where
   pub message : Message
   pub read : reading job.datagram ≡ Ok message
-  pub open : IsOpen (length rows) job.peer message.mid job.admitted (events (r ∷ rows))
+  pub admission : IsOpen (length rows) job.peer message.mid job.admitted (events (r ∷ rows))
 
 pub held-OpenJob : (rows : List Row) (s : Step) (starved : Bool) (job : Write) → IsDeskJournal (row rows s starved ∷ rows) → IsHeldFor (admitted.Held job) (row rows s starved).notes s (row_moment rows s)
     → OpenJob rows (row rows s starved) job
@@ -252,5 +252,5 @@ held-OpenJob rows s starved job journal (mid, notes, is) =
     subst (λ (w : Write). OpenJob rows (row rows s starved) w) (sym is) (record {
       message = own.message;
       read = own.read;
-      open = admitted-IsOpen rows (row rows s starved) s.peer own.message.mid (journal-IsOrderly (row rows s starved ∷ rows) journal) own.noted;
+      admission = admitted-IsOpen rows (row rows s starved) s.peer own.message.mid (journal-IsOrderly (row rows s starved ∷ rows) journal) own.noted;
     })

@@ -311,6 +311,15 @@ added_more rows s starved x d w count out mids o body seen counts stands way =
         counts ∙ (ap (λ n. (n + 1) % 2 ^ 64) h
         ∙ sym (observe_values_sent-noted (length rows) (row_moment rows s) s.word notes past ∙ ap (λ n. (observe_values_sent past + n) % 2 ^ 64) (one_formed (o.peer, o.token) o body standing)))
 
+-- whether it is added is as by the events before the row
+pub given_room : (rows : List Row) (s : Step) (starved : Bool) (x d : Seen) (out : List (Peer × List ℕ)) (mids : Mids) (query : Query) (name : Peer × List ℕ) (added b : Bool) → x ≡ d
+    → ((before : List Row) → WatchingStandsFor before x.watching → added ≡ has_room_for query (without name (observers (events before)))) → added ≡ b
+    → UnderWay rows s starved nothing d out mids → value_given b (events rows) ≡ value_given (has_room_for query (without name (observers (events rows)))) (events rows)
+given_room rows s starved x d out mids query name added b seen room is way =
+    let here = subst (λ (y : Seen). UnderWay rows s starved nothing y out mids) (sym seen) way in
+    ap (λ (added_now : Bool). value_given added_now (events rows))
+    (sym is ∙ (room (making rows s starved nothing) here.stands.watching ∙ ap (λ (es : List Event). has_room_for query (without name (observers es))) (events-making_nothing rows s starved)))
+
 -- the Observe value that is given is the next one
 pub value-is : (rows : List Row) (s : Step) (starved : Bool) (x d : Seen) (count value : ℕ) (out : List (Peer × List ℕ)) (mids : Mids) → x ≡ d → count ≡ (x.observed + 1) % 2 ^ 64 → value ≡ count % 2 ^ 24
     → UnderWay rows s starved nothing d out mids → value ≡ observe_value (events rows)

@@ -22,8 +22,8 @@ pub returns-in_default-form_later : goal.returns-in_default-form_later
 returns-in_default-form_later c = record {
   way = λ rows s of way.
       let unchanged = c.send_kept.ensures.unchanged c.if-send_kept.false in
-      fresh_starved rows s _ c.args.self.now c.send_kept.new.transfers c.args.out.now c.send_kept.new.out c.answer_starved.new.out c.args.mids.now c.send_kept.new.mids c.answer_starved.new.mids c.args.peer (message_in c.args.meaning.now.view)
-      c.self.view_is of unchanged.0 unchanged.1.0 unchanged.1.1 c.answer_starved.ensures.sends way;
+      fresh_starved rows s _ c.args.self.now c.send_kept.new.transfers c.args.out.now c.send_kept.new.out c.answer_starved-in_default-form_later.new.out c.args.mids.now c.send_kept.new.mids c.answer_starved-in_default-form_later.new.mids c.args.peer (message_in c.args.meaning.now.view)
+      c.self.view_is of unchanged.0 unchanged.1 unchanged.2 c.answer_starved-in_default-form_later.ensures.sends way;
 }
 
 pub returns : goal.returns
@@ -32,6 +32,6 @@ returns c = record {
       let m = message_in c.args.meaning.now.view in
       let unchanged = c.send_kept.ensures.unchanged c.if-send_kept.false in
       fresh_way rows s _ c.args.self.now c.give_formed.new.self c.send_kept.new.transfers c.args.out.now c.send_kept.new.out c.give_formed.new.out c.args.mids.now c.send_kept.new.mids c.give_formed.new.mids c.args.peer m c.in-Ok.key
-      c.in-Ok-form_later.formed c.self.view_is of (c.in-Ok.ensures.key m c.requires.meaning) c.requires.later (c.send_kept.ensures.none c.if-send_kept.false) unchanged.0 unchanged.1.0 unchanged.1.1 c.in-Ok-form_later.ensures.formed
+      c.in-Ok-form_later.formed c.self.view_is of (c.in-Ok.ensures.key m c.requires.meaning) c.requires.later (c.send_kept.ensures.none c.if-send_kept.false) unchanged.0 unchanged.1 unchanged.2 c.in-Ok-form_later.ensures.formed
       (c.give_formed.ensures.way rows s false nothing of refl) way;
 }
