@@ -1,6 +1,6 @@
 -- The fetches that a desk keeps stay sound: each is for a registration that is allowed, and each of its requests can be sent.
-use Rattle.std.proofs.Common.{◌≡◌, ℕ, zero, suc, ◌+◌, ◌<◌, ◌≤◌, ◌==◌, ◌&&◌, Bool, true, false, cond, List, [], ◌∷◌, ◌++◌, length, filter_map, find, Option, Some, None, option_map, option_and_then, Result, Ok, Err, refl, sym, ap, subst, ◌∙◌, arith, if◌then◌else◌}
-use Rattle.std.specs.Prelude.{◌≢◌, OnErr, IfOk, slice_get}
+use Rattle.std.proofs.Common.{◌≡◌, ℕ, zero, suc, ◌+◌, ◌<◌, ◌≤◌, ◌==◌, ◌&&◌, Bool, true, false, cond, List, [], ◌∷◌, ◌++◌, length, filter_map, find, Option, Some, None, option_map, option_and_then, Result, Ok, Err, refl, sym, ap, ap₂, subst, ◌∙◌, arith}
+use Rattle.std.specs.Prelude.{◌≢◌, is_none, OnErr, IfOk, slice_get}
 use Rattle.std.specs.List.{AllByRecursion, count_by, cons_option}
 use Rattle.std.specs.Int.{bytes_high_first}
 use Rattle.std.proofs.lemmas.Bool.{false≢true, and_parts, ne_eqb}
@@ -12,6 +12,7 @@ use Rattle.rd_base.proofs.lemmas.Numbers.{eqb-refl}
 use Rattle.message_model.specs.declared.blocks.Block.{Block}
 use Rattle.message_model.specs.Blocks.{block_value}
 use Rattle.message_model.specs.Message.{Message, longest_token}
+use Rattle.message_model.specs.OptionTable.{first_bad_option}
 use Rattle.message_model.specs.Spelling.{spelling}
 use Rattle.coap_message.specs.PartialMessages.{longest_datagram}
 use Rattle.record_model.specs.AllowedParameters.{AreAllowed}
@@ -24,8 +25,10 @@ use Rattle.event_model.proofs.NotedLaws.{event_at}
 use Rattle.event_model.proofs.SameLaws.{is_same_peer-Decides}
 use Rattle.exchange_core.specs.declared.resends.Again.{Again}
 use Rattle.exchange_core.specs.declared.resends.Again.TheVariants as again
+use Rattle.journal_model.specs.declared.steps.Step.{Step}
 use Rattle.journal_model.specs.Commits.{fetch_request}
 use Rattle.journal_model.specs.Responses.{request_of, block_in, tag_in, is_elsewhere, ends_fetch}
+use Rattle.journal_model.specs.Responses as responses
 use Rattle.journal_model.proofs.sends.BodyAnswers.{block_value-length}
 use Rattle.simple_registration.specs.declared.asks.Ask.{Ask}
 use Rattle.simple_registration.specs.declared.hearing.Heard.{Heard}
@@ -36,7 +39,7 @@ use Rattle.simple_registration.specs.Table.{Table, belongs_among, IsKeptAfter}
 use Rattle.simple_registration.specs.FetchEvents.{FetchesStandFor, has_names_of_request, belongs_after, heard_after}
 use Rattle.simple_registration.proofs.AskLaws.{short_core, short_block}
 use Rattle.simple_registration.proofs.DeskLaws.{FetchesStandFor-octets}
-use Rattle.simple_registration.proofs.StepLaws.{request_confirmable}
+use Rattle.simple_registration.proofs.StepLaws.{request_confirmable, fetch_of-belongs}
 use Rattle.simple_registration.proofs.TableLaws.{running_length}
 use Rattle.rd_desk.specs.Fetching.{IsSendable, IsSoundRequest, IsSoundNote, octets_for, IsSoundEvent, IsSound, IsSoundHeard}
 
@@ -150,6 +153,13 @@ start-IsSound t u moment word mid peer params (Ok ask) allowed asks starts kept 
 start-IsSound t u moment word mid peer params (Err f) allowed asks starts kept h = subst IsSound (sym kept) h
 
 -- ---- a response comes
+
+-- one that belongs to the fetch of its peer, and has no unrecognized critical option, is to its last request
+pub answered-fetch_of : (s : Step) (m : Message) (past : List Event) (sender : Peer) → s.peer ≡ sender → belongs_after sender m past ≡ true → first_bad_option m.options ≡ None
+    → responses.fetch_of s m past ≡ request_of (last_request sender past)
+answered-fetch_of s m past sender of belongs good =
+    subst (λ (p : Peer). belongs_after p m past ≡ true → responses.fetch_of s m past ≡ request_of (last_request p past)) of
+    (λ h. fetch_of-belongs s m past ∙ ap₂ (λ b (o : Option ℕ). cond (b && is_none o) (request_of (last_request s.peer past)) None) h good) belongs
 
 -- the request that a response is to, and that it is sound
 record Answered (past : List Event) (peer : Peer) : Type 0 where
