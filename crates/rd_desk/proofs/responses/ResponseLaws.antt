@@ -15,6 +15,7 @@ use Rattle.history_model.specs.declared.refusals.Refusal.{Refusal}
 use Rattle.history_model.specs.declared.refusals.Refusal.TheVariants as refusal
 use Rattle.history_model.specs.declared.entries.Change.TheVariants as change
 use Rattle.history_model.specs.Refusals.{change_refusal}
+use Rattle.history_model.specs.Versions.{Version, VersionStandsFor}
 use Rattle.event_model.specs.declared.notes.Note.{Note}
 use Rattle.event_model.specs.declared.notes.Note.TheVariants as note
 use Rattle.event_model.specs.Same.{is_same_peer}
@@ -43,14 +44,17 @@ use Rattle.simple_registration.specs.FetchEvents.{FetchesStandFor, has_names_of_
 use Rattle.simple_registration.proofs.CallLaws.{belongs}
 use Rattle.simple_registration.proofs.StepLaws.{response_effects_of, response_to-heard, other_kind, octets_sent-here}
 use Rattle.rd_desk.specs.declared.mids.Mids.{Mids}
+use Rattle.rd_desk.specs.declared.outcomes.Outcome.{Outcome as Planned}
 use Rattle.rd_desk.specs.Desks.{Seen}
 use Rattle.rd_desk.specs.Fetching.{IsSendable}
+use Rattle.rd_desk.specs.Outcomes.{IsPlanned}
 use Rattle.rd_desk.specs.Responding.{asking_next, unless_starved, response_heard}
 use Rattle.rd_desk.specs.Sendings.{Sends, AreRequestsSent}
 use Rattle.rd_desk.specs.UnderWay.{UnderWay}
 use Rattle.rd_desk.proofs.answers.SendingLaws.{sends_nothing, sends_octets}
 use Rattle.rd_desk.proofs.parts.EffectLaws.{joined-nothing, joined-assoc, drawing-more}
 use Rattle.rd_desk.proofs.parts.EmptyMessageLaws.{fetch_more}
+use Rattle.rd_desk.proofs.parts.MakingLaws.{entries-making_nothing}
 use Rattle.rd_desk.proofs.parts.PartLaws.{more_fetches, only_silent}
 use Rattle.rd_desk.proofs.parts.WayLaws.{noting_more, way_moment}
 use Rattle.rd_desk.proofs.responses.FetchingLaws.{Next, next_of, whole_of}
@@ -109,19 +113,19 @@ way_strange rows s starved m d out sent mids_before mids none sends way =
 -- ---- it is to one
 
 -- the table of a desk whose step begins stands for the events before the row
-stands_begun : (rows : List Row) (s : Step) (starved : Bool) (x d : Seen) (out : List (Peer × List ℕ)) (mids : Mids) → x ≡ d → UnderWay rows s starved nothing d out mids
+pub stands_begun : (rows : List Row) (s : Step) (starved : Bool) (x d : Seen) (out : List (Peer × List ℕ)) (mids : Mids) → x ≡ d → UnderWay rows s starved nothing d out mids
     → FetchesStandFor (octets_sent (making rows s starved nothing)) (events rows) x.fetches
 stands_begun rows s starved x d out mids seen way =
     subst (λ (es : List Event). FetchesStandFor (octets_sent (making rows s starved nothing)) es x.fetches) (events-making_nothing rows s starved)
     (subst (λ (y : Seen). FetchesStandFor (octets_sent (making rows s starved nothing)) (events (making rows s starved nothing)) y.fetches) (sym seen) way.stands.fetches)
 
 -- which belongs to its last request
-pub request_there : (rows : List Row) (s : Step) (starved : Bool) (m : Message) (sender : Peer) (d : Seen) (out : List (Peer × List ℕ)) (mids : Mids) → belongs_among sender m d.fetches.fetches ≡ true
+pub request_there : (rows : List Row) (s : Step) (starved : Bool) (m : Message) (sender : Peer) (x d : Seen) (out : List (Peer × List ℕ)) (mids : Mids) → x ≡ d → belongs_among sender m x.fetches.fetches ≡ true
     → UnderWay rows s starved nothing d out mids → (request : Request) × (request_of (last_request sender (events rows)) ≡ Some request)
-request_there rows s starved m sender d out mids among way =
+request_there rows s starved m sender x d out mids seen among way =
     by (request_of (last_request sender (events rows)))
     (and_parts (is_fetching sender (events rows)) (has_names_of_request m (request_of (last_request sender (events rows))))
-    (sym (belongs (octets_sent (making rows s starved nothing)) (events rows) d.fetches.fetches d.fetches.started sender m (stands_begun rows s starved d d out mids refl way)) ∙ among)).1
+    (sym (belongs (octets_sent (making rows s starved nothing)) (events rows) x.fetches.fetches x.fetches.started sender m (stands_begun rows s starved x d out mids seen way)) ∙ among)).1
   where
     by : (o : Option Request) → has_names_of_request m o ≡ true → (request : Request) × (o ≡ Some request)
     by None h = absurd (false≢true h)
@@ -157,6 +161,11 @@ response_is rows s m request r is = ap (λ (h : Heard). response_effects_of h (b
 pub way_acknowledged : (rows : List Row) (s : Step) (starved : Bool) (m : Message) (d : Seen) (out sent : List (Peer × List ℕ)) (mids : Mids) → Sends (acknowledgement s m m.kind) out sent mids mids
     → UnderWay rows s starved nothing d out mids → UnderWay rows s starved (acknowledgement s m m.kind) d sent mids
 way_acknowledged rows s starved m d out sent mids sends way = only_silent rows s starved (acknowledgement s m m.kind) d out sent mids mids (acknowledgement-notes s m m.kind) sends way
+
+-- what leaves the table leaves the desk
+pub as_before : (rows : List Row) (s : Step) (starved : Bool) (x d : Seen) (t : Table) (out : List (Peer × List ℕ)) (mids : Mids) → x ≡ d → t ≡ x.fetches → UnderWay rows s starved nothing d out mids
+    → UnderWay rows s starved nothing (record x { fetches = t }) out mids
+as_before rows s starved x d t out mids seen kept way = subst (λ (y : Seen). UnderWay rows s starved nothing y out mids) (sym (ap (λ (u : Table). record x { fetches = u }) kept ∙ seen)) way
 
 -- it is passed over
 pub way_passed : (rows : List Row) (s : Step) (starved : Bool) (m : Message) (request : Request) (x d : Seen) (t : Table) (out sent : List (Peer × List ℕ)) (mids : Mids) → x ≡ d → t ≡ x.fetches
@@ -289,6 +298,29 @@ pub completed_parts : (rows : List Row) (s : Step) (first : Effects) (request : 
 completed_parts rows s first request params body same =
     joined-assoc first (noting (registration (entries rows) (row_moment rows s) s params body [] []).notes) (noting (note.Ceased s.peer ∷ []))
     ∙ ap (λ (p : RegParams). joined first (noting ((registration (entries rows) (row_moment rows s) s p body [] []).notes ++ note.Ceased s.peer ∷ []))) (sym same)
+
+-- all of it, where the version with its entry is planned, its entry is made, and then the fetch ends
+pub way_completed : (rows : List Row) (s : Step) (starved : Bool) (m : Message) (request : Request) (params : RegParams) (body : List ℕ) (sender : Peer) (v : Version) (o : Planned) (x d y z : Seen) (t : Table)
+    (out sent : List (Peer × List ℕ)) (mids : Mids) → x ≡ d → s.peer ≡ sender → request.params ≡ params → v ≡ x.version
+    → ((history : List Entry) (step : Step) (further : List Note) → VersionStandsFor 0 history v → step.peer ≡ sender → IsPlanned history v.swept further (registration history x.moment step params body [] further) o)
+    → ((done : Effects) (meant : Outcome) → done.notes ≡ [] → ((entry : Entry) → meant.notes ≡ note.Entered entry ∷ [] → entry.moment.0 ≡ row_moment rows s) → IsPlanned (entries rows) d.version.swept [] meant o
+    → UnderWay rows s starved done d sent mids → UnderWay rows s starved (joined done (noting meant.notes)) y sent mids)
+    → z ≡ y → ((octets : OctetsSent) (past : List Event) (e : Event) → FetchesStandFor octets past z.fetches → e.note ≡ note.Ceased sender → FetchesStandFor octets (e ∷ past) t)
+    → Sends (acknowledgement s m m.kind) out sent mids mids → UnderWay rows s starved nothing d out mids
+    → UnderWay rows s starved (joined (acknowledgement s m m.kind) (completed rows (row_moment rows s) s request body)) (record z { fetches = t }) sent mids
+way_completed rows s starved m request params body sender v o x d y z t out sent mids seen of same version planned registers seen_again ends sends way =
+    let here : UnderWay rows s starved nothing x out mids = subst (λ (u : Seen). UnderWay rows s starved nothing u out mids) (sym seen) way in
+    let moment : x.moment ≡ row_moment rows s = way_moment rows s starved nothing x out mids here in
+    let stands : VersionStandsFor 0 (entries rows) v =
+    subst (VersionStandsFor 0 (entries rows)) (sym version) (subst (λ (es : List Entry). VersionStandsFor 0 es x.version) (entries-making_nothing rows s starved) here.stands.directory.history) in
+    let meant : Outcome = registration (entries rows) (row_moment rows s) s params body [] [] in
+    let plan : IsPlanned (entries rows) d.version.swept [] meant o =
+    subst (λ (u : Version). IsPlanned (entries rows) u.swept [] meant o) (version ∙ ap (λ (u : Seen). u.version) seen)
+    (subst (λ (at : ℕ). IsPlanned (entries rows) v.swept [] (registration (entries rows) at s params body [] []) o) moment (planned (entries rows) s [] stands of)) in
+    subst (λ (e : Effects). UnderWay rows s starved e (record z { fetches = t }) sent mids) (completed_parts rows s (acknowledgement s m m.kind) request params body same)
+    (way_ceased rows s starved (joined (acknowledgement s m m.kind) (noting meant.notes)) sender z y t sent mids seen_again of ends
+    (registers (acknowledgement s m m.kind) meant (acknowledgement-notes s m m.kind) (λ entry is. registration-moment (entries rows) (row_moment rows s) s params body [] [] [] entry is) plan
+    (way_acknowledged rows s starved m d out sent mids sends way)))
 
 -- the whole body
 pub way_whole : (rows : List Row) (s : Step) (starved : Bool) (m : Message) (request : Request) (params : RegParams) (body : List ℕ) (d : Seen) (out : List (Peer × List ℕ)) (mids : Mids)
