@@ -124,8 +124,7 @@ impl Fetching {
         ensures kept { IsKeptAfter result self.old self.new }
         ensures sound { IsSoundHeard mid result }
     {
-        self.running
-            .response(alloc, now, word, mid, peer, meaning)
+        self.running.response(alloc, now, word, mid, peer, meaning)
     }
 
     /// Ends the fetch of a peer, where one runs.

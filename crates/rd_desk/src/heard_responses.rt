@@ -148,7 +148,14 @@ impl Tables {
                 return Stepped::Done;
             }
             Heard::Whole(params, body) => {
-                return self.complete_fetch(alloc, peer, &meaning.view, params, body.as_slice(), out);
+                return self.complete_fetch(
+                    alloc,
+                    peer,
+                    &meaning.view,
+                    params,
+                    body.as_slice(),
+                    out,
+                );
             }
             Heard::Ended => {
                 acknowledge_response(peer, &meaning.view, out);

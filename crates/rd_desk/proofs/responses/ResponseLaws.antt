@@ -21,7 +21,7 @@ use Rattle.event_model.specs.declared.notes.Note.TheVariants as note
 use Rattle.event_model.specs.Same.{is_same_peer}
 use Rattle.event_model.specs.Events.{Event, noted}
 use Rattle.event_model.specs.Flights.{OctetsSent}
-use Rattle.event_model.specs.Fetches.{Request, is_fetching, last_request}
+use Rattle.event_model.specs.Fetches.{Request, is_fetching, last_request, gathered, collected}
 use Rattle.event_model.proofs.NotedLaws.{event_at}
 use Rattle.event_model.proofs.SameLaws.{is_same_peer-refl}
 use Rattle.journal_model.specs.declared.steps.Step.{Step}
@@ -29,7 +29,7 @@ use Rattle.journal_model.specs.declared.rows.Row.{Row}
 use Rattle.journal_model.specs.Changes.{Outcome, BodyRead, bad_body, good_body, refused_as, body_read, entry_of_step, entered_unless, registered_links, registration, created_at, number_after}
 use Rattle.journal_model.specs.Effects.{Effects, nothing, joined, noting, mid_of, empty_message}
 use Rattle.journal_model.specs.Journal.{events, entries}
-use Rattle.journal_model.specs.Responses.{strange, acknowledgement, request_of, block_in, tag_in, completed, response_to, response_to_request, response_effects}
+use Rattle.journal_model.specs.Responses.{strange, acknowledgement, request_of, block_in, tag_in, is_elsewhere, ends_fetch, completed, more_follow, gathering, response_taken, response_to, response_to_request, response_effects}
 use Rattle.journal_model.specs.Responses as responses
 use Rattle.journal_model.specs.Rows.{row_with, row_moment}
 use Rattle.journal_model.specs.Ticks.{is_confirmable_with, octets_sent}
@@ -39,10 +39,11 @@ use Rattle.journal_model.proofs.UnfinishedRowLaws.{events-making_nothing}
 use Rattle.simple_registration.specs.declared.asks.Ask.{Ask}
 use Rattle.simple_registration.specs.declared.hearing.Heard.{Heard}
 use Rattle.simple_registration.specs.declared.hearing.Heard.TheVariants as heard
+use Rattle.simple_registration.specs.Responses.{heard_part, heard_block, heard_by}
 use Rattle.simple_registration.specs.Table.{Table, belongs_among}
 use Rattle.simple_registration.specs.FetchEvents.{FetchesStandFor, has_names_of_request, heard_after}
 use Rattle.simple_registration.proofs.CallLaws.{belongs}
-use Rattle.simple_registration.proofs.StepLaws.{response_effects_of, response_to-heard, other_kind, octets_sent-here}
+use Rattle.simple_registration.proofs.StepLaws.{other_kind, octets_sent-here}
 use Rattle.rd_desk.specs.declared.mids.Mids.{Mids}
 use Rattle.rd_desk.specs.declared.outcomes.Outcome.{Outcome as Planned}
 use Rattle.rd_desk.specs.Desks.{Seen}
@@ -152,10 +153,48 @@ heard_here rows s starved x d out mids sender m mid request r seen of drawn last
     ∙ (ap (λ (p : Peer). heard_after mid p m request (events rows)) (sym of)
     ∙ ap (λ n. heard_after n s.peer m request (events rows)) (drawn ∙ ap₂ (λ w n. mid_of w n) way.worker way.drawn))
 
--- what it does is what is done for the answer
+-- the next block of a body is asked for
+abbrev pub next_effects : Step → Message → Request → Block → Ask → Effects
+next_effects s m request b ask =
+    asking_next ask (note.Gathered s.peer m.payload (tag_in m) ∷ note.Asked s.peer request.token (mid_of s.worker s.drawn) request.params (b.num + 1) ∷ [])
+
+-- what is done for the answer
+abbrev pub done_for : Heard → Option Block → List Row → Step → Message → Request → Effects
+done_for heard.Passed b rows s m request = nothing
+done_for (heard.Next ask) None rows s m request = nothing
+done_for (heard.Next ask) (Some b) rows s m request = next_effects s m request b ask
+done_for (heard.Whole params body) b rows s m request = completed rows (row_moment rows s) s request body
+done_for heard.Ended b rows s m request = noting (note.Ceased s.peer ∷ [])
+done_for heard.Starved b rows s m request = nothing
+
+-- that is what a response does
+response_done : (rows : List Row) (s : Step) (m : Message) (request : Request)
+    → done_for (heard_after (mid_of s.worker s.drawn) s.peer m request (events rows)) (block_in m) rows s m request ≡ response_to rows (row_moment rows s) s m request
+response_done rows s m request =
+    by (is_elsewhere (block_in m) (length (collected s.peer (events rows)))) (ends_fetch m (gathered s.peer (events rows)) (length (collected s.peer (events rows))))
+  where
+    body : List ℕ
+    body = collected s.peer (events rows) ++ m.payload
+
+    part : (more : Bool) (b : Block)
+        → done_for (heard_part more b (mid_of s.worker s.drawn) s.peer request.token request.params body) (Some b) rows s m request ≡ gathering more (Some b) rows (row_moment rows s) s m request
+    part true b = refl
+    part false b = refl
+
+    block : (o : Option Block)
+        → done_for (heard_block o (mid_of s.worker s.drawn) s.peer request.token request.params body) o rows s m request ≡ gathering (more_follow o) o rows (row_moment rows s) s m request
+    block None = refl
+    block (Some b) = part b.more b
+
+    by : (elsewhere ends : Bool) → done_for (heard_by elsewhere ends (heard_block (block_in m) (mid_of s.worker s.drawn) s.peer request.token request.params body)) (block_in m) rows s m request
+        ≡ response_taken elsewhere ends rows (row_moment rows s) s m request
+    by true ends = refl
+    by false true = refl
+    by false false = block (block_in m)
+
 pub response_is : (rows : List Row) (s : Step) (m : Message) (request : Request) (r : Heard) → r ≡ heard_after (mid_of s.worker s.drawn) s.peer m request (events rows)
-    → response_effects_of r (block_in m) rows (row_moment rows s) s m request ≡ response_to rows (row_moment rows s) s m request
-response_is rows s m request r is = ap (λ (h : Heard). response_effects_of h (block_in m) rows (row_moment rows s) s m request) is ∙ sym (response_to-heard rows (row_moment rows s) s m request)
+    → done_for r (block_in m) rows s m request ≡ response_to rows (row_moment rows s) s m request
+response_is rows s m request r is = ap (λ (h : Heard). done_for h (block_in m) rows s m request) is ∙ response_done rows s m request
 
 -- first it is acknowledged
 pub way_acknowledged : (rows : List Row) (s : Step) (starved : Bool) (m : Message) (d : Seen) (out sent : List (Peer × List ℕ)) (mids : Mids) → Sends (acknowledgement s m m.kind) out sent mids mids
@@ -171,7 +210,6 @@ as_before rows s starved x d t out mids seen kept way = subst (λ (y : Seen). Un
 pub way_passed : (rows : List Row) (s : Step) (starved : Bool) (m : Message) (request : Request) (x d : Seen) (t : Table) (out sent : List (Peer × List ℕ)) (mids : Mids) → x ≡ d → t ≡ x.fetches
     → heard.Passed ≡ heard_after (mid_of s.worker s.drawn) s.peer m request (events rows) → Sends (acknowledgement s m m.kind) out sent mids mids → UnderWay rows s starved nothing d out mids
     → UnderWay rows s starved (joined (acknowledgement s m m.kind) (response_to rows (row_moment rows s) s m request)) (record x { fetches = t }) sent mids
-unfolding response_effects_of
 way_passed rows s starved m request x d t out sent mids seen kept is sends way =
     subst (λ (e : Effects). UnderWay rows s starved e (record x { fetches = t }) sent mids)
     (sym (joined-nothing (acknowledgement s m m.kind)) ∙ ap (joined (acknowledgement s m m.kind)) (response_is rows s m request heard.Passed is))
@@ -190,33 +228,25 @@ pub way_ended : (rows : List Row) (s : Step) (starved : Bool) (m : Message) (req
     → ((octets : OctetsSent) (past : List Event) (e : Event) → FetchesStandFor octets past x.fetches → e.note ≡ note.Ceased sender → FetchesStandFor octets (e ∷ past) t)
     → heard.Ended ≡ heard_after (mid_of s.worker s.drawn) s.peer m request (events rows) → Sends (acknowledgement s m m.kind) out sent mids mids → UnderWay rows s starved nothing d out mids
     → UnderWay rows s starved (joined (acknowledgement s m m.kind) (response_to rows (row_moment rows s) s m request)) (record x { fetches = t }) sent mids
-unfolding response_effects_of
 way_ended rows s starved m request sender x d t out sent mids seen of ends is sends way =
     subst (λ (e : Effects). UnderWay rows s starved (joined (acknowledgement s m m.kind) e) (record x { fetches = t }) sent mids) (response_is rows s m request heard.Ended is)
     (way_ceased rows s starved (acknowledgement s m m.kind) sender x d t sent mids seen of ends (way_acknowledged rows s starved m d out sent mids sends way))
 
--- the next block is asked for
-next_effects : (rows : List Row) (s : Step) (m : Message) (request : Request) (b : Block) (ask : Ask) → Effects
-next_effects rows s m request b ask =
-    asking_next ask (note.Gathered s.peer m.payload (tag_in m) ∷ note.Asked s.peer request.token (mid_of s.worker s.drawn) request.params (b.num + 1) ∷ [])
-
--- its request is among what is sent
+-- the next block is asked for: the request is among what is sent
 request_sent : (rows : List Row) (s : Step) (m : Message) (request : Request) (b : Block) (ask : Ask) → ask.peer ≡ s.peer → is_confirmable_with (mid_of s.worker s.drawn) ask.bytes ≡ true
-    → AreRequestsSent (next_effects rows s m request b ask)
-unfolding next_effects
+    → AreRequestsSent (next_effects s m request b ask)
 request_sent rows s m request b ask to it =
     let same : is_same_peer ask.peer s.peer ≡ true = ap (λ (p : Peer). is_same_peer p s.peer) to ∙ is_same_peer-refl s.peer in
-    (tt, both same it, tt)
+    (tt, (both same it, tt))
   where
     both : {a b : Bool} → a ≡ true → b ≡ true → ((a && b) || false) ≡ true
     both h g = rw (h, g) refl
 
 -- and it is what the row sent
 octets_asked : (rows : List Row) (s : Step) (starved : Bool) (m : Message) (request : Request) (b : Block) (ask : Ask) → ask.peer ≡ s.peer → is_confirmable_with (mid_of s.worker s.drawn) ask.bytes ≡ true
-    → octets_sent (making rows s starved (joined (acknowledgement s m m.kind) (next_effects rows s m request b ask))) (length rows) s.peer (mid_of s.worker s.drawn) ≡ ask.bytes
-unfolding next_effects
+    → octets_sent (making rows s starved (joined (acknowledgement s m m.kind) (next_effects s m request b ask))) (length rows) s.peer (mid_of s.worker s.drawn) ≡ ask.bytes
 octets_asked rows s starved m request b ask to it =
-    octets_sent-here rows (row_with s (row_moment rows s) starved (joined (acknowledgement s m m.kind) (next_effects rows s m request b ask))) s.peer (mid_of s.worker s.drawn) ask.bytes
+    octets_sent-here rows (row_with s (row_moment rows s) starved (joined (acknowledgement s m m.kind) (next_effects s m request b ask))) s.peer (mid_of s.worker s.drawn) ask.bytes
     (acknowledgement s m m.kind).sent [] (ap (λ (p : Peer). (acknowledgement s m m.kind).sent ++ (p, ask.bytes) ∷ []) to) (acknowledgement-other s m m.kind (mid_of s.worker s.drawn)) it
 
 -- what a table of fetches then stands for
@@ -234,12 +264,11 @@ events-silent rows s starved e none =
 next_told : (rows : List Row) (s : Step) (starved : Bool) (m : Message) (request : Request) (ask : Ask) (b : Block) (t u : Table) (sender : Peer) (moment word mid : ℕ) → s.peer ≡ sender → s.word ≡ word → moment ≡ row_moment rows s
     → mid ≡ mid_of s.worker s.drawn → request_of (last_request sender (events rows)) ≡ Some request → block_in m ≡ Some b → ask.peer ≡ s.peer → is_confirmable_with (mid_of s.worker s.drawn) ask.bytes ≡ true
     → GoesOn t u moment word mid sender m (heard.Next ask)
-    → FetchesStandFor (octets_sent (making rows s starved (joined (acknowledgement s m m.kind) (next_effects rows s m request b ask)))) (events (making rows s starved (acknowledgement s m m.kind))) t
-    → FetchesStandFor (octets_sent (making rows s starved (joined (acknowledgement s m m.kind) (next_effects rows s m request b ask))))
-    (noting_more rows s (next_effects rows s m request b ask).notes (events (making rows s starved (acknowledgement s m m.kind)))) u
-unfolding next_effects
+    → FetchesStandFor (octets_sent (making rows s starved (joined (acknowledgement s m m.kind) (next_effects s m request b ask)))) (events (making rows s starved (acknowledgement s m m.kind))) t
+    → FetchesStandFor (octets_sent (making rows s starved (joined (acknowledgement s m m.kind) (next_effects s m request b ask))))
+    (noting_more rows s (next_effects s m request b ask).notes (events (making rows s starved (acknowledgement s m m.kind)))) u
 next_told rows s starved m request ask b t u sender moment word mid of with at drawn last block to it goes h =
-    let octets : OctetsSent = octets_sent (making rows s starved (joined (acknowledgement s m m.kind) (next_effects rows s m request b ask))) in
+    let octets : OctetsSent = octets_sent (making rows s starved (joined (acknowledgement s m m.kind) (next_effects s m request b ask))) in
     let past : List Event = events (making rows s starved (acknowledgement s m m.kind)) in
     let gathered : Event = event_at (length rows) (row_moment rows s) s.word (note.Gathered s.peer m.payload (tag_in m)) in
     let asked : Event = event_at (length rows) (row_moment rows s) s.word (note.Asked s.peer request.token (mid_of s.worker s.drawn) request.params (b.num + 1)) in
@@ -253,16 +282,15 @@ pub way_next : (rows : List Row) (s : Step) (starved : Bool) (m : Message) (requ
     → heard.Next ask ≡ heard_after (mid_of s.worker s.drawn) s.peer m request (events rows) → GoesOn x.fetches t x.moment word mid sender m (heard.Next ask)
     → Sends (acknowledgement s m m.kind) out between mids_before mids_before → ((notes : List Note) → Sends (asking_next ask notes) between sent mids_before mids) → UnderWay rows s starved nothing d out mids_before
     → UnderWay rows s starved (joined (acknowledgement s m m.kind) (response_to rows (row_moment rows s) s m request)) (record x { fetches = t }) sent mids
-unfolding response_effects_of next_effects
 way_next rows s starved m request ask sender word mid x d t out between sent mids_before mids seen of with drawn last sendable is goes acknowledges asks way =
     let next : Next (mid_of s.worker s.drawn) s.peer m request ask = next_of (mid_of s.worker s.drawn) s.peer m request (events rows) ask is in
     let to : ask.peer ≡ s.peer = ap (λ (a : Ask). a.peer) next.ask_is in
     let drawn_here : mid ≡ mid_of s.worker s.drawn = drawn ∙ ap₂ (λ w n. mid_of w n) way.worker way.drawn in
     let it : is_confirmable_with (mid_of s.worker s.drawn) ask.bytes ≡ true = ap (λ n. is_confirmable_with n ask.bytes) (sym drawn_here) ∙ sendable.confirmable in
     let moment : x.moment ≡ row_moment rows s = ap (λ (y : Seen). y.moment) seen ∙ way_moment rows s starved nothing d out mids_before way in
-    let e : Effects = next_effects rows s m request next.block ask in
+    let e : Effects = next_effects s m request next.block ask in
     let made : e ≡ response_to rows (row_moment rows s) s m request =
-    ap (λ (o : Option Block). response_effects_of (heard.Next ask) o rows (row_moment rows s) s m request) (sym next.is) ∙ response_is rows s m request (heard.Next ask) is in
+    ap (λ (o : Option Block). done_for (heard.Next ask) o rows s m request) (sym next.is) ∙ response_is rows s m request (heard.Next ask) is in
     subst (λ (f : Effects). UnderWay rows s starved (joined (acknowledgement s m m.kind) f) (record x { fetches = t }) sent mids) made
     (more_fetches rows s starved (acknowledgement s m m.kind) e x d t between sent mids_before mids seen refl
     (λ h. next_told rows s starved m request ask next.block x.fetches t sender x.moment word mid of with moment drawn_here last next.is to it goes h)
@@ -327,6 +355,5 @@ pub way_whole : (rows : List Row) (s : Step) (starved : Bool) (m : Message) (req
     → heard.Whole params body ≡ heard_after (mid_of s.worker s.drawn) s.peer m request (events rows)
     → UnderWay rows s starved (unless_starved starved (joined (acknowledgement s m m.kind) (completed rows (row_moment rows s) s request body))) d out mids
     → UnderWay rows s starved (unless_starved starved (joined (acknowledgement s m m.kind) (response_to rows (row_moment rows s) s m request))) d out mids
-unfolding response_effects_of
 way_whole rows s starved m request params body d out mids is way =
     subst (λ (e : Effects). UnderWay rows s starved (unless_starved starved (joined (acknowledgement s m m.kind) e)) d out mids) (response_is rows s m request (heard.Whole params body) is) way
