@@ -3,7 +3,6 @@ use Rattle.std.specs.Prelude.{◌≡◌, ℕ, Bool, true, false, not, ◌&&◌, 
 use Rattle.message_model.specs.declared.messages.Kind4.{Kind4}
 use Rattle.message_model.specs.declared.messages.Kind4.TheVariants.{Non}
 use Rattle.message_model.specs.declared.requests.Path.{Path}
-use Rattle.message_model.specs.declared.requests.Path.TheVariants as path
 use Rattle.message_model.specs.declared.requests.Refusal.TheVariants as refusal
 use Rattle.message_model.specs.Codes as codes_of
 use Rattle.message_model.specs.Message.{Message}
@@ -17,13 +16,6 @@ use Rattle.rd_desk.specs.declared.requests.Refused.TheVariants as refused
 -- the path is that of a discovery or of a lookup (RFC 9176 sections 4.1 and 6)
 abbrev pub seeks_links : Path → Bool
 seeks_links p = is_discovery p || is_lookup p
-
--- the path is that of a write (RFC 9176 sections 5, 5.1 and 5.3)
-abbrev pub is_write_path : Path → Bool
-is_write_path path.Rd = true
-is_write_path path.SimpleRd = true
-is_write_path (path.Location number) = true
-is_write_path _ = false
 
 -- the value of Observe begins an observation (RFC 7641 section 2)
 abbrev pub begins_observation : Option ℕ → Bool

@@ -54,6 +54,7 @@ impl Tables {
         requires short { HasShortBlocks meaning.now }
         requires token { length meaning.now.view.token.now ≤ longest_token }
         requires read { reading datagram.now ≡ Ok (message_in meaning.now.view) }
+        requires asks { message.role_of meaning.now.view.kind meaning.now.view.code ≡ role.Request }
         requires accepted { requests_of.refusal_of_request (message_in meaning.now.view) ≡ None }
         requires other { requests_of.only_looks (message_in meaning.now.view) ≡ false }
         requires room { length out.old < most_datagrams }
@@ -85,6 +86,7 @@ impl Tables {
     ) -> Admitted
         requires token { length view.now.token.now ≤ longest_token }
         requires read { reading datagram.now ≡ Ok (message_in view.now) }
+        requires asks { message.role_of view.now.kind view.now.code ≡ role.Request }
         requires other { requests_of.is_look_request (message_in view.now) ≡ false }
         requires room { length out.old < most_datagrams }
         ensures way { (rows : List Row) (s : Step) → s.peer ≡ peer → UnderWay rows s (is_starved_admission result) nothing self.old out.old mids.old

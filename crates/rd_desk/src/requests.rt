@@ -7,7 +7,8 @@ ghost use Rattle.coap_message.specs.Views.{message_in};
 ghost use Rattle.coap_options.specs.Meanings.{IsMeaning, HasShortBlocks, HasReadableBlocks};
 ghost use Rattle.journal_model.specs.Requests as requests_of;
 ghost use Rattle.journal_model.specs.Machine.{is_look_datagram};
-ghost use Rattle.rd_desk.specs.Asking.{begins_observation, is_plain_lookup, is_write_path, refused_with, IsRefusedBy};
+ghost use Rattle.rd_desk.specs.Asking.{begins_observation, is_plain_lookup, refused_with, IsRefusedBy};
+ghost use Rattle.rd_desk.specs.WriteJobs.{is_write_path};
 
 use block_wise::block_read;
 use coap_message::{View, role_of, view};
@@ -65,7 +66,19 @@ pub(crate) fn asked_block(meaning: &Meaning<'_>) -> Option<Block>
     }
 }
 
-/// Whether that block comes after the first.
+/// The block that the payload is (RFC 7959 section 2.1).
+pub(crate) fn sent_block(meaning: &Meaning<'_>) -> Option<Block>
+    requires short { HasShortBlocks meaning.now }
+    ensures sent { (m : Message) → IsMeaning m meaning.now → result ≡ requests_of.sent_block m }
+    ensures block { ForSome result IsBlock }
+{
+    match meaning.block1 {
+        None => None,
+        Some(value) => block_read(value).ok(),
+    }
+}
+
+/// Whether the block that is asked for comes after the first.
 pub(crate) fn is_later_block(meaning: &Meaning<'_>) -> bool
     requires short { HasShortBlocks meaning.now }
     ensures { (m : Message) → IsMeaning m meaning.now → result ≡ requests_of.is_later_block m }

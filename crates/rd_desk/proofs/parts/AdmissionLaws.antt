@@ -19,7 +19,7 @@ use Rattle.journal_model.specs.Requests.{refusal_of_request}
 use Rattle.journal_model.specs.Rows.{served, refusal_answered, message_effects, heard, effects, row_moment}
 use Rattle.journal_model.specs.Writes.{write_effects}
 use Rattle.rd_desk.specs.Admitting.{write_heard}
-use Rattle.rd_desk.specs.Asking.{is_write_path}
+use Rattle.rd_desk.specs.WriteJobs.{is_write_path}
 
 -- an admission hears what is read of its datagram
 pub admission_hears : (rows : List Row) (s : Step) (starved : Bool) (read : Result Message Unread) → s.kind ≡ step.Admit → reading s.datagram ≡ read

@@ -46,6 +46,9 @@ returns-in-Reset-clause-held c rows s of datagram way =
 pub hear_request-requires-clause-other : goal.hear_request-requires-clause-other
 hear_request-requires-clause-other c = other_as (message_in c.args.view.now) (sym (c.role_of.ensures) ∙ c.in-Request.is) c.requires.other
 
+pub hear_request-requires-clause-asks : goal.hear_request-requires-clause-asks
+hear_request-requires-clause-asks c = sym (c.role_of.ensures) ∙ c.in-Request.is
+
 pub returns-in-Request-clause-way : goal.returns-in-Request-clause-way
 returns-in-Request-clause-way c rows s of worded way =
     hears_as rows s (is_starved_admission c.hear_request.result) role.Request (message_in c.args.view.now) c.hear_request.new.self c.hear_request.new.out c.hear_request.new.mids (sym (c.role_of.ensures) ∙ c.in-Request.is)

@@ -2,7 +2,7 @@ use Rattle.std.proofs.Common.{◌≡◌, ◌≤◌, Bool, true, false, List, len
 use Rattle.std.specs.List.{list_any}
 use Rattle.message_model.specs.declared.messages.Role.TheVariants as role
 use Rattle.message_model.specs.declared.messages.Unread.{Unread}
-use Rattle.message_model.specs.Message.{Message}
+use Rattle.message_model.specs.Message.{Message, role_of}
 use Rattle.message_model.specs.OptionTable.{first_bad_option}
 use Rattle.coap_message.specs.Views.{message_in}
 use Rattle.coap_options.specs.Meanings.{IsMeaning}
@@ -28,6 +28,7 @@ serve-requires c =
       short = c.in-Ok.ensures.short;
       token = subst (λ (x : Message). length x.token ≤ 8) (sym same) c.requires.token;
       read = c.requires.read ∙ ap (λ (x : Message). let r : Result Message Unread = Ok x in r) (sym same);
+      asks = ap (λ (x : Message). role_of x.kind x.code) same ∙ c.requires.asks;
       accepted = ap refusal_of_request same ∙ c.in-Ok.ensures.accepted;
       other = ap only_looks same ∙ other_request (message_in c.args.view.now) c.in-Ok.ensures.accepted c.requires.other;
       room = c.requires.room;

@@ -9,11 +9,11 @@ use Rattle.journal_model.specs.Effects.{Effects}
 use Rattle.journal_model.specs.Requests.{is_lookup}
 use Rattle.journal_model.specs.Rows.{message_effects, row_moment}
 use Rattle.rd_desk.specs.Admitting.{is_starved_admission, IsHeldFor}
-use Rattle.rd_desk.specs.Asking.{is_write_path}
+use Rattle.rd_desk.specs.WriteJobs.{is_write_path}
 use Rattle.rd_desk.specs.Lookups.{lookup_heard}
 use Rattle.rd_desk.specs.UnderWay.{UnderWay}
 use Rattle.rd_desk.proofs.parts.AdmissionLaws.{request_writes}
-use Rattle.rd_desk.proofs.parts.HearingLaws.{served_lookup, served_other, served_admits, takes_lookup, takes_write, jobless_way, jobless_held}
+use Rattle.rd_desk.proofs.parts.HearingLaws.{write_datagram, served_lookup, served_other, served_admits, takes_lookup, takes_write, jobless_way, jobless_held}
 use Rattle.rd_desk.proofs.tables.Tables.serve.Goals as goal
 
 pub returns-then-is_lookup-clause-way : goal.returns-then-is_lookup-clause-way
@@ -34,6 +34,11 @@ returns-then-is_lookup-clause-unstarved c rows s of way silent =
     let m = message_in c.args.meaning.now.view in
     let lookup : is_lookup (path_in m) ≡ true = sym (c.is_lookup.ensures ∙ ap is_lookup c.requires.meaning.path) ∙ c.if-is_lookup.true in
     takes_lookup rows s m (is_starved_admission c.without_job.result) c.requires.accepted lookup silent
+
+pub hear_write-requires-clause-write : goal.hear_write-requires-clause-write
+hear_write-requires-clause-write c =
+    let m = message_in c.args.meaning.now.view in
+    write_datagram c.args.datagram.now m c.requires.read c.requires.asks c.requires.accepted (sym (c.is_write.ensures ∙ ap is_write_path c.requires.meaning.path) ∙ c.if-is_write.true)
 
 pub returns-then-is_write-clause-way : goal.returns-then-is_write-clause-way
 returns-then-is_write-clause-way c rows s of way =
