@@ -43,7 +43,7 @@ use Rattle.rd_desk.specs.declared.mids.Mids.{Mids}
 use Rattle.rd_desk.specs.declared.steps.Stepped.{Stepped}
 use Rattle.rd_desk.specs.declared.steps.Stepped.TheVariants as stepped
 use Rattle.rd_desk.specs.Admitting.{is_starved_admission, write_heard, IsHeldFor, jobless, write_takes, served_takes, request_takes, message_takes, takes_memory}
-use Rattle.rd_desk.specs.WriteJobs.{Write, is_write_path, is_write_message, is_write_reading, is_write_datagram}
+use Rattle.rd_desk.specs.WriteJobs.{Write, is_write_path}
 use Rattle.rd_desk.specs.Desks.{Seen}
 use Rattle.rd_desk.specs.Lookups.{lookup_heard}
 use Rattle.rd_desk.specs.Responding.{response_heard}
@@ -105,12 +105,6 @@ served_other rows s m none other lookup writes = rw none (by (path_in m) (not_di
     by path.Res d l w = absurd (false≢true (sym l))
     by path.Ep d l w = absurd (false≢true (sym l))
     by path.Other d l w = refl
-
--- a datagram that is read as a write which nothing refuses
-pub write_datagram : (datagram : List ℕ) (m : Message) → reading datagram ≡ Ok m → role_of m.kind m.code ≡ role.Request → refusal_of_request m ≡ None → is_write_path (path_in m) ≡ true → is_write_datagram datagram ≡ true
-unfolding is_write_datagram
-write_datagram datagram m read asks none writes =
-    ap is_write_reading read ∙ (ap (λ (r : Role). is_write_message r m) asks ∙ (ap (λ (o : Option Reply). is_none o && is_write_path (path_in m)) none ∙ writes))
 
 -- what takes memory
 pub takes_write : (rows : List Row) (s : Step) (m : Message) → refusal_of_request m ≡ None → is_write_path (path_in m) ≡ true

@@ -13,7 +13,8 @@ use Rattle.rd_desk.specs.WriteJobs.{is_write_path}
 use Rattle.rd_desk.specs.Lookups.{lookup_heard}
 use Rattle.rd_desk.specs.UnderWay.{UnderWay}
 use Rattle.rd_desk.proofs.parts.AdmissionLaws.{request_writes}
-use Rattle.rd_desk.proofs.parts.HearingLaws.{write_datagram, served_lookup, served_other, served_admits, takes_lookup, takes_write, jobless_way, jobless_held}
+use Rattle.rd_desk.proofs.parts.HearingLaws.{served_lookup, served_other, served_admits, takes_lookup, takes_write, jobless_way, jobless_held}
+use Rattle.rd_desk.proofs.parts.WriteJobLaws.{write_datagram}
 use Rattle.rd_desk.proofs.tables.Tables.serve.Goals as goal
 
 pub returns-then-is_lookup-clause-way : goal.returns-then-is_lookup-clause-way
