@@ -12,6 +12,7 @@ use Rattle.rd_desk.specs.Admitting.{is_starved_admission, IsHeldFor}
 use Rattle.rd_desk.specs.WriteJobs.{is_write_path}
 use Rattle.rd_desk.specs.Lookups.{lookup_heard}
 use Rattle.rd_desk.specs.UnderWay.{UnderWay}
+use Rattle.rd_desk.proofs.answers.LookLaws.{good_request}
 use Rattle.rd_desk.proofs.parts.AdmissionLaws.{request_writes}
 use Rattle.rd_desk.proofs.parts.HearingLaws.{served_lookup, served_other, served_admits, takes_lookup, takes_write, jobless_way, jobless_held}
 use Rattle.rd_desk.proofs.parts.WriteJobLaws.{write_datagram}
@@ -35,6 +36,12 @@ returns-then-is_lookup-clause-unstarved c rows s of way silent =
     let m = message_in c.args.meaning.now.view in
     let lookup : is_lookup (path_in m) ≡ true = sym (c.is_lookup.ensures ∙ ap is_lookup c.requires.meaning.path) ∙ c.if-is_lookup.true in
     takes_lookup rows s m (is_starved_admission c.without_job.result) c.requires.accepted lookup silent
+
+pub hear_lookup-requires-clause-good : goal.hear_lookup-requires-clause-good
+hear_lookup-requires-clause-good c = good_request (message_in c.args.meaning.now.view) c.requires.accepted
+
+pub hear_lookup-requires-clause-lookup : goal.hear_lookup-requires-clause-lookup
+hear_lookup-requires-clause-lookup c = sym (c.is_lookup.ensures ∙ ap is_lookup c.requires.meaning.path) ∙ c.if-is_lookup.true
 
 pub hear_write-requires-clause-write : goal.hear_write-requires-clause-write
 hear_write-requires-clause-write c =
