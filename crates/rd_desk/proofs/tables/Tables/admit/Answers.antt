@@ -6,6 +6,7 @@ use Rattle.coap_message.specs.Views.{message_in}
 use Rattle.journal_model.specs.Rows.{unread_answered, row_moment}
 use Rattle.journal_model.specs.Effects.{nothing}
 use Rattle.journal_model.proofs.notes.SilentSteps.{unread_notes}
+use Rattle.rd_desk.specs.declared.admissions.Admitted.TheVariants as admitted
 use Rattle.rd_desk.specs.Admitting.{is_starved_admission, takes_memory}
 use Rattle.rd_desk.proofs.parts.HearingLaws.{other_message, admission_made, admission_notes, unread_admits}
 use Rattle.rd_desk.proofs.parts.PartLaws.{only_silent}
@@ -40,4 +41,4 @@ returns-in-Err-clause-made c rows s kind of datagram worded call =
 
 pub returns-in-Err-clause-held : goal.returns-in-Err-clause-held
 returns-in-Err-clause-held c rows s kind of datagram call =
-    admission_notes rows s false _ (Err c.in-Err.fault) kind (ap reading datagram ∙ sym c.in-Err.ensures.message) (unread_admits s c.in-Err.fault)
+    admission_notes rows s false admitted.Done (Err c.in-Err.fault) kind (ap reading datagram ∙ sym c.in-Err.ensures.message) (unread_admits s c.in-Err.fault)

@@ -21,7 +21,7 @@ returns-then-not-added-clause-way c rows s starved out mids way =
 
 pub returns-clause-value : goal.returns-clause-value
 returns-clause-value c rows s starved out mids way =
-    ap (λ (n : ℕ). let o : Option ℕ = Some n in o) (value-is rows s starved _ c.args.self.now _ _ out mids c.self.view_is refl ?low way)
+    ap (λ (n : ℕ). let o : Option ℕ = Some n in o) (value-is rows s starved _ c.args.self.now _ _ out mids c.self.view_is refl refl way)
     ∙ given_room rows s starved _ c.args.self.now out mids c.args.query.now (c.args.joining.peer, c.args.joining.token) c.in_ok-added.added true c.self.view_is c.in_ok-added.ensures.room c.if-not-added.false way
 
 pub returns-clause-way : goal.returns-clause-way
