@@ -27,14 +27,20 @@ impl Mids {
         Mids { worker, drawn: 0 }
     }
 
+    /// The one that is drawn next.
+    pub(crate) fn upcoming(&self) -> u16
+        ensures { result ≡ mid_of self.now.worker self.now.drawn }
+    {
+        u16::from(self.worker) * WORKER_MIDS + (self.drawn % u64::from(WORKER_MIDS)) as u16
+    }
+
     /// Draws the next.
     pub fn next(&mut self) -> u16
         ensures mid { result ≡ mid_of self.old.worker self.old.drawn }
         ensures worker { self.new.worker ≡ self.old.worker }
         ensures drawn { self.new.drawn ≡ drawing 1 self.old.drawn }
     {
-        let mid = u16::from(self.worker) * WORKER_MIDS
-            + (self.drawn % u64::from(WORKER_MIDS)) as u16;
+        let mid = self.upcoming();
         self.drawn = self.drawn.wrapping_add(1);
         mid
     }

@@ -259,7 +259,7 @@ fn answer_mid(mids: &mut Mids, kind: Kind4, mid: u16) -> u16
 }
 
 /// A message that begins as the answer to a request, with its options.
-fn begin_answer(mids: &mut Mids, view: &View<'_>, reply: &Reply<'_>) -> Writer
+pub(crate) fn begin_answer(mids: &mut Mids, view: &View<'_>, reply: &Reply<'_>) -> Writer
     requires token { length view.now.token.now ≤ longest_token }
     requires reply { IsReply reply.now }
     ensures begun { (s : Step) → s.worker ≡ mids.old.worker → s.drawn ≡ mids.old.drawn → with_payload result reply.now.payload.now ≡ effects.answer s (message_in view.now) (reply_said reply.now) }

@@ -1,0 +1,4 @@
+pub mod OutcomeLaws
+pub mod EntryLaws
+pub mod SettlingLaws
+pub mod ShortAnswers
