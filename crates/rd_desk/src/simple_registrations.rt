@@ -1,0 +1,176 @@
+//! Simple registrations: the directory answers, and then fetches the links of the device itself (RFC 9176 section 5.1).
+ghost use Rattle.std.specs.Prelude.{◌≡◌, ◌<◌, ◌≤◌, ◌+◌, ℕ, Bool, [], ◌∷◌, ◌++◌, List, length, None};
+ghost use Rattle.rd_base.specs.declared.peers.Peer.{Peer};
+ghost use Rattle.rd_base.specs.declared.parameters.RegParams.{RegParams};
+ghost use Rattle.message_model.specs.Codes as codes_of;
+ghost use Rattle.message_model.specs.Message.{longest_token};
+ghost use Rattle.message_model.specs.Request.{queries_in};
+ghost use Rattle.message_model.specs.Spelling.{spelling};
+ghost use Rattle.record_model.specs.AllowedParameters.{AreAllowed};
+ghost use Rattle.record_model.specs.declared.readings.Reading.TheVariants as reading;
+ghost use Rattle.record_model.specs.Criteria.{fault_of};
+ghost use Rattle.event_model.specs.AdmissionOrder.{IsOpen};
+ghost use Rattle.coap_message.specs.PartialMessages.{longest_datagram};
+ghost use Rattle.coap_message.specs.Views.{message_in};
+ghost use Rattle.coap_options.specs.Meanings.{IsMeaning};
+ghost use Rattle.journal_model.specs.declared.steps.Step.{Step};
+ghost use Rattle.journal_model.specs.declared.rows.Row.{Row};
+ghost use Rattle.journal_model.specs.Commits.{registering_simply};
+ghost use Rattle.journal_model.specs.Effects as effects;
+ghost use Rattle.journal_model.specs.Effects.{Effects, nothing, joined};
+ghost use Rattle.journal_model.specs.Journal.{events};
+ghost use Rattle.journal_model.specs.UnfinishedRow.{making, drawing};
+ghost use Rattle.simple_registration.specs.Table.{Table};
+ghost use Rattle.rd_desk.specs.Committing.{answering_settled, unless_failing, IsShort};
+ghost use Rattle.rd_desk.specs.Outboxes.{most_datagrams};
+ghost use Rattle.rd_desk.specs.Replies.{IsReply, reply_said};
+ghost use Rattle.rd_desk.specs.Stepping.{is_starved_step};
+ghost use Rattle.rd_desk.specs.UnderWay.{UnderWay};
+
+use crate::parameters::given_params;
+use crate::replies::Reply;
+use crate::tables::Tables;
+use crate::{Mids, Outbox, Stepped};
+use coap_message::{Kind4, View};
+use coap_options::Meaning;
+use rd_base::{Moment, Peer};
+use simple_registration::{Ask, StartFault};
+use std::alloc::Global;
+
+/// 2.04 (RFC 7252 section 5.9.1.4).
+const CHANGED: u8 = 68;
+
+/// 5.03 (RFC 7252 section 5.9.3.4).
+const SERVICE_UNAVAILABLE: u8 = 163;
+
+/// 2.04 alone.
+fn changed() -> Reply<'static>
+    ensures said { reply_said result ≡ effects.bare codes_of.changed }
+    ensures reply { IsReply result }
+    ensures short { IsShort result }
+{
+    Reply {
+        code: CHANGED,
+        tag: None,
+        observe: None,
+        location: None,
+        format: false,
+        block2: None,
+        block1: None,
+        payload: b"",
+    }
+}
+
+/// How many Message IDs the answer to a request of this type draws.
+fn drawn_for(kind: Kind4) -> u8
+    ensures { result ≡ effects.drawn_for kind }
+{
+    match kind {
+        Kind4::Con => 0,
+        Kind4::Non | Kind4::Ack | Kind4::Rst => 1,
+    }
+}
+
+/// The first request of a fetch is sent, under the Message ID that is drawn next.
+fn send_request(mids: &mut Mids, ask: &Ask, out: &mut Outbox)
+    requires room { length out.old < most_datagrams }
+    requires short { length ask.now.bytes ≤ longest_datagram }
+    ensures sent { out.new ≡ out.old ++ (ask.now.peer, ask.now.bytes) ∷ [] }
+    ensures worker { mids.new.worker ≡ mids.old.worker }
+    ensures drawn { mids.new.drawn ≡ drawing 1 mids.old.drawn }
+{
+    let _drawn = mids.next();
+    out.push(ask.peer, ask.bytes.as_slice());
+}
+
+impl Tables {
+    /// A write is settled, whatever fetches the tables have: these stay.
+    fn settle_beside_fetch(
+        &mut self,
+        mids: &mut Mids,
+        peer: Peer,
+        view: &View<'_>,
+        admitted: Moment,
+        reply: &Reply<'_>,
+        out: &mut Outbox,
+    )
+        requires token { length view.now.token.now ≤ longest_token }
+        requires reply { IsReply reply.now }
+        requires short { IsShort reply.now }
+        requires room { length out.old < most_datagrams }
+        ensures way { (fetches : Table) (rows : List Row) (s : Step) (starved : Bool) (done : Effects) (place : ℕ) → s.peer ≡ peer → done.drew ≡ 0
+            → IsOpen place peer view.now.mid admitted.0 (events (making rows s starved done)) → UnderWay rows s starved done (record self.old { fetches = fetches }) out.old mids.old
+            → UnderWay rows s starved (joined done (answering_settled place s (message_in view.now) (reply_said reply.now))) (record self.new { fetches = fetches }) out.new mids.new }
+        ensures fetches { self.new.fetches ≡ self.old.fetches }
+        ensures room { length out.new ≡ length out.old + 1 }
+    {
+        self.settle(mids, peer, view, admitted, reply, out);
+    }
+
+    /// A simple registration that was admitted is done: it is answered, and a fetch of the links of its device starts after the answer, unless one runs or
+    /// as many run as may (RFC 9176 section 5.1). The first wait is made from the word. What takes memory comes before anything is sent; where it runs out,
+    /// the write fails.
+    pub(crate) fn commit_simple(
+        &mut self,
+        alloc: Global,
+        word: u32,
+        mids: &mut Mids,
+        peer: Peer,
+        admitted: Moment,
+        meaning: &Meaning<'_>,
+        out: &mut Outbox,
+    ) -> Stepped
+        requires meaning { IsMeaning (message_in meaning.now.view) meaning.now }
+        requires token { length meaning.now.view.token.now ≤ longest_token }
+        requires good { fault_of reading.Simple (queries_in (message_in meaning.now.view)) ≡ None }
+        requires room { length out.old + 1 < most_datagrams }
+        ensures way { (rows : List Row) (s : Step) (place : ℕ) → s.peer ≡ peer → s.word ≡ word → IsOpen place s.peer (message_in meaning.now.view).mid admitted.0 (events rows)
+            → UnderWay rows s (is_starved_step result) nothing self.old out.old mids.old
+            → UnderWay rows s (is_starved_step result) (unless_failing (is_starved_step result) place s (message_in meaning.now.view)
+            (registering_simply (events rows) place s (message_in meaning.now.view))) self.new out.new mids.new }
+    {
+        let Ok(params) = given_params(alloc, meaning, true) else {
+            self.fail(mids, peer, &meaning.view, admitted, out);
+            return Stepped::Starved;
+        };
+        let mid = mids.after(drawn_for(meaning.view.kind));
+        match self
+            .fetches
+            .start(alloc, self.moment, word, mid, peer, params)
+        {
+            Ok(ask) => {
+                self.settle_beside_fetch(mids, peer, &meaning.view, admitted, &changed(), out);
+                send_request(mids, &ask, out);
+                return Stepped::Done;
+            }
+            Err(StartFault::Fetching(_)) => {
+                self.refuse_write(
+                    mids,
+                    peer,
+                    &meaning.view,
+                    admitted,
+                    SERVICE_UNAVAILABLE,
+                    b"fetching",
+                    out,
+                );
+                return Stepped::Done;
+            }
+            Err(StartFault::FullFetches) => {
+                self.refuse_write(
+                    mids,
+                    peer,
+                    &meaning.view,
+                    admitted,
+                    SERVICE_UNAVAILABLE,
+                    b"fetches",
+                    out,
+                );
+                return Stepped::Done;
+            }
+            Err(StartFault::Starved) => {
+                self.fail(mids, peer, &meaning.view, admitted, out);
+                return Stepped::Starved;
+            }
+        }
+    }
+}
