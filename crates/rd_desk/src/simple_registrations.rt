@@ -1,12 +1,8 @@
 //! Simple registrations: the directory answers, and then fetches the links of the device itself (RFC 9176 section 5.1).
 ghost use Rattle.std.specs.Prelude.{◌≡◌, ◌<◌, ◌≤◌, ◌+◌, ℕ, Bool, [], ◌∷◌, ◌++◌, List, length, None};
-ghost use Rattle.rd_base.specs.declared.peers.Peer.{Peer};
-ghost use Rattle.rd_base.specs.declared.parameters.RegParams.{RegParams};
 ghost use Rattle.message_model.specs.Codes as codes_of;
 ghost use Rattle.message_model.specs.Message.{longest_token};
 ghost use Rattle.message_model.specs.Request.{queries_in};
-ghost use Rattle.message_model.specs.Spelling.{spelling};
-ghost use Rattle.record_model.specs.AllowedParameters.{AreAllowed};
 ghost use Rattle.record_model.specs.declared.readings.Reading.TheVariants as reading;
 ghost use Rattle.record_model.specs.Criteria.{fault_of};
 ghost use Rattle.event_model.specs.AdmissionOrder.{IsOpen};
@@ -15,13 +11,13 @@ ghost use Rattle.coap_message.specs.Views.{message_in};
 ghost use Rattle.coap_options.specs.Meanings.{IsMeaning};
 ghost use Rattle.journal_model.specs.declared.steps.Step.{Step};
 ghost use Rattle.journal_model.specs.declared.rows.Row.{Row};
-ghost use Rattle.journal_model.specs.Commits.{registering_simply};
+ghost use Rattle.journal_model.specs.Commits.{settling, registering_simply};
 ghost use Rattle.journal_model.specs.Effects as effects;
-ghost use Rattle.journal_model.specs.Effects.{Effects, nothing, joined};
+ghost use Rattle.journal_model.specs.Effects.{nothing};
 ghost use Rattle.journal_model.specs.Journal.{events};
-ghost use Rattle.journal_model.specs.UnfinishedRow.{making, drawing};
+ghost use Rattle.journal_model.specs.UnfinishedRow.{drawing};
 ghost use Rattle.simple_registration.specs.Table.{Table};
-ghost use Rattle.rd_desk.specs.Committing.{answering_settled, unless_failing, IsShort};
+ghost use Rattle.rd_desk.specs.Committing.{unless_failing, IsShort};
 ghost use Rattle.rd_desk.specs.Outboxes.{most_datagrams};
 ghost use Rattle.rd_desk.specs.Replies.{IsReply, reply_said};
 ghost use Rattle.rd_desk.specs.Stepping.{is_starved_step};
@@ -29,6 +25,7 @@ ghost use Rattle.rd_desk.specs.UnderWay.{UnderWay};
 
 use crate::parameters::given_params;
 use crate::replies::Reply;
+use crate::settling::answer_short;
 use crate::tables::Tables;
 use crate::{Mids, Outbox, Stepped};
 use coap_message::{Kind4, View};
@@ -84,27 +81,25 @@ fn send_request(mids: &mut Mids, ask: &Ask, out: &mut Outbox)
 }
 
 impl Tables {
-    /// A write is settled, whatever fetches the tables have: these stay.
+    /// The 2.04 is sent and settles the write, where the fetch that comes after it started already: whatever fetches the tables have, these stay.
     fn settle_beside_fetch(
         &mut self,
         mids: &mut Mids,
         peer: Peer,
         view: &View<'_>,
         admitted: Moment,
-        reply: &Reply<'_>,
         out: &mut Outbox,
     )
         requires token { length view.now.token.now ≤ longest_token }
-        requires reply { IsReply reply.now }
-        requires short { IsShort reply.now }
         requires room { length out.old < most_datagrams }
-        ensures way { (fetches : Table) (rows : List Row) (s : Step) (starved : Bool) (done : Effects) (place : ℕ) → s.peer ≡ peer → done.drew ≡ 0
-            → IsOpen place peer view.now.mid admitted.0 (events (making rows s starved done)) → UnderWay rows s starved done (record self.old { fetches = fetches }) out.old mids.old
-            → UnderWay rows s starved (joined done (answering_settled place s (message_in view.now) (reply_said reply.now))) (record self.new { fetches = fetches }) out.new mids.new }
+        ensures way { (fetches : Table) (rows : List Row) (s : Step) (starved : Bool) (place : ℕ) → s.peer ≡ peer → IsOpen place peer view.now.mid admitted.0 (events rows)
+            → UnderWay rows s starved nothing (record self.old { fetches = fetches }) out.old mids.old
+            → UnderWay rows s starved (settling place s (message_in view.now) (record { reply = effects.bare codes_of.changed; notes = [] })) (record self.new { fetches = fetches }) out.new mids.new }
         ensures fetches { self.new.fetches ≡ self.old.fetches }
-        ensures room { length out.new ≡ length out.old + 1 }
+        ensures one { length out.new ≡ length out.old + 1 }
     {
-        self.settle(mids, peer, view, admitted, reply, out);
+        let octets = answer_short(mids, peer, view, &changed(), out);
+        self.exchanges.settle(peer, view.mid, admitted, octets);
     }
 
     /// A simple registration that was admitted is done: it is answered, and a fetch of the links of its device starts after the answer, unless one runs or
@@ -139,7 +134,7 @@ impl Tables {
             .start(alloc, self.moment, word, mid, peer, params)
         {
             Ok(ask) => {
-                self.settle_beside_fetch(mids, peer, &meaning.view, admitted, &changed(), out);
+                self.settle_beside_fetch(mids, peer, &meaning.view, admitted, out);
                 send_request(mids, &ask, out);
                 return Stepped::Done;
             }
