@@ -27,6 +27,13 @@ impl Mids {
         Mids { worker, drawn: 0 }
     }
 
+    /// The one that is drawn next.
+    pub(crate) fn upcoming(&self) -> u16
+        ensures { result ≡ mid_of self.now.worker self.now.drawn }
+    {
+        u16::from(self.worker) * WORKER_MIDS + (self.drawn % u64::from(WORKER_MIDS)) as u16
+    }
+
     /// The one that is drawn after so many others.
     pub(crate) fn after(&self, others: u8) -> u16
         ensures { result ≡ mid_of self.now.worker (self.now.drawn + others) }
@@ -41,8 +48,7 @@ impl Mids {
         ensures worker { self.new.worker ≡ self.old.worker }
         ensures drawn { self.new.drawn ≡ drawing 1 self.old.drawn }
     {
-        let mid = u16::from(self.worker) * WORKER_MIDS
-            + (self.drawn % u64::from(WORKER_MIDS)) as u16;
+        let mid = self.upcoming();
         self.drawn = self.drawn.wrapping_add(1);
         mid
     }
