@@ -1,3 +1,6 @@
 pub mod OutcomeLaws
 pub mod EntryLaws
 pub mod SettlingLaws
+pub mod ParameterLaws
+pub mod UploadLaws
+pub mod FetchStartLaws

@@ -6,7 +6,6 @@ ghost use Rattle.message_model.specs.Request.{queries_in};
 ghost use Rattle.record_model.specs.declared.readings.Reading.TheVariants as reading;
 ghost use Rattle.record_model.specs.Criteria.{fault_of};
 ghost use Rattle.event_model.specs.AdmissionOrder.{IsOpen};
-ghost use Rattle.coap_message.specs.PartialMessages.{longest_datagram};
 ghost use Rattle.coap_message.specs.Views.{message_in};
 ghost use Rattle.coap_options.specs.Meanings.{IsMeaning};
 ghost use Rattle.journal_model.specs.declared.steps.Step.{Step};
@@ -15,7 +14,6 @@ ghost use Rattle.journal_model.specs.Commits.{settling, registering_simply};
 ghost use Rattle.journal_model.specs.Effects as effects;
 ghost use Rattle.journal_model.specs.Effects.{nothing};
 ghost use Rattle.journal_model.specs.Journal.{events};
-ghost use Rattle.journal_model.specs.UnfinishedRow.{drawing};
 ghost use Rattle.simple_registration.specs.Table.{Table};
 ghost use Rattle.rd_desk.specs.Committing.{unless_failing, IsShort};
 ghost use Rattle.rd_desk.specs.Outboxes.{most_datagrams};
@@ -23,6 +21,7 @@ ghost use Rattle.rd_desk.specs.Replies.{IsReply, reply_said};
 ghost use Rattle.rd_desk.specs.Stepping.{is_starved_step};
 ghost use Rattle.rd_desk.specs.UnderWay.{UnderWay};
 
+use crate::heard_responses::ask_next;
 use crate::parameters::given_params;
 use crate::replies::Reply;
 use crate::settling::answer_short;
@@ -31,7 +30,7 @@ use crate::{Mids, Outbox, Stepped};
 use coap_message::{Kind4, View};
 use coap_options::Meaning;
 use rd_base::{Moment, Peer};
-use simple_registration::{Ask, StartFault};
+use simple_registration::StartFault;
 use std::alloc::Global;
 
 /// 2.04 (RFC 7252 section 5.9.1.4).
@@ -66,18 +65,6 @@ fn drawn_for(kind: Kind4) -> u8
         Kind4::Con => 0,
         Kind4::Non | Kind4::Ack | Kind4::Rst => 1,
     }
-}
-
-/// The first request of a fetch is sent, under the Message ID that is drawn next.
-fn send_request(mids: &mut Mids, ask: &Ask, out: &mut Outbox)
-    requires room { length out.old < most_datagrams }
-    requires short { length ask.now.bytes ≤ longest_datagram }
-    ensures sent { out.new ≡ out.old ++ (ask.now.peer, ask.now.bytes) ∷ [] }
-    ensures worker { mids.new.worker ≡ mids.old.worker }
-    ensures drawn { mids.new.drawn ≡ drawing 1 mids.old.drawn }
-{
-    let _drawn = mids.next();
-    out.push(ask.peer, ask.bytes.as_slice());
 }
 
 impl Tables {
@@ -135,7 +122,7 @@ impl Tables {
         {
             Ok(ask) => {
                 self.settle_beside_fetch(mids, peer, &meaning.view, admitted, out);
-                send_request(mids, &ask, out);
+                ask_next(mids, &ask, out);
                 return Stepped::Done;
             }
             Err(StartFault::Fetching(_)) => {
