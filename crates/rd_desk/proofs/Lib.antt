@@ -5,8 +5,10 @@
 -- The watched queries and their observers (observers): marks that are handed on (MarkLaws), which observer is found (WalkLaws, FoundObservers), each query is watched as often as it
 --   is observed (WatchedLaws); what they stand for, by its parts (WatchingParts, WatcherParts) and while a row is made: nothing about them, time that passes, an entry (WatchingLaws),
 --   a note about an observer (WatchingNotes), one who joins (JoiningLaws), and what a tick asks (TickLaws).
+-- Responses to fetches (responses): the fetches that a desk keeps stay sound (FetchingLaws), and what a response does, part after part (ResponseLaws).
 -- Changes of the registrations (changes): what is planned of a write (OutcomeLaws), the entry that a row makes (EntryLaws), and how its parts are what settles a write (SettlingLaws).
 pub mod answers
 pub mod parts
 pub mod observers
 pub mod changes
+pub mod responses

@@ -1,7 +1,6 @@
 -- The fetches of simple registrations as a desk keeps them: what each registers with, and what it sends (RFC 9176 section 5.1).
 use Rattle.std.specs.Prelude.{◌≡◌, ℕ, ◌<◌, ◌≤◌, true, List, [], length}
 use Rattle.std.specs.List.{AllByRecursion}
-use Rattle.rd_base.specs.declared.parameters.RegParams.{RegParams}
 use Rattle.message_model.specs.Message.{longest_token}
 use Rattle.coap_message.specs.PartialMessages.{longest_datagram}
 use Rattle.record_model.specs.AllowedParameters.{AreAllowed}
@@ -9,6 +8,7 @@ use Rattle.event_model.specs.declared.notes.Note.{Note}
 use Rattle.event_model.specs.declared.notes.Note.TheVariants as note
 use Rattle.event_model.specs.Events.{Event}
 use Rattle.event_model.specs.Flights.{OctetsSent}
+use Rattle.event_model.specs.Fetches.{Request}
 use Rattle.journal_model.specs.Ticks.{is_confirmable_with}
 use Rattle.simple_registration.specs.declared.hearing.Heard.{Heard}
 use Rattle.simple_registration.specs.declared.hearing.Heard.TheVariants as heard
@@ -21,14 +21,14 @@ pub record IsSendable (mid : ℕ) (octets : List ℕ) : Type 0 where
   pub confirmable : is_confirmable_with mid octets ≡ true
 
 -- a request of a fetch: a registration may have its parameters, its token is one, and its octets can be sent
-pub record IsSoundRequest (token : List ℕ) (mid : ℕ) (params : RegParams) (octets : List ℕ) : Type 0 where
-  pub allowed : AreAllowed params
-  pub token : length token ≤ longest_token
-  pub sendable : IsSendable mid octets
+pub record IsSoundRequest (request : Request) (octets : List ℕ) : Type 0 where
+  pub allowed : AreAllowed request.params
+  pub token : length request.token ≤ longest_token
+  pub sendable : IsSendable request.mid octets
 
 -- so it is of a note that makes a request, with the octets that were sent for it
 abbrev pub IsSoundNote : List ℕ → Note → Type 0
-IsSoundNote octets (note.Asked peer token mid params number) = IsSoundRequest token mid params octets
+IsSoundNote octets (note.Asked peer token mid params number) = IsSoundRequest (record { token = token; mid = mid; params = params; number = number }) octets
 IsSoundNote octets _ = Unit {0}
 
 -- the octets that a row sent for the request that a note makes

@@ -1,5 +1,5 @@
 //! The fetches of simple registrations, as a desk keeps them (RFC 9176 section 5.1).
-ghost use Rattle.std.specs.Prelude.{◌≡◌, ◌≢◌, ◌<◌, ◌≤◌, ◌∷◌, [], true, false, List, Some, None, IfOk, IfSome, OnErr, length, is_some, option_map, slice_get, if◌then◌else◌};
+ghost use Rattle.std.specs.Prelude.{◌≡◌, ◌≢◌, ◌<◌, ◌≤◌, ◌+◌, ◌∷◌, [], true, false, List, Some, None, IfOk, IfSome, OnErr, length, is_some, option_map, slice_get, if◌then◌else◌};
 ghost use Rattle.message_model.specs.declared.blocks.Block.{Block};
 ghost use Rattle.message_model.specs.Spelling.{spelling};
 ghost use Rattle.rd_base.specs.declared.peers.Peer.{Peer};

@@ -125,7 +125,7 @@ impl Tables {
         out: &mut Outbox,
     ) -> Stepped
         requires meaning { IsMeaning (message_in meaning.now.view) meaning.now }
-        requires belongs { belongs_among peer (message_in meaning.now.view) self.old.fetches ≡ true }
+        requires belongs { belongs_among peer (message_in meaning.now.view) self.old.fetches.fetches ≡ true }
         requires room { length out.old + 1 < most_datagrams }
         ensures way { (rows : List Row) (s : Step) (request : Request) → s.peer ≡ peer → s.word ≡ word → request_of (last_request peer (events rows)) ≡ Some request
             → UnderWay rows s (is_starved_step result) nothing self.old out.old mids.old
