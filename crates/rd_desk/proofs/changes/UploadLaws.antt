@@ -12,7 +12,7 @@ use Rattle.history_model.specs.declared.entries.Entry.{Entry}
 use Rattle.history_model.specs.declared.refusals.Refusal.{Refusal}
 use Rattle.history_model.specs.declared.refusals.Refusal.TheVariants as refusal
 use Rattle.history_model.specs.Refusals.{change_refusal}
-use Rattle.history_model.specs.Versions.{VersionStandsFor}
+use Rattle.history_model.specs.Versions.{Version, VersionStandsFor}
 use Rattle.history_model.specs.declared.entries.Change.TheVariants as change
 use Rattle.event_model.specs.declared.notes.Note.{Note}
 use Rattle.event_model.specs.declared.notes.Note.TheVariants as note
@@ -196,16 +196,18 @@ registration_enters history moment s params body options further entry more h = 
         sym (ap (λ (e : Entry). e.moment.0) (entered_it (change_refusal 0 history it) it entry
         (record { reply = changes.created_at (changes.number_after params.name moment (history ++ it ∷ [])) options; notes = further }) more g))
 
--- it is planned so in the step, where it is planned so of what the desk shows
-pub planned_here : (rows : List Row) (s : Step) (starved : Bool) (x d : Seen) (out : List (Peer × List ℕ)) (mids : Mids) (params : RegParams) (body : List ℕ) (options : List Opt) (further : List Note) (o : Outcome) → x ≡ d
-    → ((history : List Entry) → VersionStandsFor 0 history x.version → IsPlanned history x.version.swept further (registration history x.moment s params body options further) o)
+-- it is planned so in the step, where it is planned so of the version that the desk shows
+pub planned_here : (rows : List Row) (s : Step) (starved : Bool) (x d : Seen) (v : Version) (out : List (Peer × List ℕ)) (mids : Mids) (params : RegParams) (body : List ℕ) (options : List Opt) (further : List Note) (o : Outcome) → x ≡ d → v ≡ x.version
+    → ((history : List Entry) → VersionStandsFor 0 history v → IsPlanned history v.swept further (registration history x.moment s params body options further) o)
     → UnderWay rows s starved nothing d out mids → IsPlanned (entries rows) d.version.swept further (registration (entries rows) (row_moment rows s) s params body options further) o
-planned_here rows s starved x d out mids params body options further o seen planned way =
+planned_here rows s starved x d v out mids params body options further o seen same planned way =
     let here : UnderWay rows s starved nothing x out mids = subst (λ (y : Seen). UnderWay rows s starved nothing y out mids) (sym seen) way in
     let moment : x.moment ≡ row_moment rows s = way_moment rows s starved nothing x out mids here in
     let history : VersionStandsFor 0 (entries rows) x.version = subst (λ (es : List Entry). VersionStandsFor 0 es x.version) (entries-making_nothing rows s starved) here.stands.directory.history in
+    let its : IsPlanned (entries rows) x.version.swept further (registration (entries rows) x.moment s params body options further) o =
+        subst (λ (w : Version). VersionStandsFor 0 (entries rows) w → IsPlanned (entries rows) w.swept further (registration (entries rows) x.moment s params body options further) o) same (planned (entries rows)) history in
     subst (λ (n : ℕ). IsPlanned (entries rows) n further (registration (entries rows) (row_moment rows s) s params body options further) o) (ap (λ (y : Seen). y.version.swept) seen)
-    (subst (λ (n : ℕ). IsPlanned (entries rows) x.version.swept further (registration (entries rows) n s params body options further) o) moment (planned (entries rows) history))
+    (subst (λ (n : ℕ). IsPlanned (entries rows) x.version.swept further (registration (entries rows) n s params body options further) o) moment its)
 
 -- what is planned without an entry is a refusal
 pub refused_notes : (history : List Entry) (swept : ℕ) (further : List Note) (meant : changes.Outcome) (o : Outcome) → o.entering ≡ None → IsPlanned history swept further meant o → meant.notes ≡ []

@@ -66,9 +66,9 @@ returns-in-TooLarge c = record {
       let b = c.args.block.now in
       let fed : c.take_block.result ≢ answer.Starved = λ e. (let other : ◌≡◌ {A = Upload} answer.TooLarge answer.Starved = sym c.in-TooLarge.is ∙ e in cc) in
       let still : c.take_block.result ≢ answer.More = λ e. (let other : ◌≡◌ {A = Upload} answer.TooLarge answer.More = sym c.in-TooLarge.is ∙ e in cc) in
-      settled_block rows s place m b c.take_block.result answer.TooLarge c.in-Ok.key c.refuse_write.new.self c.refuse_write.new.out c.refuse_write.new.mids (c.in-Ok.ensures.key m c.requires.meaning) c.in-TooLarge.is
+      settled_block rows s place m b c.take_block.result answer.TooLarge c.in-Ok.key c.refuse_write-in-TooLarge.new.self c.refuse_write-in-TooLarge.new.out c.refuse_write-in-TooLarge.new.mids (c.in-Ok.ensures.key m c.requires.meaning) c.in-TooLarge.is
       (c.take_block.ensures.answer rows s false c.args.out.now c.args.mids.now of way fed)
-      (c.refuse_write.ensures.way rows s false place of (opened_by rows s place m c.args.peer c.args.admitted.0 of opened)
+      (c.refuse_write-in-TooLarge.ensures.way rows s false place of (opened_by rows s place m c.args.peer c.args.admitted.0 of opened)
       (unchanged rows s false c.args.self.now c.take_block.new.self c.args.out.now c.args.mids.now (c.take_block.ensures.other still) way));
 }
 
@@ -79,9 +79,9 @@ returns-in-FullUploads c = record {
       let b = c.args.block.now in
       let fed : c.take_block.result ≢ answer.Starved = λ e. (let other : ◌≡◌ {A = Upload} answer.FullUploads answer.Starved = sym c.in-FullUploads.is ∙ e in cc) in
       let still : c.take_block.result ≢ answer.More = λ e. (let other : ◌≡◌ {A = Upload} answer.FullUploads answer.More = sym c.in-FullUploads.is ∙ e in cc) in
-      settled_block rows s place m b c.take_block.result answer.FullUploads c.in-Ok.key c.refuse_write.new.self c.refuse_write.new.out c.refuse_write.new.mids (c.in-Ok.ensures.key m c.requires.meaning) c.in-FullUploads.is
+      settled_block rows s place m b c.take_block.result answer.FullUploads c.in-Ok.key c.refuse_write-in-FullUploads.new.self c.refuse_write-in-FullUploads.new.out c.refuse_write-in-FullUploads.new.mids (c.in-Ok.ensures.key m c.requires.meaning) c.in-FullUploads.is
       (c.take_block.ensures.answer rows s false c.args.out.now c.args.mids.now of way fed)
-      (c.refuse_write.ensures.way rows s false place of (opened_by rows s place m c.args.peer c.args.admitted.0 of opened)
+      (c.refuse_write-in-FullUploads.ensures.way rows s false place of (opened_by rows s place m c.args.peer c.args.admitted.0 of opened)
       (unchanged rows s false c.args.self.now c.take_block.new.self c.args.out.now c.args.mids.now (c.take_block.ensures.other still) way));
 }
 
@@ -90,6 +90,6 @@ returns-in-Starved c = record {
   way = λ rows s place of opened way.
       let m = message_in c.args.meaning.now.view in
       let still : c.take_block.result ≢ answer.More = λ e. (let other : ◌≡◌ {A = Upload} answer.Starved answer.More = sym c.in-Starved.is ∙ e in cc) in
-      c.fail.ensures.way rows s true place of (opened_by rows s place m c.args.peer c.args.admitted.0 of opened)
+      c.fail-in-Starved.ensures.way rows s true place of (opened_by rows s place m c.args.peer c.args.admitted.0 of opened)
       (unchanged rows s true c.args.self.now c.take_block.new.self c.args.out.now c.args.mids.now (c.take_block.ensures.other still) way);
 }

@@ -18,7 +18,7 @@ returns-in-Ok c = record {
       let further = note.Finished s.peer c.args.key.now ∷ [] in
       c.settle_upload.ensures.way rows s false place (registration (entries rows) (row_moment rows s) s params c.args.body.now options further) of opened
       (λ entry more noted. registration_enters (entries rows) (row_moment rows s) s params c.args.body.now options further entry more noted)
-      (planned_here rows s false _ c.args.self.now c.args.out.now c.args.mids.now params c.args.body.now options further c.in-Ok.outcome c.self.view_is
+      (planned_here rows s false _ c.args.self.now c.deref.result.now c.args.out.now c.args.mids.now params c.args.body.now options further c.in-Ok.outcome c.self.view_is c.deref.ensures
       (λ history h. c.in-Ok.ensures.planned history s further h of) way) way;
 }
 

@@ -24,8 +24,8 @@ returns c = record {
       let it = accepted_notes (entries rows) c.args.self.now.version.swept (note.Finished s.peer c.args.key.now ∷ []) meant c.args.outcome c.in-Some.entering c.in-Some.is planned in
       let entered : Effects = joined nothing (noting (note.Entered it.entry ∷ [])) in
       let finished : Effects = joined entered (noting (note.Finished s.peer c.args.key.now ∷ [])) in
-      settled_upload rows s starved place m (reply_said c.args.outcome.reply) it.entry c.args.key.now meant c.settle.new.self c.settle.new.out c.settle.new.mids planned.said it.noted
-      (c.settle.ensures.way rows s starved finished place of refl (open_more rows s starved finished place c.args.peer m.mid c.args.admitted.0 refl opened)
+      settled_upload rows s starved place m (reply_said c.args.outcome.reply) it.entry c.args.key.now meant c.settle-2.new.self c.settle-2.new.out c.settle-2.new.mids planned.said it.noted
+      (c.settle-2.ensures.way rows s starved finished place of refl (open_more rows s starved finished place c.args.peer m.mid c.args.admitted.0 refl opened)
       (c.end_upload.ensures.way rows s starved entered c.args.out.now c.args.mids.now of
       (c.enter.ensures rows s starved nothing it.entry c.args.out.now c.args.mids.now refl (made it.entry (note.Finished s.peer c.args.key.now ∷ []) it.noted) it.is_of way)));
 }
