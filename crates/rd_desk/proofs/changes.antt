@@ -4,3 +4,4 @@ pub mod SettlingLaws
 pub mod ParameterLaws
 pub mod UploadLaws
 pub mod FetchStartLaws
+pub mod ShortAnswers

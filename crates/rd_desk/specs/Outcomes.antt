@@ -46,6 +46,10 @@ pub record IsPlanned (history : List Entry) (swept : ℕ) (further : List Note) 
   pub reply : IsReply o.reply
   pub notes : AreNotes history swept further meant.notes o.entering
 
+-- what comes of a write is made at a moment: its entry has that, where it makes one
+abbrev pub IsMadeAt : ℕ → changes.Outcome → Type 0
+IsMadeAt moment meant = (entry : Entry) (more : List Note) → meant.notes ≡ note.Entered entry ∷ more → entry.moment.0 ≡ moment
+
 -- a change is refused, and this is said
 abbrev pub IsRefusedWith : Option Refusal → Reply → Type 0
 IsRefusedWith None r = ⊥

@@ -1,5 +1,5 @@
 //! Entries: a change of the registrations, and who is due by it (RFC 9176 section 5, RFC 7641 section 1.3).
-ghost use Rattle.std.specs.Prelude.{◌≡◌, ◌∷◌, [], Bool, List};
+ghost use Rattle.std.specs.Prelude.{◌≡◌, ◌∷◌, [], ℕ, Bool, List};
 ghost use Rattle.rd_base.specs.declared.peers.Peer.{Peer};
 ghost use Rattle.history_model.specs.declared.entries.Entry.{Entry};
 ghost use Rattle.event_model.specs.declared.notes.Note.TheVariants as note;

@@ -1,5 +1,5 @@
 //! Writes as they are heard (RFC 7252 sections 4.2 and 4.5).
-ghost use Rattle.std.specs.Prelude.{◌≡◌, ◌<◌, ◌≤◌, Bool, [], ◌∷◌, List, length, if◌then◌else◌};
+ghost use Rattle.std.specs.Prelude.{◌≡◌, ◌<◌, ◌≤◌, Bool, true, [], ◌∷◌, List, length, if◌then◌else◌};
 ghost use Rattle.message_model.specs.Message.{longest_token};
 ghost use Rattle.coap_message.specs.Views.{message_in};
 ghost use Rattle.event_model.specs.declared.notes.Note.TheVariants as note;
@@ -12,6 +12,7 @@ ghost use Rattle.journal_model.specs.Writes.{write_effects};
 ghost use Rattle.rd_desk.specs.Admitting.{is_starved_admission, write_heard, IsHeldFor};
 ghost use Rattle.rd_desk.specs.Outboxes.{most_datagrams};
 ghost use Rattle.rd_desk.specs.UnderWay.{UnderWay};
+ghost use Rattle.rd_desk.specs.WriteJobs.{is_write_datagram};
 
 use crate::server_errors::{answer_full, answer_starved};
 use crate::tables::Tables;
@@ -63,6 +64,7 @@ impl Tables {
         out: &mut Outbox,
     ) -> Admitted
         requires token { length view.now.token.now ≤ longest_token }
+        requires write { is_write_datagram datagram.now ≡ true }
         requires room { length out.old < most_datagrams }
         ensures way { (rows : List Row) (s : Step) → s.peer ≡ peer → UnderWay rows s (is_starved_admission result) nothing self.old out.old mids.old
             → UnderWay rows s (is_starved_admission result) (write_heard (is_starved_admission result) rows s (message_in view.now)) self.new out.new mids.new }

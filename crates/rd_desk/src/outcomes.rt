@@ -19,6 +19,7 @@ ghost use Rattle.history_model.specs.Replay.{replay, number_for};
 ghost use Rattle.directory_core.specs.Answers.{IsRefusalOf};
 ghost use Rattle.directory_core.specs.Changes.{IsRegistrationOf};
 ghost use Rattle.registration.specs.Drafts.{IsDraft, IsFaultOf};
+ghost use Rattle.rd_desk.specs.Committing.{IsShort};
 ghost use Rattle.rd_desk.specs.Outcomes.{HasEntry, IsTimely, IsPlanned, IsRefusedWith, IsBadBody};
 ghost use Rattle.rd_desk.specs.Replies.{IsReply, reply_said, block1_options};
 
@@ -52,6 +53,7 @@ pub(crate) struct Outcome {
 fn refused_reply(refusal: Refusal) -> Result<Reply<'static>, Starved>
     ensures said { (history : List Entry) (entry : Entry) → IsRefusalOf 0 history entry refusal → IfOk result (IsRefusedWith (change_refusal 0 history entry)) }
     ensures reply { IfOk result IsReply }
+    ensures short { IfOk result IsShort }
 {
     match refusal {
         Refusal::Gone(_) => Ok(Reply::plain(132, b"registration")),
@@ -66,6 +68,7 @@ fn refused_reply(refusal: Refusal) -> Result<Reply<'static>, Starved>
 fn bad_body_reply(fault: DraftFault) -> Result<Reply<'static>, Starved>
     ensures said { (body : List ℕ) → IsFaultOf body fault → IfOk result (IsBadBody (body_read body)) }
     ensures reply { IfOk result IsReply }
+    ensures short { IfOk result IsShort }
 {
     match fault {
         DraftFault::Links(_) => Ok(Reply::plain(128, b"links")),
@@ -80,6 +83,7 @@ fn created(number: u64, block1: Option<Block>) -> Reply<'static>
     requires { ForSome block1 IsBlock }
     ensures said { reply_said result ≡ created_at number (block1_options block1) }
     ensures reply { IsReply result }
+    ensures short { IsShort result }
 {
     Reply {
         code: 65,
@@ -101,6 +105,9 @@ fn entered(
     reply: Reply<'static>,
 ) -> Result<Outcome, Starved>
     requires reply { IsReply reply }
+    requires short { IsShort reply }
+    ensures reply { IfOk result (λ o. IsReply o.reply) }
+    ensures short { IfOk result (λ o. IsShort o.reply) }
     ensures moments { (moment : ℕ) → version.at ≤ moment → version.swept ≤ moment → IfOk result (IsTimely moment) }
     ensures planned { (history : List Entry) (swept : ℕ) (entry : Entry) (meant : changes.Outcome) → HasEntry history swept entry version number → reply_said reply.entry ≡ meant.reply
         → IfOk result (IsPlanned history swept meant.notes (change_made history entry meant)) }
@@ -114,6 +121,8 @@ fn entered(
 
 /// What comes of a change that is refused. `Starved`: out of memory.
 fn refused(refusal: Refusal) -> Result<Outcome, Starved>
+    ensures reply { IfOk result (λ o. IsReply o.reply) }
+    ensures short { IfOk result (λ o. IsShort o.reply) }
     ensures moments { (moment : ℕ) → IfOk result (IsTimely moment) }
     ensures planned { (history : List Entry) (swept : ℕ) (entry : Entry) (meant : changes.Outcome) → IsRefusalOf 0 history entry refusal
         → IfOk result (IsPlanned history swept meant.notes (change_made history entry meant)) }
@@ -127,6 +136,8 @@ fn refused(refusal: Refusal) -> Result<Outcome, Starved>
 
 /// What comes of a body that gives no draft. `Starved`: out of memory.
 fn refused_body(fault: DraftFault) -> Result<Outcome, Starved>
+    ensures reply { IfOk result (λ o. IsReply o.reply) }
+    ensures short { IfOk result (λ o. IsShort o.reply) }
     ensures moments { (moment : ℕ) → IfOk result (IsTimely moment) }
     ensures planned { (history : List Entry) (swept moment : ℕ) (s : Step) (params : RegParams) (body : List ℕ) (options : List Opt) (further : List Note) → IsFaultOf body fault
         → IfOk result (IsPlanned history swept further (registration history moment s params body options further)) }
@@ -151,6 +162,8 @@ fn draft_registered(
     requires moment { now.0 ≤ 10 ^ 15 }
     requires draft { IsDraft draft }
     requires block1 { ForSome block1 IsBlock }
+    ensures reply { IfOk result (λ o. IsReply o.reply) }
+    ensures short { IfOk result (λ o. IsShort o.reply) }
     ensures moments { IfOk result (IsTimely now.0) }
     ensures planned { (history : List Entry) (entry : Entry) (meant : changes.Outcome) → VersionStandsFor 0 history version.now → IsRegistrationOf now draft entry
         → meant.reply ≡ created_at (number_for draft.name now.0 (replay history)) (block1_options block1)
@@ -178,6 +191,8 @@ pub(crate) fn registered(
     requires moment { now.0 ≤ 10 ^ 15 }
     requires allowed { AreAllowed params }
     requires block1 { ForSome block1 IsBlock }
+    ensures reply { IfOk result (λ o. IsReply o.reply) }
+    ensures short { IfOk result (λ o. IsShort o.reply) }
     ensures moments { IfOk result (IsTimely now.0) }
     ensures planned { (history : List Entry) (s : Step) (further : List Note) → VersionStandsFor 0 history version.now → s.peer ≡ peer
         → IfOk result (IsPlanned history version.now.swept further (registration history now.0 s params body.now (block1_options block1) further)) }
@@ -201,6 +216,8 @@ pub(crate) fn updated(
     requires after_sweep { version.now.swept ≤ now.0 }
     requires moment { now.0 ≤ 10 ^ 15 }
     requires change { IsAllowedChange change }
+    ensures reply { IfOk result (λ o. IsReply o.reply) }
+    ensures short { IfOk result (λ o. IsShort o.reply) }
     ensures moments { IfOk result (IsTimely now.0) }
     ensures planned { (history : List Entry) (s : Step) → VersionStandsFor 0 history version.now → s.peer ≡ peer
         → IfOk result (IsPlanned history version.now.swept [] (change_made history (entry_of_step now.0 s (change_of.Update number change)) (record { reply = bare codes_of.changed; notes = [] }))) }
@@ -221,6 +238,8 @@ pub(crate) fn removed(
     requires after_at { version.now.at ≤ now.0 }
     requires after_sweep { version.now.swept ≤ now.0 }
     requires moment { now.0 ≤ 10 ^ 15 }
+    ensures reply { IfOk result (λ o. IsReply o.reply) }
+    ensures short { IfOk result (λ o. IsShort o.reply) }
     ensures moments { IfOk result (IsTimely now.0) }
     ensures planned { (history : List Entry) (s : Step) → VersionStandsFor 0 history version.now
         → IfOk result (IsPlanned history version.now.swept [] (change_made history (entry_of_step now.0 s (change_of.Remove number)) (record { reply = bare codes_of.deleted; notes = [] }))) }

@@ -65,7 +65,19 @@ pub(crate) fn asked_block(meaning: &Meaning<'_>) -> Option<Block>
     }
 }
 
-/// Whether that block comes after the first.
+/// The block that the payload is (RFC 7959 section 2.1).
+pub(crate) fn sent_block(meaning: &Meaning<'_>) -> Option<Block>
+    requires short { HasShortBlocks meaning.now }
+    ensures sent { (m : Message) → IsMeaning m meaning.now → result ≡ requests_of.sent_block m }
+    ensures block { ForSome result IsBlock }
+{
+    match meaning.block1 {
+        None => None,
+        Some(value) => block_read(value).ok(),
+    }
+}
+
+/// Whether the block that is asked for comes after the first.
 fn is_later_block(meaning: &Meaning<'_>) -> bool
     requires short { HasShortBlocks meaning.now }
     ensures { (m : Message) → IsMeaning m meaning.now → result ≡ requests_of.is_later_block m }

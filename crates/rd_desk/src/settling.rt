@@ -1,16 +1,21 @@
 //! Writes that were admitted are settled by their answers, or fail (RFC 7252 sections 4.2 and 4.5).
-ghost use Rattle.std.specs.Prelude.{◌≡◌, ◌<◌, ◌≤◌, ℕ, Bool, List, length};
+ghost use Rattle.std.specs.Prelude.{◌≡◌, ◌^◌, ◌<◌, ◌≤◌, ℕ, Bool, List, length};
+ghost use Rattle.std.specs.Option.{ForSome};
 ghost use Rattle.message_model.specs.Message.{longest_token};
 ghost use Rattle.coap_message.specs.Views.{message_in};
+ghost use Rattle.message_model.specs.Spelling.{spelling};
+ghost use Rattle.event_model.specs.declared.notes.Note.{Note};
 ghost use Rattle.event_model.specs.AdmissionOrder.{IsOpen};
 ghost use Rattle.journal_model.specs.declared.steps.Step.{Step};
 ghost use Rattle.journal_model.specs.declared.rows.Row.{Row};
-ghost use Rattle.journal_model.specs.Effects.{Effects, nothing, joined};
+ghost use Rattle.journal_model.specs.Effects as effects;
+ghost use Rattle.journal_model.specs.Effects.{Effects, nothing, joined, answering};
 ghost use Rattle.journal_model.specs.Journal.{events};
 ghost use Rattle.journal_model.specs.UnfinishedRow.{making};
 ghost use Rattle.rd_desk.specs.Committing.{answering_settled, failing, IsShort};
 ghost use Rattle.rd_desk.specs.Outboxes.{most_datagrams};
 ghost use Rattle.rd_desk.specs.Replies.{IsReply, reply_said};
+ghost use Rattle.rd_desk.specs.Sendings.{IsStepOf, Sends};
 ghost use Rattle.rd_desk.specs.UnderWay.{UnderWay};
 
 use crate::replies::{Reply, answer, begin_answer};
@@ -21,8 +26,14 @@ use coap_message::View;
 use exchange_core::Octets;
 use rd_base::{Moment, Peer};
 
+/// The number in a location is one of 64 bits, so it has at most 20 digits.
+fn known_number(location: Option<u64>)
+    ensures { ForSome location (λ number. number < 2 ^ 64) }
+{
+}
+
 /// The answer to a write is sent; its octets are given back, to be kept for repeats.
-fn answer_short(
+pub(crate) fn answer_short(
     mids: &mut Mids,
     peer: Peer,
     view: &View<'_>,
@@ -33,7 +44,10 @@ fn answer_short(
     requires reply { IsReply reply.now }
     requires short { IsShort reply.now }
     requires room { length out.old < most_datagrams }
+    ensures sends { (s : Step) (notes : List Note) → IsStepOf s peer mids.old → Sends (answering s (message_in view.now) (reply_said reply.now) notes) out.old out.new mids.old mids.new }
+    ensures octets { (s : Step) → IsStepOf s peer mids.old → result ≡ spelling (effects.answer s (message_in view.now) (reply_said reply.now)) }
 {
+    known_number(reply.location);
     let mut writer = begin_answer(mids, view, reply);
     let Ok(datagram) = writer.finish(reply.payload) else {
         unreachable!()
