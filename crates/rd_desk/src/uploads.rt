@@ -28,7 +28,7 @@ ghost use Rattle.transfers.specs.TransferEvents.{block_answer};
 ghost use Rattle.rd_desk.specs.declared.mids.Mids.{Mids};
 ghost use Rattle.rd_desk.specs.Committing.{unless_failing, IsShort};
 ghost use Rattle.rd_desk.specs.Outboxes.{most_datagrams};
-ghost use Rattle.rd_desk.specs.Outcomes.{IsTimely, IsPlanned};
+ghost use Rattle.rd_desk.specs.Outcomes.{IsTimely, IsPlanned, IsMadeAt};
 ghost use Rattle.rd_desk.specs.Replies.{IsReply, reply_said};
 ghost use Rattle.rd_desk.specs.Stepping.{is_starved_step};
 ghost use Rattle.rd_desk.specs.UnderWay.{UnderWay};
@@ -150,7 +150,7 @@ impl Tables {
         requires short { IsShort outcome.reply }
         requires room { length out.old < most_datagrams }
         ensures way { (rows : List Row) (s : Step) (starved : Bool) (place : ℕ) (meant : changes.Outcome) → s.peer ≡ peer → IsOpen place peer view.now.mid admitted.0 (events rows)
-            → ((entry : Entry) (more : List Note) → meant.notes ≡ note.Entered entry ∷ more → entry.moment.0 ≡ row_moment rows s) → IsPlanned (entries rows) self.old.version.swept (note.Finished s.peer key.now ∷ []) meant outcome
+            → IsMadeAt (row_moment rows s) meant → IsPlanned (entries rows) self.old.version.swept (note.Finished s.peer key.now ∷ []) meant outcome
             → UnderWay rows s starved nothing self.old out.old mids.old → UnderWay rows s starved (settling place s (message_in view.now) meant) self.new out.new mids.new }
     {
         let Outcome { reply, entering } = outcome;
@@ -235,14 +235,7 @@ impl Tables {
         };
         match self.take_block(alloc, peer, &key, block, meaning.view.payload) {
             Upload::More => {
-                self.settle(
-                    mids,
-                    peer,
-                    &meaning.view,
-                    admitted,
-                    &continued(*block),
-                    out,
-                );
+                self.settle(mids, peer, &meaning.view, admitted, &continued(*block), out);
                 return Stepped::Done;
             }
             Upload::Whole(body) => {

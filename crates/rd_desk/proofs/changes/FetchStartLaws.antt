@@ -151,9 +151,9 @@ asked_as : (rows : List Row) (s : Step) (m : Message) (mid word moment : ℕ) (p
     → IsStarted sender moment word mid params ask.bytes before after → IsAskedAs rows s m ask before after
 asked_as rows s m mid word moment params sender ask octets before after by fed here same given stands idle asks started =
     let its : ask ≡ record { peer = s.peer; bytes = first_octets s m (events rows) } =
-        asks octets (events rows) stands
-        ∙ (ap (λ (p : Peer). let a : Ask = record { peer = p; bytes = spelling (fetch_request mid (next_token (events rows)) None) } in a) (sym by)
-        ∙ ap (λ (k : ℕ). let a : Ask = record { peer = s.peer; bytes = spelling (fetch_request k (next_token (events rows)) None) } in a) same) in
+    asks octets (events rows) stands
+    ∙ (ap (λ (p : Peer). let a : Ask = record { peer = p; bytes = spelling (fetch_request mid (next_token (events rows)) None) } in a) (sym by)
+    ∙ ap (λ (k : ℕ). let a : Ask = record { peer = s.peer; bytes = spelling (fetch_request k (next_token (events rows)) None) } in a) same) in
     record {
       idle = ap (λ (p : Peer). start_refusal p (events rows)) by ∙ idle octets (events rows) stands;
       asked = its;
@@ -182,11 +182,11 @@ unfolding events
 way_started rows s place m x d after t ask params mid word sender out between sent mids_before mids_between mids seen by fed short given drawn idle asks started left settles sends way =
     let here : UnderWay rows s false nothing x out mids_before = subst (λ (y : Seen). UnderWay rows s false nothing y out mids_before) (sym seen) way in
     let same : mid ≡ mid_of s.worker (s.drawn + drawn_for m.kind) =
-        drawn ∙ (ap (λ (w : ℕ). mid_of w (mids_before.drawn + drawn_for m.kind)) here.worker ∙ ap (λ (n : ℕ). mid_of s.worker (n + drawn_for m.kind)) here.drawn) in
+    drawn ∙ (ap (λ (w : ℕ). mid_of w (mids_before.drawn + drawn_for m.kind)) here.worker ∙ ap (λ (n : ℕ). mid_of s.worker (n + drawn_for m.kind)) here.drawn) in
     let its : IsAskedAs rows s m ask x.fetches t =
-        asked_as rows s m mid word x.moment params sender ask (octets_sent (making rows s false nothing)) x.fetches t by fed (way_moment rows s false nothing x out mids_before here) same given here.stands.fetches idle asks started in
+    asked_as rows s m mid word x.moment params sender ask (octets_sent (making rows s false nothing)) x.fetches t by fed (way_moment rows s false nothing x out mids_before here) same given here.stands.fetches idle asks started in
     let asked : Sends (first_asking s m (events rows)) between sent mids_between mids =
-        subst (λ (a : Ask). Sends (asking_next a (first_asking s m (events rows)).notes) between sent mids_between mids) its.asked (sends (first_asking s m (events rows)).notes) in
+    subst (λ (a : Ask). Sends (asking_next a (first_asking s m (events rows)).notes) between sent mids_between mids) its.asked (sends (first_asking s m (events rows)).notes) in
     subst (λ (e : Effects). UnderWay rows s false e after sent mids) (sym (registering_simply-starts (events rows) place s m its.idle))
     (subst (λ (y : Seen). UnderWay rows s false (joined (changing place s m) (first_asking s m (events rows))) y sent mids) (own_fetches after t x.fetches left)
     (way_asked rows s place m (record after { fetches = x.fetches }) t between sent mids_between mids short its.started asked (settles here)))
@@ -232,7 +232,7 @@ unfolding events
 settled_fetching rows s place m x d after sender other out sent mids_before mids seen by runs way done =
     let here : UnderWay rows s false nothing x out mids_before = subst (λ (y : Seen). UnderWay rows s false nothing y out mids_before) (sym seen) way in
     let why : start_refusal s.peer (events rows) ≡ Some (fault.Fetching other) =
-        ap (λ (p : Peer). start_refusal p (events rows)) by ∙ runs (octets_sent (making rows s false nothing)) (events rows) here.stands.fetches in
+    ap (λ (p : Peer). start_refusal p (events rows)) by ∙ runs (octets_sent (making rows s false nothing)) (events rows) here.stands.fetches in
     subst (λ (e : Effects). UnderWay rows s false e after sent mids) (sym (registering_simply-fetching (events rows) place s m other why)) done
 
 -- as many run as may
@@ -244,5 +244,5 @@ unfolding events
 settled_full rows s place m x d after sender out sent mids_before mids seen by runs way done =
     let here : UnderWay rows s false nothing x out mids_before = subst (λ (y : Seen). UnderWay rows s false nothing y out mids_before) (sym seen) way in
     let why : start_refusal s.peer (events rows) ≡ Some fault.FullFetches =
-        ap (λ (p : Peer). start_refusal p (events rows)) by ∙ runs (octets_sent (making rows s false nothing)) (events rows) here.stands.fetches in
+    ap (λ (p : Peer). start_refusal p (events rows)) by ∙ runs (octets_sent (making rows s false nothing)) (events rows) here.stands.fetches in
     subst (λ (e : Effects). UnderWay rows s false e after sent mids) (sym (registering_simply-full (events rows) place s m why)) done

@@ -205,7 +205,7 @@ planned_here rows s starved x d v out mids params body options further o seen sa
     let moment : x.moment ≡ row_moment rows s = way_moment rows s starved nothing x out mids here in
     let history : VersionStandsFor 0 (entries rows) x.version = subst (λ (es : List Entry). VersionStandsFor 0 es x.version) (entries-making_nothing rows s starved) here.stands.directory.history in
     let its : IsPlanned (entries rows) x.version.swept further (registration (entries rows) x.moment s params body options further) o =
-        subst (λ (w : Version). VersionStandsFor 0 (entries rows) w → IsPlanned (entries rows) w.swept further (registration (entries rows) x.moment s params body options further) o) same (planned (entries rows)) history in
+    subst (λ (w : Version). VersionStandsFor 0 (entries rows) w → IsPlanned (entries rows) w.swept further (registration (entries rows) x.moment s params body options further) o) same (planned (entries rows)) history in
     subst (λ (n : ℕ). IsPlanned (entries rows) n further (registration (entries rows) (row_moment rows s) s params body options further) o) (ap (λ (y : Seen). y.version.swept) seen)
     (subst (λ (n : ℕ). IsPlanned (entries rows) x.version.swept further (registration (entries rows) n s params body options further) o) moment its)
 
