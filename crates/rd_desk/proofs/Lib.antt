@@ -8,6 +8,7 @@
 --   a note about an observer (WatchingNotes), one who joins (JoiningLaws), and what a tick asks (TickLaws).
 -- Responses to fetches (responses): the fetches that a desk keeps stay sound (FetchingLaws), and what a response does, part after part (ResponseLaws).
 -- Changes of the registrations (changes): what is planned of a write (OutcomeLaws), the entry that a row makes (EntryLaws), and how its parts are what settles a write (SettlingLaws).
+--   The parameters that a registration gives (ParameterLaws), a block of one (UploadLaws), and a simple one, whose fetch starts beside its answer (FetchStartLaws).
 pub mod answers
 pub mod parts
 pub mod observers
