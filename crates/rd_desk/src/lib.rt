@@ -30,6 +30,7 @@ mod requests;
 mod server_errors;
 mod settling;
 mod simple_registrations;
+mod staging;
 mod steps;
 mod tables;
 mod unread_datagrams;
