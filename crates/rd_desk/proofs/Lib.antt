@@ -1,11 +1,12 @@
 -- What the desk sends (answers): OutboxLaws, ReplySizes, AskedLaws, SendingLaws, RefusalLaws, and what looks find (LookLaws).
 -- A step in parts (parts): effects one after the other (EffectLaws), what a journal shows while its last row is made (MakingLaws, FetchLaws), which table a note is about (NoteTopics)
 --   and what it leaves (AsideLaws), a step under way from its beginning to its row (WayLaws), one part more (PartLaws); tables of the empty journal (DeskLaws), writes (WriteLaws),
---   empty messages (EmptyMessageLaws), keeps (KeepLaws), and what an admission does by what it hears (AdmissionLaws).
+--   empty messages (EmptyMessageLaws), keeps (KeepLaws), what an admission does by what it hears (AdmissionLaws), and the datagrams of jobs of writes (WriteJobLaws).
 -- The watched queries and their observers (observers): marks that are handed on (MarkLaws), which observer is found (WalkLaws, FoundObservers), each query is watched as often as it
 --   is observed (WatchedLaws); what they stand for, by its parts (WatchingParts, WatcherParts) and while a row is made: nothing about them, time that passes, an entry (WatchingLaws),
 --   a note about an observer (WatchingNotes), one who joins (JoiningLaws), and what a tick asks (TickLaws).
--- Changes of the registrations (changes): what is planned of a write (OutcomeLaws), the entry that a row makes (EntryLaws), and how its parts are what settles a write (SettlingLaws).
+-- Changes of the registrations (changes): what is planned of a write (OutcomeLaws), the entry that a row makes (EntryLaws), how its parts are what settles a write and what that does to
+--   its exchange (SettlingLaws), how long an answer is that is kept (ShortAnswers), and a commit, by its query options, its method, its block and its path (CommitLaws).
 pub mod answers
 pub mod parts
 pub mod observers
