@@ -4,6 +4,7 @@ pub mod Sendings
 pub mod Asking
 pub mod Writing
 pub mod Watching
+pub mod Fetching
 pub mod WriteJobs
 pub mod Admitting
 pub mod Marks
@@ -17,3 +18,4 @@ pub mod Committing
 pub mod KeepJobs
 pub mod Looking
 pub mod Stepping
+pub mod Responding
