@@ -51,7 +51,15 @@ fn whole_outcome(
         → IfOk result (IsPlanned (entries rows) version.now.swept [] (registration_outcome None rows now.0 s (message_in meaning.now.view))) }
 {
     let params = given_params(alloc, meaning, false)?;
-    registered(alloc, version, now, peer, params, meaning.view.payload, None)
+    registered(
+        alloc,
+        version,
+        now,
+        peer,
+        params,
+        meaning.view.payload,
+        None,
+    )
 }
 
 impl Tables {

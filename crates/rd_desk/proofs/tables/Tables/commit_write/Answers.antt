@@ -41,4 +41,3 @@ returns-in-Location c = record {
       (ap reading (sym c.as_slice.ensures.value) ∙ c.write_meaning-meaning.ensures.read) read (sym c.in-Location.is ∙ c.write_meaning-meaning.ensures.meaning.path) by opened
       (λ mine own. c.commit_location.ensures.way rows s place mine own way);
 }
-
