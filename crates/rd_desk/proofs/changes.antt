@@ -5,3 +5,4 @@ pub mod ParameterLaws
 pub mod UploadLaws
 pub mod FetchStartLaws
 pub mod ShortAnswers
+pub mod CommitLaws
