@@ -27,11 +27,11 @@ pub record HasEntry (history : List Entry) (last_sweep : ℕ) (entry : Entry) (v
 abbrev pub IsEntering : List Entry → ℕ → Entry → Entering → Type 0
 IsEntering history swept entry e = HasEntry history swept entry (arc_value e.version) e.number
 
--- what is ready may be asked at a moment
+-- what is ready is of a moment: its entry was made then, and it was not swept later
 abbrev pub IsReadyAt : ℕ → Entering → Type 0
-IsReadyAt moment e = ((arc_value e.version).at ≤ moment) × ((arc_value e.version).swept ≤ moment)
+IsReadyAt moment e = ((arc_value e.version).at ≡ moment) × ((arc_value e.version).swept ≤ moment)
 
--- so may what comes of a write, where it makes an entry
+-- so is what comes of a write, where it makes an entry
 abbrev pub IsTimely : ℕ → Outcome → Type 0
 IsTimely moment o = IfSome o.entering (IsReadyAt moment)
 

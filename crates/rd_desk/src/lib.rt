@@ -3,8 +3,8 @@
 
 mod admissions;
 mod bodies;
-mod desk;
 mod commits;
+mod desk;
 mod empty_messages;
 mod entries;
 mod fetching;
@@ -37,8 +37,8 @@ mod staging;
 mod steps;
 mod tables;
 mod unread_datagrams;
-mod watchers;
 mod uploads;
+mod watchers;
 mod watching;
 mod write_jobs;
 

@@ -1,5 +1,5 @@
 //! Writes on a registration: updates and removals (RFC 9176 sections 5.3.1 and 5.3.2).
-ghost use Rattle.std.specs.Prelude.{◌≡◌, ◌≢◌, ◌<◌, ◌≤◌, ◌^◌, ℕ, [], List, length, None, IfOk};
+ghost use Rattle.std.specs.Prelude.{◌≡◌, ◌≢◌, ◌<◌, ◌≤◌, ◌^◌, ℕ, [], List, length, None, IfOk, false};
 ghost use Rattle.message_model.specs.Codes as codes_of;
 ghost use Rattle.message_model.specs.Message.{longest_token};
 ghost use Rattle.message_model.specs.Request.{queries_in};
@@ -23,12 +23,15 @@ ghost use Rattle.rd_desk.specs.Outcomes.{IsTimely, IsPlanned};
 ghost use Rattle.rd_desk.specs.Replies.{IsReply};
 ghost use Rattle.rd_desk.specs.Stepping.{is_starved_step};
 ghost use Rattle.rd_desk.specs.UnderWay.{UnderWay};
+ghost use Rattle.rd_desk.specs.Shown.{AreToldOf};
+ghost use Rattle.history_model.specs.declared.entries.Entry.{Entry};
+ghost use Rattle.rd_desk.specs.Staging.{IsLaid, IsNextOf};
 
 use crate::outcomes::{Outcome, removed, updated};
 use crate::tables::Tables;
 use crate::{Mids, Outbox, Stepped};
 use coap_options::{Meaning, queries};
-use directory_core::Directory;
+use directory_core::{Board, Directory};
 use query_text::{QueryBad, update_params};
 use rd_base::{Moment, Peer, Starved, UpdateParams};
 use std::alloc::Global;
@@ -65,6 +68,7 @@ fn update_outcome(
     ensures reply { IfOk result (λ o. IsReply o.reply) }
     ensures short { IfOk result (λ o. IsShort o.reply) }
     ensures moments { IfOk result (IsTimely now.0) }
+    ensures next { (history : List Entry) → VersionStandsFor 0 history version.now → IfOk result (IsNextOf history) }
     ensures planned { (rows : List Row) (s : Step) → VersionStandsFor 0 (entries rows) version.now → s.peer ≡ peer
         → IfOk result (IsPlanned (entries rows) version.now.swept [] (updating rows now.0 s (message_in meaning.now.view) number)) }
 {
@@ -74,9 +78,10 @@ fn update_outcome(
 
 impl Tables {
     /// An update of the registration of a number that was admitted is done, or fails where memory runs out.
-    fn commit_update(
+    fn commit_update<B: Board>(
         &mut self,
         alloc: Global,
+        board: &mut B,
         mids: &mut Mids,
         peer: Peer,
         admitted: Moment,
@@ -87,19 +92,25 @@ impl Tables {
         requires token { length meaning.now.view.token.now ≤ longest_token }
         requires good { fault_of reading.Update (queries_in (message_in meaning.now.view)) ≡ None }
         requires room { length out.old < most_datagrams }
+        requires free { B.has_staged board.old ≡ false }
+        requires told { AreToldOf self.old.version (B.told board.old) }
         ensures way { (rows : List Row) (s : Step) (place : ℕ) → s.peer ≡ peer → IsOpen place s.peer (message_in meaning.now.view).mid admitted.0 (events rows)
             → UnderWay rows s (is_starved_step result) nothing self.old out.old mids.old
             → UnderWay rows s (is_starved_step result) (unless_failing (is_starved_step result) place s (message_in meaning.now.view)
             (settling place s (message_in meaning.now.view) (updating rows (row_moment rows s) s (message_in meaning.now.view) number))) self.new out.new mids.new }
+        ensures laid { IsLaid self.old.version self.new.version (B.staged board.old) (B.staged board.new) }
+        ensures name { B.name board.new ≡ B.name board.old }
+        ensures told { B.told board.new ≡ B.told board.old }
     {
         let planned = update_outcome(alloc, &*self.version, self.moment, peer, meaning, number);
-        self.finish(mids, peer, &meaning.view, admitted, planned, out)
+        self.finish(board, mids, peer, &meaning.view, admitted, planned, out)
     }
 
     /// A removal of the registration of a number that was admitted is done, or fails where memory runs out.
-    fn commit_removal(
+    fn commit_removal<B: Board>(
         &mut self,
         alloc: Global,
+        board: &mut B,
         mids: &mut Mids,
         peer: Peer,
         admitted: Moment,
@@ -109,19 +120,25 @@ impl Tables {
     ) -> Stepped
         requires token { length meaning.now.view.token.now ≤ longest_token }
         requires room { length out.old < most_datagrams }
+        requires free { B.has_staged board.old ≡ false }
+        requires told { AreToldOf self.old.version (B.told board.old) }
         ensures way { (rows : List Row) (s : Step) (place : ℕ) → s.peer ≡ peer → IsOpen place s.peer (message_in meaning.now.view).mid admitted.0 (events rows)
             → UnderWay rows s (is_starved_step result) nothing self.old out.old mids.old
             → UnderWay rows s (is_starved_step result) (unless_failing (is_starved_step result) place s (message_in meaning.now.view)
             (settling place s (message_in meaning.now.view) (removing rows (row_moment rows s) s number))) self.new out.new mids.new }
+        ensures laid { IsLaid self.old.version self.new.version (B.staged board.old) (B.staged board.new) }
+        ensures name { B.name board.new ≡ B.name board.old }
+        ensures told { B.told board.new ≡ B.told board.old }
     {
         let planned = removed(alloc, &*self.version, self.moment, number);
-        self.finish(mids, peer, &meaning.view, admitted, planned, out)
+        self.finish(board, mids, peer, &meaning.view, admitted, planned, out)
     }
 
     /// A write on a registration that was admitted is done: POST updates it, and DELETE removes it (RFC 9176 sections 5.3.1 and 5.3.2).
-    pub(crate) fn commit_location(
+    pub(crate) fn commit_location<B: Board>(
         &mut self,
         alloc: Global,
+        board: &mut B,
         mids: &mut Mids,
         peer: Peer,
         admitted: Moment,
@@ -132,14 +149,19 @@ impl Tables {
         requires token { length meaning.now.view.token.now ≤ longest_token }
         requires good { meaning.now.view.code ≡ codes_of.post → fault_of reading.Update (queries_in (message_in meaning.now.view)) ≡ None }
         requires room { length out.old < most_datagrams }
+        requires free { B.has_staged board.old ≡ false }
+        requires told { AreToldOf self.old.version (B.told board.old) }
         ensures way { (rows : List Row) (s : Step) (place : ℕ) → s.peer ≡ peer → IsOpen place s.peer (message_in meaning.now.view).mid admitted.0 (events rows)
             → UnderWay rows s (is_starved_step result) nothing self.old out.old mids.old
             → UnderWay rows s (is_starved_step result) (unless_failing (is_starved_step result) place s (message_in meaning.now.view)
             (on_location (method_of (message_in meaning.now.view).code) rows (row_moment rows s) place s (message_in meaning.now.view) number)) self.new out.new mids.new }
+        ensures laid { IsLaid self.old.version self.new.version (B.staged board.old) (B.staged board.new) }
+        ensures name { B.name board.new ≡ B.name board.old }
+        ensures told { B.told board.new ≡ B.told board.old }
     {
         if meaning.view.code == POST {
-            return self.commit_update(alloc, mids, peer, admitted, meaning, number, out);
+            return self.commit_update(alloc, board, mids, peer, admitted, meaning, number, out);
         }
-        self.commit_removal(alloc, mids, peer, admitted, meaning, number, out)
+        self.commit_removal(alloc, board, mids, peer, admitted, meaning, number, out)
     }
 }

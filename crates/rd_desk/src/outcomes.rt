@@ -20,6 +20,7 @@ ghost use Rattle.directory_core.specs.Answers.{IsRefusalOf};
 ghost use Rattle.directory_core.specs.Changes.{IsRegistrationOf};
 ghost use Rattle.registration.specs.Drafts.{IsDraft, IsFaultOf};
 ghost use Rattle.rd_desk.specs.Committing.{IsShort};
+ghost use Rattle.rd_desk.specs.Staging.{IsNextOf};
 ghost use Rattle.rd_desk.specs.Outcomes.{HasEntry, IsTimely, IsPlanned, IsRefusedWith, IsBadBody};
 ghost use Rattle.rd_desk.specs.Replies.{IsReply, reply_said, block1_options};
 
@@ -108,7 +109,7 @@ fn entered(
     requires short { IsShort reply }
     ensures reply { IfOk result (λ o. IsReply o.reply) }
     ensures short { IfOk result (λ o. IsShort o.reply) }
-    ensures moments { (moment : ℕ) → version.at ≤ moment → version.swept ≤ moment → IfOk result (IsTimely moment) }
+    ensures moments { (moment : ℕ) → version.at ≡ moment → version.swept ≤ moment → IfOk result (IsTimely moment) }
     ensures planned { (history : List Entry) (swept : ℕ) (entry : Entry) (meant : changes.Outcome) → HasEntry history swept entry version number → reply_said reply.entry ≡ meant.reply
         → IfOk result (IsPlanned history swept meant.notes (change_made history entry meant)) }
 {
@@ -194,6 +195,7 @@ pub(crate) fn registered(
     ensures reply { IfOk result (λ o. IsReply o.reply) }
     ensures short { IfOk result (λ o. IsShort o.reply) }
     ensures moments { IfOk result (IsTimely now.0) }
+    ensures next { (history : List Entry) → VersionStandsFor 0 history version.now → IfOk result (IsNextOf history) }
     ensures planned { (history : List Entry) (s : Step) (further : List Note) → VersionStandsFor 0 history version.now → s.peer ≡ peer
         → IfOk result (IsPlanned history version.now.swept further (registration history now.0 s params body.now (block1_options block1) further)) }
 {
@@ -219,6 +221,7 @@ pub(crate) fn updated(
     ensures reply { IfOk result (λ o. IsReply o.reply) }
     ensures short { IfOk result (λ o. IsShort o.reply) }
     ensures moments { IfOk result (IsTimely now.0) }
+    ensures next { (history : List Entry) → VersionStandsFor 0 history version.now → IfOk result (IsNextOf history) }
     ensures planned { (history : List Entry) (s : Step) → VersionStandsFor 0 history version.now → s.peer ≡ peer
         → IfOk result (IsPlanned history version.now.swept [] (change_made history (entry_of_step now.0 s (change_of.Update number change)) (record { reply = bare codes_of.changed; notes = [] }))) }
 {
@@ -241,6 +244,7 @@ pub(crate) fn removed(
     ensures reply { IfOk result (λ o. IsReply o.reply) }
     ensures short { IfOk result (λ o. IsShort o.reply) }
     ensures moments { IfOk result (IsTimely now.0) }
+    ensures next { (history : List Entry) → VersionStandsFor 0 history version.now → IfOk result (IsNextOf history) }
     ensures planned { (history : List Entry) (s : Step) → VersionStandsFor 0 history version.now
         → IfOk result (IsPlanned history version.now.swept [] (change_made history (entry_of_step now.0 s (change_of.Remove number)) (record { reply = bare codes_of.deleted; notes = [] }))) }
 {

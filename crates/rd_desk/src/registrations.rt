@@ -1,5 +1,5 @@
 //! Registrations: their body comes whole, or in blocks (RFC 9176 section 5, RFC 7959 section 2.5).
-ghost use Rattle.std.specs.Prelude.{◌≡◌, ◌<◌, ◌≤◌, ◌^◌, ℕ, [], List, length, None, IfOk};
+ghost use Rattle.std.specs.Prelude.{◌≡◌, ◌<◌, ◌≤◌, ◌^◌, ℕ, [], List, length, None, IfOk, false};
 ghost use Rattle.message_model.specs.Message.{longest_token};
 ghost use Rattle.message_model.specs.Request.{queries_in};
 ghost use Rattle.record_model.specs.declared.readings.Reading.TheVariants as reading;
@@ -21,6 +21,9 @@ ghost use Rattle.rd_desk.specs.Outcomes.{IsTimely, IsPlanned};
 ghost use Rattle.rd_desk.specs.Replies.{IsReply};
 ghost use Rattle.rd_desk.specs.Stepping.{is_starved_step};
 ghost use Rattle.rd_desk.specs.UnderWay.{UnderWay};
+ghost use Rattle.rd_desk.specs.Shown.{AreToldOf};
+ghost use Rattle.history_model.specs.declared.entries.Entry.{Entry};
+ghost use Rattle.rd_desk.specs.Staging.{IsLaid, IsNextOf};
 
 use crate::outcomes::{Outcome, registered};
 use crate::parameters::given_params;
@@ -28,7 +31,7 @@ use crate::requests::sent_block;
 use crate::tables::Tables;
 use crate::{Mids, Outbox, Stepped};
 use coap_options::Meaning;
-use directory_core::Directory;
+use directory_core::{Board, Directory};
 use rd_base::{Moment, Peer, Starved};
 use std::alloc::Global;
 
@@ -47,6 +50,7 @@ fn whole_outcome(
     ensures reply { IfOk result (λ o. IsReply o.reply) }
     ensures short { IfOk result (λ o. IsShort o.reply) }
     ensures moments { IfOk result (IsTimely now.0) }
+    ensures next { (history : List Entry) → VersionStandsFor 0 history version.now → IfOk result (IsNextOf history) }
     ensures planned { (rows : List Row) (s : Step) → VersionStandsFor 0 (entries rows) version.now → s.peer ≡ peer
         → IfOk result (IsPlanned (entries rows) version.now.swept [] (registration_outcome None rows now.0 s (message_in meaning.now.view))) }
 {
@@ -64,9 +68,10 @@ fn whole_outcome(
 
 impl Tables {
     /// A registration whose body came whole is done, or fails where memory runs out.
-    fn commit_whole(
+    fn commit_whole<B: Board>(
         &mut self,
         alloc: Global,
+        board: &mut B,
         mids: &mut Mids,
         peer: Peer,
         admitted: Moment,
@@ -76,19 +81,25 @@ impl Tables {
         requires token { length meaning.now.view.token.now ≤ longest_token }
         requires good { fault_of reading.Register (queries_in (message_in meaning.now.view)) ≡ None }
         requires room { length out.old < most_datagrams }
+        requires free { B.has_staged board.old ≡ false }
+        requires told { AreToldOf self.old.version (B.told board.old) }
         ensures way { (rows : List Row) (s : Step) (place : ℕ) → s.peer ≡ peer → IsOpen place s.peer (message_in meaning.now.view).mid admitted.0 (events rows)
             → UnderWay rows s (is_starved_step result) nothing self.old out.old mids.old
             → UnderWay rows s (is_starved_step result) (unless_failing (is_starved_step result) place s (message_in meaning.now.view)
             (settling place s (message_in meaning.now.view) (registration_outcome None rows (row_moment rows s) s (message_in meaning.now.view)))) self.new out.new mids.new }
+        ensures laid { IsLaid self.old.version self.new.version (B.staged board.old) (B.staged board.new) }
+        ensures name { B.name board.new ≡ B.name board.old }
+        ensures told { B.told board.new ≡ B.told board.old }
     {
         let planned = whole_outcome(alloc, &*self.version, self.moment, peer, meaning);
-        self.finish(mids, peer, &meaning.view, admitted, planned, out)
+        self.finish(board, mids, peer, &meaning.view, admitted, planned, out)
     }
 
     /// A registration that was admitted is done: with its whole body, or as a block of it.
-    pub(crate) fn commit_registration(
+    pub(crate) fn commit_registration<B: Board>(
         &mut self,
         alloc: Global,
+        board: &mut B,
         mids: &mut Mids,
         peer: Peer,
         admitted: Moment,
@@ -100,15 +111,20 @@ impl Tables {
         requires token { length meaning.now.view.token.now ≤ longest_token }
         requires good { fault_of reading.Register (queries_in (message_in meaning.now.view)) ≡ None }
         requires room { length out.old < most_datagrams }
+        requires free { B.has_staged board.old ≡ false }
+        requires told { AreToldOf self.old.version (B.told board.old) }
         ensures way { (rows : List Row) (s : Step) (place : ℕ) → s.peer ≡ peer → IsOpen place s.peer (message_in meaning.now.view).mid admitted.0 (events rows)
             → UnderWay rows s (is_starved_step result) nothing self.old out.old mids.old
             → UnderWay rows s (is_starved_step result) (unless_failing (is_starved_step result) place s (message_in meaning.now.view)
             (settling place s (message_in meaning.now.view) (registering rows (row_moment rows s) s (message_in meaning.now.view)))) self.new out.new mids.new }
+        ensures laid { IsLaid self.old.version self.new.version (B.staged board.old) (B.staged board.new) }
+        ensures name { B.name board.new ≡ B.name board.old }
+        ensures told { B.told board.new ≡ B.told board.old }
     {
         match sent_block(meaning) {
-            None => return self.commit_whole(alloc, mids, peer, admitted, meaning, out),
+            None => return self.commit_whole(alloc, board, mids, peer, admitted, meaning, out),
             Some(block) => {
-                return self.commit_block(alloc, mids, peer, admitted, meaning, &block, out);
+                return self.commit_block(alloc, board, mids, peer, admitted, meaning, &block, out);
             }
         }
     }

@@ -72,6 +72,7 @@ impl Tables {
         requires room { length out.old < most_datagrams }
         ensures way { (rows : List Row) (s : Step) (starved : Bool) (done : Effects) (place : ℕ) → s.peer ≡ peer → done.drew ≡ 0 → IsOpen place peer view.now.mid admitted.0 (events (making rows s starved done))
             → UnderWay rows s starved done self.old out.old mids.old → UnderWay rows s starved (joined done (answering_settled place s (message_in view.now) (reply_said reply.now))) self.new out.new mids.new }
+        ensures version { self.new.version ≡ self.old.version }
     {
         let octets = answer_short(mids, peer, view, reply, out);
         self.exchanges.settle(peer, view.mid, admitted, octets);
@@ -90,6 +91,7 @@ impl Tables {
         requires room { length out.old < most_datagrams }
         ensures way { (rows : List Row) (s : Step) (starved : Bool) (place : ℕ) → s.peer ≡ peer → IsOpen place peer view.now.mid admitted.0 (events rows)
             → UnderWay rows s starved nothing self.old out.old mids.old → UnderWay rows s starved (failing place s (message_in view.now)) self.new out.new mids.new }
+        ensures version { self.new.version ≡ self.old.version }
     {
         answer(mids, peer, view, &internal_server_error(), out);
         self.exchanges.forget(peer, view.mid, admitted);

@@ -84,6 +84,7 @@ impl Tables {
             → UnderWay rows s starved (settling place s (message_in view.now) (record { reply = effects.bare codes_of.changed; notes = [] })) (record self.new { fetches = fetches }) out.new mids.new }
         ensures fetches { self.new.fetches ≡ self.old.fetches }
         ensures one { length out.new ≡ length out.old + 1 }
+        ensures version { self.new.version ≡ self.old.version }
     {
         let octets = answer_short(mids, peer, view, &changed(), out);
         self.exchanges.settle(peer, view.mid, admitted, octets);
@@ -110,6 +111,7 @@ impl Tables {
             → UnderWay rows s (is_starved_step result) nothing self.old out.old mids.old
             → UnderWay rows s (is_starved_step result) (unless_failing (is_starved_step result) place s (message_in meaning.now.view)
             (registering_simply (events rows) place s (message_in meaning.now.view))) self.new out.new mids.new }
+        ensures version { self.new.version ≡ self.old.version }
     {
         let Ok(params) = given_params(alloc, meaning, true) else {
             self.fail(mids, peer, &meaning.view, admitted, out);

@@ -1,5 +1,5 @@
 //! Versions that a step leaves on a board, to be published after it.
-ghost use Rattle.std.specs.Prelude.{◌≡◌, false, Some, IfOk, IfSome, OnErr};
+ghost use Rattle.std.specs.Prelude.{◌≡◌, false, Some, Ok, IfOk, IfSome, OnErr};
 ghost use Rattle.rd_desk.specs.Staging.{version_ready, IsNextOf, IsSweptBefore};
 
 use crate::outcomes::Outcome;
@@ -15,7 +15,7 @@ pub(crate) fn staged<B: Board>(
     requires free { B.has_staged board.old ≡ false }
     requires next { IfSome (B.told board.old) (λ history. IfOk planned (IsNextOf history)) }
     requires swept { IfOk planned IsSweptBefore }
-    ensures same { IfOk result (λ o. IfOk planned (λ p. p ≡ o)) }
+    ensures same { IfOk result (λ o. planned ≡ Ok o) }
     ensures laid { IfSome (B.staged board.old) (λ before. IfOk result (λ o. B.staged board.new ≡ Some (version_ready o.entering before))) }
     ensures kept { OnErr result (B.staged board.new ≡ B.staged board.old) }
     ensures name { B.name board.new ≡ B.name board.old }

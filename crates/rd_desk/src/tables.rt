@@ -84,7 +84,8 @@ impl Tables {
     /// changes. A step begins with it. Takes no memory.
     pub(crate) fn pass(&mut self, now: Moment)
         requires { now.0 ≤ 10 ^ 15 }
-        ensures { (rows : List Row) (s : Step) (starved : Bool) (out : List (Peer × List ℕ)) (mids : Mids) → out ≡ [] → IsCalled rows s now mids self.old → UnderWay rows s starved nothing self.new out mids }
+        ensures way { (rows : List Row) (s : Step) (starved : Bool) (out : List (Peer × List ℕ)) (mids : Mids) → out ≡ [] → IsCalled rows s now mids self.old → UnderWay rows s starved nothing self.new out mids }
+        ensures version { self.new.version ≡ self.old.version }
     {
         let to = later(self.moment, now);
         self.watching.pass(&*self.version, self.moment, to);

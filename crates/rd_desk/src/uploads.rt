@@ -1,5 +1,5 @@
 //! Registrations whose body comes in blocks (RFC 7959 sections 2.3, 2.5 and 2.9).
-ghost use Rattle.std.specs.Prelude.{◌≡◌, ◌≢◌, ◌<◌, ◌≤◌, ◌^◌, ℕ, Bool, [], ◌∷◌, List, length, None, IfOk};
+ghost use Rattle.std.specs.Prelude.{◌≡◌, ◌≢◌, ◌<◌, ◌≤◌, ◌^◌, ℕ, Bool, [], ◌∷◌, List, length, None, IfOk, false};
 ghost use Rattle.rd_base.specs.declared.peers.Peer.{Peer};
 ghost use Rattle.message_model.specs.Blocks.{IsBlock};
 ghost use Rattle.message_model.specs.Codes as codes_of;
@@ -32,15 +32,18 @@ ghost use Rattle.rd_desk.specs.Outcomes.{IsTimely, IsPlanned, IsMadeAt};
 ghost use Rattle.rd_desk.specs.Replies.{IsReply, reply_said};
 ghost use Rattle.rd_desk.specs.Stepping.{is_starved_step};
 ghost use Rattle.rd_desk.specs.UnderWay.{UnderWay};
+ghost use Rattle.rd_desk.specs.Shown.{AreToldOf};
+ghost use Rattle.rd_desk.specs.Staging.{IsLaid, IsLeftBy, IsNextOf};
 
 use crate::outcomes::{Outcome, registered};
 use crate::parameters::given_params;
 use crate::replies::Reply;
+use crate::staging::staged;
 use crate::tables::Tables;
 use crate::{Mids, Outbox, Stepped};
 use coap_message::View;
 use coap_options::{Meaning, request_key};
-use directory_core::Directory;
+use directory_core::{Board, Directory};
 use message_model::Block;
 use rd_base::{Key, Moment, Peer, Starved};
 use std::alloc::Global;
@@ -95,6 +98,7 @@ fn body_outcome(
     ensures moments { IfOk result (IsTimely now.0) }
     ensures reply { IfOk result (λ o. IsReply o.reply) }
     ensures short { IfOk result (λ o. IsShort o.reply) }
+    ensures next { (history : List Entry) → VersionStandsFor 0 history version.now → IfOk result (IsNextOf history) }
     ensures planned { (history : List Entry) (s : Step) (further : List Note) → VersionStandsFor 0 history version.now → s.peer ≡ peer
         → IfOk result (IsPlanned history version.now.swept further
         (registration history now.0 s (registration_values (queries_in (message_in meaning.now.view))) body.now (block1_option block.now) further)) }
@@ -119,6 +123,7 @@ impl Tables {
         ensures more { (rows : List Row) (s : Step) (starved : Bool) (out : List (Peer × List ℕ)) (mids : Mids) → s.peer ≡ peer → result ≡ Upload.More → UnderWay rows s starved nothing self.old out mids
             → UnderWay rows s starved (joined nothing (noting (note.Piece s.peer key.now block.now.num piece.now ∷ []))) self.new out mids }
         ensures other { result ≢ Upload.More → self.new ≡ self.old }
+        ensures version { self.new.version ≡ self.old.version }
     {
         self.transfers
             .upload(alloc, self.moment, peer, key, block, piece)
@@ -128,6 +133,7 @@ impl Tables {
     fn end_upload(&mut self, peer: Peer, key: &Key)
         ensures way { (rows : List Row) (s : Step) (starved : Bool) (done : Effects) (out : List (Peer × List ℕ)) (mids : Mids) → s.peer ≡ peer → UnderWay rows s starved done self.old out mids
             → UnderWay rows s starved (joined done (noting (note.Finished s.peer key.now ∷ []))) self.new out mids }
+        ensures version { self.new.version ≡ self.old.version }
     {
         self.transfers.end_upload(peer, key);
     }
@@ -152,6 +158,7 @@ impl Tables {
         ensures way { (rows : List Row) (s : Step) (starved : Bool) (place : ℕ) (meant : changes.Outcome) → s.peer ≡ peer → IsOpen place peer view.now.mid admitted.0 (events rows)
             → IsMadeAt (row_moment rows s) meant → IsPlanned (entries rows) self.old.version.swept (note.Finished s.peer key.now ∷ []) meant outcome
             → UnderWay rows s starved nothing self.old out.old mids.old → UnderWay rows s starved (settling place s (message_in view.now) meant) self.new out.new mids.new }
+        ensures version { IsLeftBy self.old.version self.new.version outcome.entering }
     {
         let Outcome { reply, entering } = outcome;
         let Some(entering) = entering else {
@@ -164,9 +171,10 @@ impl Tables {
     }
 
     /// A registration whose last block came is done with its whole body. What takes memory comes before anything changes; where it runs out, the write fails.
-    fn commit_body(
+    fn commit_body<B: Board>(
         &mut self,
         alloc: Global,
+        board: &mut B,
         mids: &mut Mids,
         peer: Peer,
         admitted: Moment,
@@ -180,14 +188,19 @@ impl Tables {
         requires good { fault_of reading.Register (queries_in (message_in meaning.now.view)) ≡ None }
         requires block { IsBlock block.now }
         requires room { length out.old < most_datagrams }
+        requires free { B.has_staged board.old ≡ false }
+        requires told { AreToldOf self.old.version (B.told board.old) }
         ensures way { (rows : List Row) (s : Step) (place : ℕ) → s.peer ≡ peer → IsOpen place peer meaning.now.view.mid admitted.0 (events rows)
             → UnderWay rows s (is_starved_step result) nothing self.old out.old mids.old
             → UnderWay rows s (is_starved_step result) (unless_failing (is_starved_step result) place s (message_in meaning.now.view)
             (settling place s (message_in meaning.now.view)
             (registration (entries rows) (row_moment rows s) s (registration_values (queries_in (message_in meaning.now.view))) body.now (block1_option block.now) (note.Finished s.peer key.now ∷ []))))
             self.new out.new mids.new }
+        ensures laid { IsLaid self.old.version self.new.version (B.staged board.old) (B.staged board.new) }
+        ensures name { B.name board.new ≡ B.name board.old }
+        ensures told { B.told board.new ≡ B.told board.old }
     {
-        match body_outcome(
+        let planned = body_outcome(
             alloc,
             &*self.version,
             self.moment,
@@ -195,7 +208,8 @@ impl Tables {
             meaning,
             block,
             body,
-        ) {
+        );
+        match staged(board, planned) {
             Ok(outcome) => {
                 self.settle_upload(mids, peer, &meaning.view, admitted, key, outcome, out);
                 return Stepped::Done;
@@ -209,9 +223,10 @@ impl Tables {
 
     /// A block of a registration that was admitted is done (RFC 7959 sections 2.5 and 2.9). What takes memory comes before anything changes; where it runs
     /// out, the write fails.
-    pub(crate) fn commit_block(
+    pub(crate) fn commit_block<B: Board>(
         &mut self,
         alloc: Global,
+        board: &mut B,
         mids: &mut Mids,
         peer: Peer,
         admitted: Moment,
@@ -224,10 +239,15 @@ impl Tables {
         requires good { fault_of reading.Register (queries_in (message_in meaning.now.view)) ≡ None }
         requires block { IsBlock block.now }
         requires room { length out.old < most_datagrams }
+        requires free { B.has_staged board.old ≡ false }
+        requires told { AreToldOf self.old.version (B.told board.old) }
         ensures way { (rows : List Row) (s : Step) (place : ℕ) → s.peer ≡ peer → IsOpen place s.peer (message_in meaning.now.view).mid admitted.0 (events rows)
             → UnderWay rows s (is_starved_step result) nothing self.old out.old mids.old
             → UnderWay rows s (is_starved_step result) (unless_failing (is_starved_step result) place s (message_in meaning.now.view)
             (settling place s (message_in meaning.now.view) (block_uploaded rows (row_moment rows s) s (message_in meaning.now.view) block.now))) self.new out.new mids.new }
+        ensures laid { IsLaid self.old.version self.new.version (B.staged board.old) (B.staged board.new) }
+        ensures name { B.name board.new ≡ B.name board.old }
+        ensures told { B.told board.new ≡ B.told board.old }
     {
         let Ok(key) = request_key(alloc, meaning) else {
             self.fail(mids, peer, &meaning.view, admitted, out);
@@ -241,6 +261,7 @@ impl Tables {
             Upload::Whole(body) => {
                 return self.commit_body(
                     alloc,
+                    board,
                     mids,
                     peer,
                     admitted,

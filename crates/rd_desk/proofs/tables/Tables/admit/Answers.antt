@@ -19,25 +19,25 @@ pub returns-in-Ok-clause-made : goal.returns-in-Ok-clause-made
 returns-in-Ok-clause-made c rows s kind of datagram worded call =
     let m = message_in c.in-Ok.view in
     admission_made rows s (is_starved_admission c.hear.result) c.args.now (Ok m) c.args.self.now c.hear.new.self c.hear.new.out c.args.mids.now c.hear.new.mids kind (ap reading datagram ∙ sym c.in-Ok.ensures.message) call
-    (c.hear.ensures.way rows s of worded (c.pass.ensures rows s (is_starved_admission c.hear.result) c.args.out.now c.args.mids.now c.requires.empty call))
+    (c.hear.ensures.way rows s of worded (c.pass.ensures.way rows s (is_starved_admission c.hear.result) c.args.out.now c.args.mids.now c.requires.empty call))
 
 pub returns-in-Ok-clause-held : goal.returns-in-Ok-clause-held
 returns-in-Ok-clause-held c rows s kind of datagram call =
     let m = message_in c.in-Ok.view in
     admission_notes rows s (is_starved_admission c.hear.result) c.hear.result (Ok m) kind (ap reading datagram ∙ sym c.in-Ok.ensures.message)
-    (c.hear.ensures.held rows s of datagram (c.pass.ensures rows s (is_starved_admission c.hear.result) c.args.out.now c.args.mids.now c.requires.empty call))
+    (c.hear.ensures.held rows s of datagram (c.pass.ensures.way rows s (is_starved_admission c.hear.result) c.args.out.now c.args.mids.now c.requires.empty call))
 
 pub returns-in-Ok-clause-unstarved : goal.returns-in-Ok-clause-unstarved
 returns-in-Ok-clause-unstarved c rows s of datagram call silent =
     let m = message_in c.in-Ok.view in
-    c.hear.ensures.unstarved rows s of (c.pass.ensures rows s false c.args.out.now c.args.mids.now c.requires.empty call)
+    c.hear.ensures.unstarved rows s of (c.pass.ensures.way rows s false c.args.out.now c.args.mids.now c.requires.empty call)
     (ap (λ (r : Result Message Unread). takes_memory rows (row_moment rows s) s r) c.in-Ok.ensures.message ∙ silent)
 
 pub returns-in-Err-clause-made : goal.returns-in-Err-clause-made
 returns-in-Err-clause-made c rows s kind of datagram worded call =
     admission_made rows s false c.args.now (Err c.in-Err.fault) c.args.self.now c.pass.new.self c.reject.new.out c.args.mids.now c.args.mids.now kind (ap reading datagram ∙ sym c.in-Err.ensures.message) call
     (only_silent rows s false (unread_answered s c.in-Err.fault) c.pass.new.self c.args.out.now c.reject.new.out c.args.mids.now c.args.mids.now (unread_notes s c.in-Err.fault) (c.reject.ensures s c.args.mids.now of)
-    (c.pass.ensures rows s false c.args.out.now c.args.mids.now c.requires.empty call))
+    (c.pass.ensures.way rows s false c.args.out.now c.args.mids.now c.requires.empty call))
 
 pub returns-in-Err-clause-held : goal.returns-in-Err-clause-held
 returns-in-Err-clause-held c rows s kind of datagram call =

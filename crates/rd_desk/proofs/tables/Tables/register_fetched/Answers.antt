@@ -11,7 +11,7 @@ pub returns-in-Some : goal.returns-in-Some
 returns-in-Some c rows s starved done meant out mids none timed planned way =
     let it = subst (AreNotes (entries rows) c.args.self.now.version.swept [] meant.notes) c.in-Some.is planned.notes in
     subst (λ (ns : List Note). UnderWay rows s starved (joined done (noting ns)) c.enter.new.self out mids) (sym it.1)
-    (c.enter.ensures rows s starved done it.0 out mids none (timed it.0 it.1) (subst (IsEntering (entries rows) c.args.self.now.version.swept it.0) (sym c.in-Some.entering-is) it.2) way)
+    (c.enter.ensures.way rows s starved done it.0 out mids none (timed it.0 it.1) (subst (IsEntering (entries rows) c.args.self.now.version.swept it.0) (sym c.in-Some.entering-is) it.2) way)
 
 pub returns-in_default : goal.returns-in_default
 returns-in_default c rows s starved done meant out mids none timed planned way =
