@@ -89,3 +89,7 @@ laid_planned old new (Some e) before after laid left next = record {
 -- nor is anything where memory ran out
 pub laid_kept : (old new : Version) (before after : Option (Option Version)) → new ≡ old → after ≡ before → IsLaid old new before after
 laid_kept old new before after same kept = subst (IsLaid old new before) (sym kept) (laid_none old new before same)
+
+-- where the version stayed before, it is laid as from the beginning
+pub laid_from : (old begun new : Version) (before after : Option (Option Version)) → begun ≡ old → IsLaid begun new before after → IsLaid old new before after
+laid_from old begun new before after same laid = subst (λ (v : Version). IsLaid v new before after) same laid

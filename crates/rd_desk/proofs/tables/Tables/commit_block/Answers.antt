@@ -9,6 +9,9 @@ use Rattle.transfers.specs.declared.collecting.Upload.{Upload}
 use Rattle.transfers.specs.declared.collecting.Upload.TheVariants as answer
 use Rattle.rd_desk.specs.Replies.{reply_said}
 use Rattle.rd_desk.specs.Stepping.{is_starved_step}
+use Rattle.history_model.specs.Versions.{Version}
+use Rattle.rd_desk.specs.Shown.{AreToldOf}
+use Rattle.rd_desk.proofs.changes.StagingLaws.{laid_none, laid_from}
 use Rattle.rd_desk.proofs.changes.SettlingLaws.{open_more}
 use Rattle.rd_desk.proofs.changes.UploadLaws.{opened_by, unchanged, settled_piece, settled_block, settled_whole}
 use Rattle.rd_desk.proofs.tables.Tables.commit_block.Goals as goal
@@ -86,3 +89,29 @@ returns-in-Starved-clause-way g c =
     let still : c.take_block.result ≢ answer.More = λ e. (let other : ◌≡◌ {A = Upload} answer.Starved answer.More = sym c.in-Starved.is ∙ e in cc) in
     c.fail-in-Starved.ensures.way rows s true place of (opened_by rows s place m c.args.peer c.args.admitted.0 of opened)
     (unchanged rows s true c.args.self.now c.take_block.new.self c.args.out.now c.args.mids.now (c.take_block.ensures.other still) way)
+
+-- what is laid: where no body is done, the version stays
+
+pub returns-in_default-clause-laid : goal.returns-in_default-clause-laid
+returns-in_default-clause-laid g c = laid_none c.args.self.now.version _ _ c.fail.ensures.version
+
+pub returns-in-More-clause-laid : goal.returns-in-More-clause-laid
+returns-in-More-clause-laid g c = laid_none c.args.self.now.version _ _ (c.settle.ensures.version ∙ c.take_block.ensures.version)
+
+pub commit_body-requires-clause-told : goal.commit_body-requires-clause-told
+commit_body-requires-clause-told g c = subst (λ (v : Version). AreToldOf v (g.B.Board.told c.args.board.now)) (sym c.take_block.ensures.version) c.requires.told
+
+pub returns-in-Whole-clause-laid : goal.returns-in-Whole-clause-laid
+returns-in-Whole-clause-laid g c = laid_from c.args.self.now.version _ _ _ _ c.take_block.ensures.version c.commit_body.ensures.laid
+
+pub returns-in-OutOfOrder-clause-laid : goal.returns-in-OutOfOrder-clause-laid
+returns-in-OutOfOrder-clause-laid g c = laid_none c.args.self.now.version _ _ (c.refuse_write.ensures.version ∙ c.take_block.ensures.version)
+
+pub returns-in-TooLarge-clause-laid : goal.returns-in-TooLarge-clause-laid
+returns-in-TooLarge-clause-laid g c = laid_none c.args.self.now.version _ _ (c.refuse_write-in-TooLarge.ensures.version ∙ c.take_block.ensures.version)
+
+pub returns-in-FullUploads-clause-laid : goal.returns-in-FullUploads-clause-laid
+returns-in-FullUploads-clause-laid g c = laid_none c.args.self.now.version _ _ (c.refuse_write-in-FullUploads.ensures.version ∙ c.take_block.ensures.version)
+
+pub returns-in-Starved-clause-laid : goal.returns-in-Starved-clause-laid
+returns-in-Starved-clause-laid g c = laid_none c.args.self.now.version _ _ (c.fail-in-Starved.ensures.version ∙ c.take_block.ensures.version)

@@ -12,5 +12,5 @@ returns-clause-way c rows s starved out mids none call =
     let here : c.later-to.result.0 ≡ row_moment rows s = c.later-to.ensures ∙ (ap (max c.args.now.0) before ∙ moment_passes rows s c.args.now mids c.args.self.now call) in
     let version = c.deref.ensures ∙ ap (λ (d : Seen). d.version) seen in
     begun rows s starved _ c.args.self.now c.later-to.result.0 c.pass.new.self out c.args.now mids seen none c.later-to.ensures
-    (c.pass.ensures.way rows s starved call.journal call.no_look (before ∙ call.stands.moment) here (subst (DirectoryStandsFor rows) (sym version) call.stands.directory)
+    (c.pass.ensures rows s starved call.journal call.no_look (before ∙ call.stands.moment) here (subst (DirectoryStandsFor rows) (sym version) call.stands.directory)
     (subst (WatchingStandsFor rows) (sym (ap (λ (d : Seen). d.watching) seen)) call.stands.watching)) call
