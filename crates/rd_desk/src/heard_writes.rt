@@ -74,6 +74,7 @@ impl Tables {
             → IsHeldFor result (write_heard (is_starved_admission result) rows s (message_in view.now)).notes s (row_moment rows s) }
         ensures unstarved { (rows : List Row) (s : Step) → s.peer ≡ peer → UnderWay rows s false nothing self.old out.old mids.old
             → write_takes rows (row_moment rows s) s (message_in view.now) ≡ false → is_starved_admission result ≡ false }
+        ensures version { self.new.version ≡ self.old.version }
     {
         if !self.admit_write(mids, peer, view, out) {
             return Admitted::Done;

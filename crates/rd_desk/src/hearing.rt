@@ -16,6 +16,8 @@ ghost use Rattle.journal_model.specs.Rows.{message_effects, row_moment, row};
 ghost use Rattle.rd_desk.specs.Admitting.{is_starved_admission, IsHeldFor, jobless, message_takes, takes_memory};
 ghost use Rattle.rd_desk.specs.Outboxes.{most_datagrams};
 ghost use Rattle.rd_desk.specs.UnderWay.{UnderWay, IsCalled, Made};
+ghost use Rattle.rd_desk.specs.Shown.{AreToldOf};
+ghost use Rattle.rd_desk.specs.Staging.{IsLaid};
 
 use crate::empty_messages::send_empty;
 use crate::refused_requests::refuse;
@@ -25,6 +27,7 @@ use crate::unread_datagrams::reject;
 use crate::{Admitted, Mids, Outbox, Stepped};
 use coap_message::{Kind4, View, role_of, view};
 use coap_options::Meaning;
+use directory_core::Board;
 use message_model::Role;
 use rd_base::{Moment, Peer};
 use std::alloc::Global;
@@ -64,6 +67,7 @@ impl Tables {
             → IsHeldFor result (message_effects role.Request (is_starved_admission result) rows (row_moment rows s) s (message_in meaning.now.view)).notes s (row_moment rows s) }
         ensures unstarved { (rows : List Row) (s : Step) → s.peer ≡ peer → UnderWay rows s false nothing self.old out.old mids.old
             → message_takes role.Request rows (row_moment rows s) s (message_in meaning.now.view) ≡ false → is_starved_admission result ≡ false }
+        ensures version { self.new.version ≡ self.old.version }
     {
         if is_lookup(&meaning.path) {
             return without_job(self.hear_lookup(alloc, mids, peer, meaning, out));
@@ -95,6 +99,7 @@ impl Tables {
             → IsHeldFor result (message_effects role.Request (is_starved_admission result) rows (row_moment rows s) s (message_in view.now)).notes s (row_moment rows s) }
         ensures unstarved { (rows : List Row) (s : Step) → s.peer ≡ peer → UnderWay rows s false nothing self.old out.old mids.old
             → message_takes role.Request rows (row_moment rows s) s (message_in view.now) ≡ false → is_starved_admission result ≡ false }
+        ensures version { self.new.version ≡ self.old.version }
     {
         match asked(view) {
             Ok(meaning) => self.serve(alloc, mids, peer, &meaning, datagram, out),
@@ -106,9 +111,10 @@ impl Tables {
     }
 
     /// A message that does not only look, by what it is for (RFC 7252 section 4).
-    fn hear(
+    fn hear<B: Board>(
         &mut self,
         alloc: Global,
+        board: &mut B,
         word: u32,
         mids: &mut Mids,
         peer: Peer,
@@ -120,12 +126,17 @@ impl Tables {
         requires read { reading datagram.now ≡ Ok (message_in view.now) }
         requires other { is_look_message (message.role_of view.now.kind view.now.code) (message_in view.now) ≡ false }
         requires empty { out.old ≡ [] }
+        requires free { B.has_staged board.old ≡ false }
+        requires told { AreToldOf self.old.version (B.told board.old) }
         ensures way { (rows : List Row) (s : Step) → s.peer ≡ peer → s.word ≡ word → UnderWay rows s (is_starved_admission result) nothing self.old out.old mids.old
             → UnderWay rows s (is_starved_admission result) (message_effects (message.role_of view.now.kind view.now.code) (is_starved_admission result) rows (row_moment rows s) s (message_in view.now)) self.new out.new mids.new }
         ensures held { (rows : List Row) (s : Step) → s.peer ≡ peer → s.datagram ≡ datagram.now → UnderWay rows s (is_starved_admission result) nothing self.old out.old mids.old
             → IsHeldFor result (message_effects (message.role_of view.now.kind view.now.code) (is_starved_admission result) rows (row_moment rows s) s (message_in view.now)).notes s (row_moment rows s) }
         ensures unstarved { (rows : List Row) (s : Step) → s.peer ≡ peer → UnderWay rows s false nothing self.old out.old mids.old
             → message_takes (message.role_of view.now.kind view.now.code) rows (row_moment rows s) s (message_in view.now) ≡ false → is_starved_admission result ≡ false }
+        ensures laid { IsLaid self.old.version self.new.version (B.staged board.old) (B.staged board.new) }
+        ensures name { B.name board.new ≡ B.name board.old }
+        ensures told { B.told board.new ≡ B.told board.old }
     {
         match role_of(view) {
             Role::Ping => {
@@ -142,7 +153,7 @@ impl Tables {
             }
             Role::Request => self.hear_request(alloc, mids, peer, view, datagram, out),
             Role::Response => {
-                without_job(self.hear_response(alloc, word, mids, peer, view, out))
+                without_job(self.hear_response(alloc, board, word, mids, peer, view, out))
             }
             Role::Ignored => Admitted::Done,
         }
@@ -151,9 +162,10 @@ impl Tables {
     /// The step that hears a datagram which does not only look ([`is_look`](crate::is_look)), at a moment that is at most 10^15; one below that of the
     /// tables is lifted to it. `out` is empty. A write that is admitted leaves the worker with a job. What is refused for itself, what is no request and no
     /// response, a repeat of a write, and one for which there is no room take no memory.
-    pub(crate) fn admit(
+    pub(crate) fn admit<B: Board>(
         &mut self,
         alloc: Global,
+        board: &mut B,
         now: Moment,
         word: u32,
         mids: &mut Mids,
@@ -164,16 +176,21 @@ impl Tables {
         requires moment { now.0 ≤ 10 ^ 15 }
         requires other { is_look_datagram datagram.now ≡ false }
         requires empty { out.old ≡ [] }
+        requires free { B.has_staged board.old ≡ false }
+        requires told { AreToldOf self.old.version (B.told board.old) }
         ensures made { (rows : List Row) (s : Step) → s.kind ≡ step.Admit → s.peer ≡ peer → s.datagram ≡ datagram.now → s.word ≡ word → IsCalled rows s now mids.old self.old
             → Made rows (row rows s (is_starved_admission result)) self.new out.new mids.old mids.new }
         ensures held { (rows : List Row) (s : Step) → s.kind ≡ step.Admit → s.peer ≡ peer → s.datagram ≡ datagram.now → IsCalled rows s now mids.old self.old
             → IsHeldFor result (row rows s (is_starved_admission result)).notes s (row_moment rows s) }
         ensures unstarved { (rows : List Row) (s : Step) → s.peer ≡ peer → s.datagram ≡ datagram.now → IsCalled rows s now mids.old self.old
             → takes_memory rows (row_moment rows s) s (reading datagram.now) ≡ false → is_starved_admission result ≡ false }
+        ensures laid { IsLaid self.old.version self.new.version (B.staged board.old) (B.staged board.new) }
+        ensures name { B.name board.new ≡ B.name board.old }
+        ensures told { B.told board.new ≡ B.told board.old }
     {
         self.pass(now);
         match view(datagram) {
-            Ok(view) => self.hear(alloc, word, mids, peer, &view, datagram, out),
+            Ok(view) => self.hear(alloc, board, word, mids, peer, &view, datagram, out),
             Err(fault) => {
                 reject(peer, fault, out);
                 Admitted::Done

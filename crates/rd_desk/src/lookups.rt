@@ -72,6 +72,7 @@ impl Tables {
         requires room { length out.old < most_datagrams }
         ensures way { (rows : List Row) (s : Step) (starved : Bool) (done : Effects) → s.peer ≡ peer → done.drew ≡ 0 → UnderWay rows s starved done self.old out.old mids.old
             → UnderWay rows s starved (joined done (giving (is_some formed.ready) observe s (message_in meaning.now.view) (answer_listed formed.listed))) self.new out.new mids.new }
+        ensures version { self.new.version ≡ self.old.version }
     {
         let Formed { listed, ready } = formed;
         send_block(
@@ -212,6 +213,7 @@ impl Tables {
         ensures transfers { self.new.transfers ≡ self.old.transfers }
         ensures moment { self.new.moment ≡ self.old.moment }
         ensures unchanged { OnErr result (self.new ≡ self.old) }
+        ensures version { self.new.version ≡ self.old.version }
     {
         let added = self.watching.join(alloc, query, joining)?;
         if !added {
@@ -239,6 +241,7 @@ impl Tables {
         requires room { length out.old < most_datagrams }
         ensures way { (rows : List Row) (s : Step) → s.peer ≡ peer → UnderWay rows s (is_starved_step result) nothing self.old out.old mids.old
             → UnderWay rows s (is_starved_step result) (lookup_heard (is_starved_step result) rows s (message_in meaning.now.view)) self.new out.new mids.new }
+        ensures version { self.new.version ≡ self.old.version }
     {
         let Ok(key) = request_key(alloc, meaning) else {
             answer_starved(mids, peer, &meaning.view, out);
@@ -282,6 +285,7 @@ impl Tables {
         requires room { length out.old < most_datagrams }
         ensures way { (rows : List Row) (s : Step) → s.peer ≡ peer → UnderWay rows s (is_starved_step result) nothing self.old out.old mids.old
             → UnderWay rows s (is_starved_step result) (lookup_heard (is_starved_step result) rows s (message_in meaning.now.view)) self.new out.new mids.new }
+        ensures version { self.new.version ≡ self.old.version }
     {
         let Ok(observing) = self.form_observed(alloc, peer, meaning) else {
             answer_starved(mids, peer, &meaning.view, out);
@@ -320,6 +324,7 @@ impl Tables {
         requires room { length out.old < most_datagrams }
         ensures way { (rows : List Row) (s : Step) → s.peer ≡ peer → UnderWay rows s (is_starved_step result) nothing self.old out.old mids.old
             → UnderWay rows s (is_starved_step result) (lookup_heard (is_starved_step result) rows s (message_in meaning.now.view)) self.new out.new mids.new }
+        ensures version { self.new.version ≡ self.old.version }
     {
         let Ok(formed) = self.form_unobserved(alloc, peer, meaning) else {
             answer_starved(mids, peer, &meaning.view, out);
@@ -348,6 +353,7 @@ impl Tables {
         requires room { length out.old < most_datagrams }
         ensures way { (rows : List Row) (s : Step) → s.peer ≡ peer → UnderWay rows s (is_starved_step result) nothing self.old out.old mids.old
             → UnderWay rows s (is_starved_step result) (lookup_heard (is_starved_step result) rows s (message_in meaning.now.view)) self.new out.new mids.new }
+        ensures version { self.new.version ≡ self.old.version }
     {
         if is_later_block(meaning) {
             return self.answer_later(alloc, mids, peer, meaning, out);
