@@ -17,3 +17,4 @@ pub mod Committing
 pub mod KeepJobs
 pub mod Looking
 pub mod Stepping
+pub mod Resending
