@@ -10,3 +10,4 @@ pub mod answers
 pub mod parts
 pub mod observers
 pub mod changes
+pub mod ticking

@@ -1,5 +1,5 @@
 //! The Message IDs that a worker draws (RFC 7252 section 4.4).
-ghost use Rattle.std.specs.Prelude.{◌≡◌, ◌<◌};
+ghost use Rattle.std.specs.Prelude.{◌≡◌, ◌<◌, ◌+◌};
 ghost use Rattle.journal_model.specs.DeskJournal.{max_workers};
 ghost use Rattle.journal_model.specs.Effects.{mid_of};
 ghost use Rattle.journal_model.specs.UnfinishedRow.{drawing};
@@ -25,6 +25,14 @@ impl Mids {
         ensures drawn { result.drawn ≡ 0 }
     {
         Mids { worker, drawn: 0 }
+    }
+
+    /// The one that is drawn after so many more.
+    pub(crate) fn after(&self, more: u64) -> u16
+        ensures { result ≡ mid_of self.now.worker (self.now.drawn + more) }
+    {
+        u16::from(self.worker) * WORKER_MIDS
+            + (self.drawn.wrapping_add(more) % u64::from(WORKER_MIDS)) as u16
     }
 
     /// Draws the next.

@@ -26,7 +26,8 @@ use simple_registration::Fetches;
 
 /// The last request of the fetch at an index is sent.
 fn send_request(fetches: &Fetches, index: usize, out: &mut Outbox)
-    ensures { (f : running.Fetch) → slice_get fetches.now.fetches index ≡ Some f → length out.old < most_datagrams → length f.waits.octets ≤ longest_datagram → out.new ≡ out.old ++ (f.peer, f.waits.octets) ∷ [] }
+    ensures some { (f : running.Fetch) → slice_get fetches.now.fetches index ≡ Some f → 0 < length f.waits.octets }
+    ensures sent { (f : running.Fetch) → slice_get fetches.now.fetches index ≡ Some f → length out.old < most_datagrams → length f.waits.octets ≤ longest_datagram → out.new ≡ out.old ++ (f.peer, f.waits.octets) ∷ [] }
 {
     let Some(peer) = fetches.at(index) else {
         return;
@@ -64,6 +65,20 @@ impl Tables {
         }
     }
 
+    /// What is due of the fetch at an index, where there is one. The index of the next.
+    fn request_next(&mut self, index: usize, out: &mut Outbox) -> usize
+        ensures { (rows : List Row) (s : Step) (starved : Bool) (first : Effects) (mids : Mids) (most less : ℕ) → most ≡ less + 1 → Resending rows s starved first self.old out.old mids index most
+            → Resending rows s starved first self.new out.new mids result less }
+    {
+        if index >= self.fetches.len() {
+            return index;
+        }
+        if self.request_again(index, out) {
+            return index + 1;
+        }
+        index
+    }
+
     /// The third part of a tick: requests of fetches whose wait has ended are sent again, and after the last time, or where a response that comes apart did not
     /// come, their fetches end. Takes no memory.
     pub(crate) fn requests_again(&mut self, out: &mut Outbox)
@@ -73,11 +88,7 @@ impl Tables {
         let count = self.fetches.len();
         let mut index = 0;
         'fetches: for step in 0..count {
-            if index < self.fetches.len() {
-                if self.request_again(index, out) {
-                    index += 1;
-                }
-            }
+            index = self.request_next(index, out);
         }
     }
 }
