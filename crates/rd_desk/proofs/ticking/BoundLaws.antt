@@ -1,5 +1,5 @@
 -- How many observe and are fetched from after each journal of a desk: no more than may; and whoever observes asks with a token and a block size that a message may have.
-use Rattle.std.proofs.Common.{◌≡◌, ℕ, suc, ◌+◌, ◌≤◌, ◌<◌, ◌==◌, ◌&&◌, ◌||◌, nat_lt, nat_le, Bool, true, false, not, cond, List, [], ◌∷◌, ◌++◌, length, filter, Option, Some, None, Ok, refl, sym, ap, subst, ◌∙◌, arith, append-nil}
+use Rattle.std.proofs.Common.{◌≡◌, ℕ, suc, ◌+◌, ◌≤◌, ◌<◌, ◌==◌, ◌&&◌, ◌||◌, nat_lt, nat_le, Bool, true, false, not, cond, List, [], ◌∷◌, ◌++◌, length, filter, Option, Some, None, Ok, refl, sym, ap, subst, ◌∙◌, arith, append-nil, codes}
 use Rattle.std.specs.List.{list_any, AllByRecursion}
 use Rattle.std.proofs.lemmas.Bool.{false≢true, and_parts, and_from, ne_eqb}
 use Rattle.std.proofs.lemmas.Bool.Decides.{nat_tests}
@@ -41,7 +41,7 @@ use Rattle.journal_model.specs.Effects.{bare, answer, answering, mid_of, drawn_f
 use Rattle.journal_model.specs.Journal.{events, entries}
 use Rattle.journal_model.specs.Rows.{row_moment, effects, row}
 use Rattle.journal_model.specs.Requests.{query_of, asked_block, number_of, szx_of, is_lookup, is_later_block, register, deregister, Method, get, post, put, delete, other_method, method_of}
-use Rattle.journal_model.specs.Changes.{Outcome, BodyRead, bad_body, good_body, body_read, registered_links, registration, created_at, number_after, entry_of_step}
+use Rattle.journal_model.specs.Changes.{Outcome, refused, BodyRead, bad_body, good_body, body_read, registered_links, registration, created_at, number_after, entry_of_step}
 use Rattle.journal_model.specs.Registrations.{registering}
 use Rattle.journal_model.specs.Commits.{settling, updating, removing, simple_unless, on_location, write_done, commit_effects}
 use Rattle.journal_model.specs.Lookups.{listing_now, block_now, block_of_kept, later_block, removal, without, keeping, observed_if, observed, unobserved, observation_effects, first_block_effects, block_effects, lookup_effects}
@@ -365,8 +365,8 @@ commit_few rows moment place at s m few = by (path_in m)
         omega (arith, less, sum, room, one)
 
     simple : (running too_many : Bool) → nat_le max_fetches (length (fetches (events rows))) ≡ too_many → length (fetches (noted (length rows) at s.word (simple_unless running too_many (events rows) place s m).notes (events rows))) ≤ 64
-    simple true too_many e = quiet _ refl
-    simple false true e = quiet _ refl
+    simple true too_many e = settled (refused codes_of.service_unavailable (codes "fetching")) refl
+    simple false true e = settled (refused codes_of.service_unavailable (codes "fetches")) refl
     simple false false e =
         let some : length (fetches (events rows)) < 64 = grind (arith, nat_tests, e) in
         let settles = event_at (length rows) at s.word (note.Settled place (spelling (answer s m (bare codes_of.changed)))) in

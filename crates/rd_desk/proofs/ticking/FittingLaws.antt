@@ -1,5 +1,5 @@
 -- The octets that a tick may send again are no longer than a datagram may be, after each journal of a desk: they are a request of a fetch, or a notice of an earlier tick.
-use Rattle.std.proofs.Common.{◌≡◌, ℕ, ◌+◌, ◌≤◌, ◌<◌, ◌==◌, Bool, true, false, cond, List, [], ◌∷◌, ◌++◌, length, nat_le, Option, Some, None, option_map, unwrap_or, Result, Ok, Err, refl, sym, ap, subst, ◌∙◌, arith}
+use Rattle.std.proofs.Common.{◌≡◌, ℕ, ◌+◌, ◌≤◌, ◌<◌, ◌==◌, Bool, true, false, cond, List, [], ◌∷◌, ◌++◌, length, nat_le, Option, Some, None, option_map, unwrap_or, Result, Ok, Err, refl, sym, ap, subst, ◌∙◌, arith, codes}
 use Rattle.std.specs.List.{AllByRecursion}
 use Rattle.std.proofs.lemmas.Bool.{false≢true, and_parts}
 use Rattle.std.proofs.lemmas.Option.{same_Some}
@@ -43,7 +43,7 @@ use Rattle.journal_model.specs.Effects.{Reply, bare, answer, answering, empty_me
 use Rattle.journal_model.specs.Journal.{events, entries, row_at}
 use Rattle.journal_model.specs.Rows.{served, refusal_answered, unread_answered, request_answered, message_effects, heard, done, kept_body, row_moment, effects, row}
 use Rattle.journal_model.specs.Requests.{refusal_of_request, asked_block, number_of, szx_of, query_of, register, deregister, is_later_block, Method, get, post, put, delete, other_method, method_of}
-use Rattle.journal_model.specs.Changes.{Outcome}
+use Rattle.journal_model.specs.Changes.{Outcome, refused}
 use Rattle.journal_model.specs.Registrations.{registering}
 use Rattle.journal_model.specs.Commits.{settling, updating, removing, fetch_request, simple_unless, on_location, write_done, commit_effects}
 use Rattle.journal_model.specs.EmptyMessages.{acknowledged, reset}
@@ -227,23 +227,23 @@ commit_sends rows moment place s m = by (path_in m)
     short = omega arith
 
     simple : (running too_many : Bool) → AreResendable (simple_unless running too_many (events rows) place s m).sent
-    simple true too_many = settles _
-    simple false true = settles _
+    simple true too_many = settles (refused codes_of.service_unavailable (codes "fetching"))
+    simple false true = settles (refused codes_of.service_unavailable (codes "fetches"))
     simple false false =
         each_append IsResendable (settling place s m changed).sent ((s.peer, spelling (fetch_request (mid_of s.worker (s.drawn + drawn_for m.kind)) (next_token (events rows)) None)) ∷ []) (settles changed)
         (one_request s (mid_of s.worker (s.drawn + drawn_for m.kind)) (next_token (events rows)) None short, tt)
 
     location : (w : Method) (number : ℕ) → AreResendable (on_location w rows moment place s m number).sent
-    location get number = settles _
-    location post number = settles _
-    location put number = settles _
-    location delete number = settles _
-    location other_method number = settles _
+    location get number = settles (removing rows moment s number)
+    location post number = settles (updating rows moment s m number)
+    location put number = settles (removing rows moment s number)
+    location delete number = settles (removing rows moment s number)
+    location other_method number = settles (removing rows moment s number)
 
     by : (p : Path) → AreResendable (write_done p rows moment place s m).sent
     by path.Core = tt
     by path.SimpleRd = simple (is_fetching s.peer (events rows)) (nat_le max_fetches (length (fetches (events rows))))
-    by path.Rd = settles _
+    by path.Rd = settles (registering rows moment s m)
     by (path.Location number) = location (method_of m.code) number
     by path.Res = tt
     by path.Ep = tt
@@ -376,9 +376,9 @@ commit_settles rows moment place s m = by (path_in m)
     settles o h = each_append SettledNever o.notes (note.Settled place (spelling (answer s m o.reply)) ∷ []) (never_settles o.notes h) (answers_apart s m o.reply, tt)
 
     simple : (running too_many : Bool) → AllByRecursion SettledNever (simple_unless running too_many (events rows) place s m).notes
-    simple true too_many = (answers_apart s m _, tt)
-    simple false true = (answers_apart s m _, tt)
-    simple false false = (answers_apart s m _, (tt, tt))
+    simple true too_many = (answers_apart s m (refused codes_of.service_unavailable (codes "fetching")).reply, tt)
+    simple false true = (answers_apart s m (refused codes_of.service_unavailable (codes "fetches")).reply, tt)
+    simple false false = (answers_apart s m (bare codes_of.changed), (tt, tt))
 
     location : (w : Method) (number : ℕ) → AllByRecursion SettledNever (on_location w rows moment place s m number).notes
     location get number = settles (removing rows moment s number) (change_made-notes not_settling (λ entry. refl) (entries rows) _ _ refl)

@@ -1,5 +1,5 @@
 -- The third part of a tick, fetch after fetch: each request by what is due of it, and then the next.
-use Rattle.std.proofs.Common.{◌≡◌, ◌≢◌, ℕ, zero, suc, ◌+◌, ◌<◌, ◌≤◌, Bool, true, false, List, [], ◌∷◌, ◌++◌, length, map, drop, slice_get, Option, Some, None, is_some, option_map, option_and_then, refl, sym, ap, ap₂, subst, ◌∙◌, arith}
+use Rattle.std.proofs.Common.{◌≡◌, ◌≢◌, ℕ, zero, suc, ◌+◌, ◌<◌, ◌≤◌, ◌||◌, nat_le, Bool, true, false, cond, List, [], ◌∷◌, ◌++◌, length, map, drop, slice_get, Option, Some, None, is_some, option_map, option_and_then, refl, sym, ap, ap₂, subst, ◌∙◌, arith}
 use Rattle.std.specs.List.{AllByRecursion}
 use Rattle.std.proofs.lemmas.Bool.{false≢true}
 use Rattle.rd_base.specs.declared.peers.Peer.{Peer}
@@ -8,15 +8,15 @@ use Rattle.event_model.specs.declared.notes.Note.{Note}
 use Rattle.event_model.specs.declared.notes.Note.TheVariants as note
 use Rattle.event_model.specs.Same.{is_same_peer}
 use Rattle.event_model.specs.Events.{Event, last_event, noted}
-use Rattle.event_model.specs.Flights.{OctetsSent}
-use Rattle.event_model.specs.Fetches.{Request, Fetch, request_noted, is_request_to, last_request, fetches, fetch_asked, fetch_of, fetches_running}
+use Rattle.event_model.specs.Flights.{OctetsSent, max_again}
+use Rattle.event_model.specs.Fetches.{Request, Fetch, request_noted, is_request_to, last_request, fetches, fetch_asked, fetch_of, fetches_running, is_waiting, resendings, fetch_deadline}
 use Rattle.event_model.proofs.NotedLaws.{event_at}
 use Rattle.journal_model.specs.declared.steps.Step.{Step}
 use Rattle.journal_model.specs.declared.rows.Row.{Row}
 use Rattle.journal_model.specs.Effects.{Effects, nothing, joined, noting}
 use Rattle.journal_model.specs.Journal.{events}
 use Rattle.journal_model.specs.Rows.{row_with, row_moment}
-use Rattle.journal_model.specs.Ticks.{octets_sent, each_of, repeating, fetch_again, requests_again}
+use Rattle.journal_model.specs.Ticks.{octets_sent, each_of, repeating, request_again, fetch_again, requests_again}
 use Rattle.journal_model.specs.UnfinishedRow.{making}
 use Rattle.journal_model.proofs.EventRows.{row_of}
 use Rattle.journal_model.proofs.UnfinishedRowLaws.{events-making_joined}
@@ -29,7 +29,7 @@ use Rattle.simple_registration.proofs.DeskLaws.{last_request-other, fetch_due-ot
 use Rattle.simple_registration.proofs.NoteLaws.{IsAside, other_Resent, any_Ceased}
 use Rattle.simple_registration.proofs.PeerLaws.{fetches-aside, fetches-apart, AreApart, request_made, requested}
 use Rattle.simple_registration.proofs.RunningLaws.{running-at, running-peers}
-use Rattle.simple_registration.proofs.StepLaws.{due_effects, fetch_again-due, repeating-octets}
+use Rattle.simple_registration.proofs.StepLaws.{repeating-octets}
 use Rattle.simple_registration.proofs.TableLaws.{running_length}
 use Rattle.rd_desk.specs.declared.mids.Mids.{Mids}
 use Rattle.rd_desk.specs.Desks.{Seen}
@@ -131,9 +131,25 @@ here_at rows s starved done t octets i within stands same =
         by (Some r) e g = (r, e)
 
 -- what is done with it, by what is due of it
-done_by : (rows : List Row) (s : Step) (past : List Event) (i : ℕ) (due : Again) → (h : Here rows s past i) → due ≡ fetch_due (row_moment rows s) h.peer h.e past → request_done rows s h.peer ≡ due_effects due rows h.peer h.e h.request
+abbrev request_as : Again → List Row → Peer → Event → Request → Effects
+request_as again.Wait rows peer e request = nothing
+request_as again.Send rows peer e request = repeating rows e.place peer request.mid (note.Resent peer)
+request_as again.GaveUp rows peer e request = noting (note.Ceased peer ∷ [])
+
+again_due : (rows : List Row) (moment : ℕ) (peer : Peer) (e : Event) (request : Request) → last_request peer (events rows) ≡ Some e → request_noted e.note ≡ Some request
+    → fetch_again rows moment peer (last_request peer (events rows)) ≡ request_as (fetch_due moment peer e (events rows)) rows peer e request
+unfolding fetch_due
+again_due rows moment peer e request last asked =
+    rw (last, asked) (by (nat_le (fetch_deadline peer e (events rows)) moment) (is_waiting peer (events rows) || nat_le max_again (length (resendings peer (events rows)))))
+  where
+    by : (due over : Bool) → request_again due over rows peer e (Some request) ≡ request_as (cond due (cond over again.GaveUp again.Send) again.Wait) rows peer e request
+    by false over = refl
+    by true true = refl
+    by true false = refl
+
+done_by : (rows : List Row) (s : Step) (past : List Event) (i : ℕ) (due : Again) → (h : Here rows s past i) → due ≡ fetch_due (row_moment rows s) h.peer h.e past → request_done rows s h.peer ≡ request_as due rows h.peer h.e h.request
 done_by rows s past i due h is =
-    fetch_again-due rows (row_moment rows s) h.peer h.e h.request h.last h.noted_by ∙ ap (λ (a : Again). due_effects a rows h.peer h.e h.request) (sym (is ∙ h.due))
+    again_due rows (row_moment rows s) h.peer h.e h.request h.last h.noted_by ∙ ap (λ (a : Again). request_as a rows h.peer h.e h.request) (sym (is ∙ h.due))
 
 -- ---- one fetch
 
@@ -209,7 +225,7 @@ resending_sends rows s starved first b d t out sent mids i most less one within 
     (done_by rows s past i again.Send it due ∙ repeated) (omega arith)
     (more_fetches rows s starved h.done e b d t out sent mids mids seen refl
     (λ stands. told (octets_sent (making rows s starved (joined h.done e))) past it.peer x stands it.got refl (sym moment))
-    (tt, tt) (record { sent = pushed f found room short; worker = refl; drawn = refl }) h.way)
+    (tt, tt) (record { sent = pushed g found room short; worker = refl; drawn = refl }) h.way)
     (ap (λ (ps : List Peer). drop (i + 1) ps) running)
     (same_after rows s starved h.done e (note.Resent it.peer) rest refl (aside rest it.others) (subst (AllByRecursion (IsAsBefore rows s starved h.done)) it.left h.same).1)
   where

@@ -12,7 +12,7 @@ fetches-init c rows s starved done mids leaves room way =
 pub fetches-preserved : goal.fetches-preserved
 fetches-preserved c rows s starved done mids leaves room way =
     let more = c.fetches-test.true in
-    c.request_next.ensures rows s starved done mids (c.len-count.result - c.fetches.step) (c.len-count.result - (c.fetches.step + 1)) (omega (arith, more)) (c.fetches.invariant rows s starved done mids leaves room way)
+    c.request_next-index.ensures rows s starved done mids (c.len-count.result - c.fetches.step) (c.len-count.result - (c.fetches.step + 1)) (omega (arith, more)) (c.fetches.invariant rows s starved done mids leaves room way)
 
 pub returns : goal.returns
 returns c rows s starved done mids leaves room way =
