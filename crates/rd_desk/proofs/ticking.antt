@@ -3,5 +3,6 @@ pub mod FittingLaws
 pub mod AgainLaws
 pub mod AgainWalk
 pub mod RequestWalk
-pub mod EndLaws
 pub mod NoticeWalk
+pub mod CarryLaws
+pub mod EndLaws

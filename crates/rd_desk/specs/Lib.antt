@@ -18,3 +18,4 @@ pub mod KeepJobs
 pub mod Looking
 pub mod Stepping
 pub mod Resending
+pub mod Planning

@@ -100,7 +100,7 @@ fn names_tag(meaning: &Meaning<'_>, tag: Tag) -> bool
 }
 
 /// The listing of a query at a moment. `Starved`: out of memory.
-fn listing_at<L: Ledger>(
+pub(crate) fn listing_at<L: Ledger>(
     blank: Blank,
     version: &Directory,
     now: Moment,

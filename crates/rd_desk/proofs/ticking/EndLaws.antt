@@ -1,4 +1,4 @@
--- The end of a tick: old exchanges are dropped, and the version is swept. Both leave what the desk stands for.
+-- What leaves what the desk stands for: bodies that are kept, and the end of a tick, where old exchanges are dropped and the version is swept.
 use Rattle.std.proofs.Common.{◌≡◌, ℕ, ◌≤◌, Bool, List, sym, ap, subst, ◌∙◌, arith}
 use Rattle.history_model.specs.declared.entries.Entry.{Entry}
 use Rattle.history_model.specs.Versions.{Version, VersionStandsFor}
@@ -8,6 +8,7 @@ use Rattle.journal_model.specs.Journal.{events, entries, now}
 use Rattle.exchange_core.specs.Table as exchanges
 use Rattle.exchange_core.specs.ExchangeEvents.{ExchangesStandFor}
 use Rattle.rd_desk.specs.Desks.{Seen, StandsFor}
+use Rattle.rd_desk.specs.Watching.{Watching, WatchingStandsFor}
 
 -- without old exchanges
 pub aged-StandsFor : (rows : List Row) (b d : Seen) (t : exchanges.Table) → b ≡ d
@@ -38,6 +39,20 @@ swept-StandsFor rows b d v seen stands at swept h =
       exchanges = own.exchanges;
       transfers = own.transfers;
       watching = own.watching;
+      fetches = own.fetches;
+      observed = own.observed;
+    }
+
+-- with watched queries and observers that stand for the same
+pub watched-StandsFor : (rows : List Row) (b d : Seen) (w : Watching) → b ≡ d → (WatchingStandsFor rows b.watching → WatchingStandsFor rows w) → StandsFor rows d → StandsFor rows (record b { watching = w })
+watched-StandsFor rows b d w seen stands h =
+    let own : StandsFor rows b = subst (StandsFor rows) (sym seen) h in
+    record {
+      moment = own.moment;
+      directory = own.directory;
+      exchanges = own.exchanges;
+      transfers = own.transfers;
+      watching = stands own.watching;
       fetches = own.fetches;
       observed = own.observed;
     }
