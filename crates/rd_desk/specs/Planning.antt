@@ -1,5 +1,5 @@
 -- What is planned of the notices of a tick before anything changes, and how the plan is carried out (RFC 7641 sections 1.3 and 4.2).
-use Rattle.std.specs.Prelude.{◌≡◌, ℕ, ◌+◌, ◌%◌, ◌^◌, ◌<◌, ◌≤◌, ◌&&◌, ◌||◌, nat_lt, Bool, true, false, List, [], ◌∷◌, ◌++◌, length, drop, fold, slice_get, Option, Some, None, if◌then◌else◌}
+use Rattle.std.specs.Prelude.{◌≡◌, ℕ, ◌+◌, ◌%◌, ◌^◌, ◌<◌, ◌≤◌, ◌&&◌, ◌||◌, nat_lt, Bool, true, false, List, [], ◌∷◌, ◌++◌, length, drop, fold, filter_map, slice_get, Option, Some, None, if◌then◌else◌}
 use Rattle.std.specs.Arc.{arc_value}
 use Rattle.std.specs.List.{list_any, AllByRecursion}
 use Rattle.rd_base.specs.declared.peers.Peer.{Peer}
@@ -16,7 +16,7 @@ use Rattle.journal_model.specs.declared.steps.Step.{Step}
 use Rattle.journal_model.specs.declared.rows.Row.{Row}
 use Rattle.journal_model.specs.Bodies.{body_reply, is_long}
 use Rattle.journal_model.specs.Effects.{Effects, joined, noting}
-use Rattle.journal_model.specs.Journal.{events, transitions}
+use Rattle.journal_model.specs.Journal.{entry_noted, events, transitions}
 use Rattle.journal_model.specs.Rows.{row_moment}
 use Rattle.journal_model.specs.Ticks.{ticking, is_confirmable_with, first_block, notices_again, notices, notice_next}
 use Rattle.journal_model.specs.UnfinishedRow.{making}
@@ -124,6 +124,7 @@ pub record PlannedUpTo (rows : List Row) (s : Step) (starved : Bool) (current : 
   pub few : length p.peers.items ≤ 64
   pub sent : AllByRecursion (λ d. is_awaited d.0 watching.observers ≡ true) done.sent
   pub size : length done.sent ≤ 1_024 + length p.peers.items
+  pub silent : filter_map entry_noted done.notes ≡ []
   pub observed : observe_values_sent (events (making rows s starved done)) ≡ (given + length p.peers.items) % 2 ^ 64
   pub left : whole ≡ fold (notice_next (ticking rows (row_moment rows s) s)) done (drop from (observers (events (making rows s starved done))))
   pub plan : (more : List Planned) (later : List NamedAnswer) → AreDone rows s starved current whole done from more later → AreDone rows s starved current whole first 0 (p.items.items ++ more) (p.kept.items ++ later)
