@@ -7,7 +7,7 @@
 --   a note about an observer (WatchingNotes), one who joins (JoiningLaws), and what a tick asks (TickLaws).
 -- Changes of the registrations (changes): what is planned of a write (OutcomeLaws), the entry that a row makes (EntryLaws), and how its parts are what settles a write (SettlingLaws).
 -- Ticks (ticking): how many observe and are fetched from (BoundLaws), how long the octets are that may be sent again (FittingLaws); notices that are sent again (AgainLaws, observer after
---   observer AgainWalk), requests of fetches that are (RequestWalk); who gets a new notice (NoticeWalk), and a plan that is carried out (CarryLaws); what is dropped at the end (EndLaws).
+--   observer AgainWalk), requests of fetches that are (RequestWalk); a plan that is carried out (CarryLaws); and what is dropped at the end (EndLaws).
 pub mod answers
 pub mod parts
 pub mod observers

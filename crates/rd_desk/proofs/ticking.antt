@@ -3,6 +3,5 @@ pub mod FittingLaws
 pub mod AgainLaws
 pub mod AgainWalk
 pub mod RequestWalk
-pub mod NoticeWalk
 pub mod CarryLaws
 pub mod EndLaws
