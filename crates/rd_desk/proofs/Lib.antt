@@ -11,8 +11,12 @@
 -- Changes of the registrations (changes): what is planned of a write (OutcomeLaws), the entry that a row makes (EntryLaws), how its parts are what settles a write and what that does to
 --   its exchange (SettlingLaws), how long an answer is that is kept (ShortAnswers), and a commit, by its query options, its method, its block and its path (CommitLaws).
 --   The parameters that a registration gives (ParameterLaws), a block of one (UploadLaws), and a simple one, whose fetch starts beside its answer (FetchStartLaws).
+-- Changes of the registrations (changes): what is planned of a write (OutcomeLaws), the entry that a row makes (EntryLaws), and how its parts are what settles a write (SettlingLaws).
+-- Ticks (ticking): how many observe and are fetched from (BoundLaws), how long the octets are that may be sent again (FittingLaws); notices that are sent again (AgainLaws, observer after
+--   observer AgainWalk), requests of fetches that are (RequestWalk); a plan that is carried out (CarryLaws); and what is dropped at the end (EndLaws).
 pub mod answers
 pub mod parts
 pub mod observers
 pub mod changes
 pub mod responses
+pub mod ticking

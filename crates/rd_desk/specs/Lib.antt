@@ -23,3 +23,5 @@ pub mod Stepping
 pub mod Shown
 pub mod Watchers
 pub mod Responding
+pub mod Resending
+pub mod Planning

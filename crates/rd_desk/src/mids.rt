@@ -34,12 +34,12 @@ impl Mids {
         u16::from(self.worker) * WORKER_MIDS + (self.drawn % u64::from(WORKER_MIDS)) as u16
     }
 
-    /// The one that is drawn after so many others.
-    pub(crate) fn after(&self, others: u8) -> u16
-        ensures { result ≡ mid_of self.now.worker (self.now.drawn + others) }
+    /// The one that is drawn after so many more.
+    pub(crate) fn after(&self, more: u64) -> u16
+        ensures { result ≡ mid_of self.now.worker (self.now.drawn + more) }
     {
-        let place = (self.drawn % u64::from(WORKER_MIDS)) as u16 + u16::from(others);
-        u16::from(self.worker) * WORKER_MIDS + place % WORKER_MIDS
+        u16::from(self.worker) * WORKER_MIDS
+            + (self.drawn.wrapping_add(more) % u64::from(WORKER_MIDS)) as u16
     }
 
     /// Draws the next.

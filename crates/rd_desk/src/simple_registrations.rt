@@ -117,7 +117,7 @@ impl Tables {
             self.fail(mids, peer, &meaning.view, admitted, out);
             return Stepped::Starved;
         };
-        let mid = mids.after(drawn_for(meaning.view.kind));
+        let mid = mids.after(u64::from(drawn_for(meaning.view.kind)));
         match self
             .fetches
             .start(alloc, self.moment, word, mid, peer, params)
