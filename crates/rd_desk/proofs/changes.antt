@@ -6,3 +6,4 @@ pub mod UploadLaws
 pub mod FetchStartLaws
 pub mod ShortAnswers
 pub mod CommitLaws
+pub mod OpenJobs
