@@ -7,7 +7,10 @@
 --   is observed (WatchedLaws); what they stand for, by its parts (WatchingParts, WatcherParts) and while a row is made: nothing about them, time that passes, an entry (WatchingLaws),
 --   a note about an observer (WatchingNotes), one who joins (JoiningLaws), and what a tick asks (TickLaws).
 -- Responses to fetches (responses): the fetches that a desk keeps stay sound (FetchingLaws), and what a response does, part after part (ResponseLaws).
--- Changes of the registrations (changes): what is planned of a write (OutcomeLaws), the entry that a row makes (EntryLaws), and how its parts are what settles a write (SettlingLaws).
+-- Changes of the registrations (changes): what is planned of a write (OutcomeLaws), the entry that a row makes (EntryLaws), how its parts are what settles a write and what that does to
+--   its exchange (SettlingLaws), how long an answer is that is kept (ShortAnswers), and a commit, by its query options, its method, its block and its path (CommitLaws);
+--   for the desk above, that a commit is of an open admission (OpenJobs).
+--   The parameters that a registration gives (ParameterLaws), a block of one (UploadLaws), and a simple one, whose fetch starts beside its answer (FetchStartLaws).
 pub mod answers
 pub mod parts
 pub mod observers

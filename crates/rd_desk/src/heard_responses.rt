@@ -65,7 +65,7 @@ fn acknowledge_response(peer: Peer, view: &View<'_>, out: &mut Outbox)
 }
 
 /// The next request of a fetch is sent, under the next Message ID.
-fn ask_next(mids: &mut Mids, ask: &Ask, out: &mut Outbox)
+pub(crate) fn ask_next(mids: &mut Mids, ask: &Ask, out: &mut Outbox)
     requires room { length out.old < most_datagrams }
     requires fits { length ask.now.bytes ≤ longest_datagram }
     ensures sends { (notes : List Note) → Sends (asking_next ask.now notes) out.old out.new mids.old mids.new }

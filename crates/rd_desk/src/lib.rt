@@ -3,6 +3,7 @@
 
 mod admissions;
 mod bodies;
+mod commits;
 mod empty_messages;
 mod entries;
 mod fetching;
@@ -14,21 +15,27 @@ mod joining;
 mod keep_jobs;
 mod keeps;
 mod listings;
+mod locations;
 mod looks;
 mod lookups;
 mod marks;
 mod mids;
 mod outbox;
 mod outcomes;
+mod parameters;
 mod refusals;
 mod refused_requests;
+mod refused_writes;
+mod registrations;
 mod replies;
 mod requests;
 mod server_errors;
 mod settling;
+mod simple_registrations;
 mod steps;
 mod tables;
 mod unread_datagrams;
+mod uploads;
 mod watching;
 mod write_jobs;
 

@@ -1,5 +1,5 @@
 //! The Message IDs that a worker draws (RFC 7252 section 4.4).
-ghost use Rattle.std.specs.Prelude.{◌≡◌, ◌<◌};
+ghost use Rattle.std.specs.Prelude.{◌≡◌, ◌<◌, ◌+◌};
 ghost use Rattle.journal_model.specs.DeskJournal.{max_workers};
 ghost use Rattle.journal_model.specs.Effects.{mid_of};
 ghost use Rattle.journal_model.specs.UnfinishedRow.{drawing};
@@ -32,6 +32,14 @@ impl Mids {
         ensures { result ≡ mid_of self.now.worker self.now.drawn }
     {
         u16::from(self.worker) * WORKER_MIDS + (self.drawn % u64::from(WORKER_MIDS)) as u16
+    }
+
+    /// The one that is drawn after so many others.
+    pub(crate) fn after(&self, others: u8) -> u16
+        ensures { result ≡ mid_of self.now.worker (self.now.drawn + others) }
+    {
+        let place = (self.drawn % u64::from(WORKER_MIDS)) as u16 + u16::from(others);
+        u16::from(self.worker) * WORKER_MIDS + place % WORKER_MIDS
     }
 
     /// Draws the next.

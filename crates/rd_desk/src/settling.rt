@@ -29,8 +29,7 @@ use rd_base::{Moment, Peer};
 /// The number in a location is one of 64 bits, so it has at most 20 digits.
 fn known_number(location: Option<u64>)
     ensures { ForSome location (λ number. number < 2 ^ 64) }
-{
-}
+{}
 
 /// The answer to a write is sent; its octets are given back, to be kept for repeats.
 pub(crate) fn answer_short(

@@ -141,7 +141,7 @@ pub way_failed : (rows : List Row) (s : Step) (starved : Bool) (place : ℕ) (m 
 way_failed rows s starved place m reply sender admitted x d t out sent mids_before mids seen by said opened stands sends way =
     let of = step_of rows s starved nothing d out mids_before sender by refl way in
     let here : IsOpen place sender m.mid admitted (events (making rows s starved nothing)) =
-        subst (λ (past : List Event). IsOpen place sender m.mid admitted past) (sym (events-making_nothing rows s starved)) opened in
+    subst (λ (past : List Event). IsOpen place sender m.mid admitted past) (sym (events-making_nothing rows s starved)) opened in
     only rows s starved (failing place s m) (record x { exchanges = t }) sent mids
     (more_exchanges rows s starved nothing (failing place s m) x d t out sent mids_before mids seen (about_failing place s m)
     (λ h. failed_stands rows s place m sender admitted (events (making rows s starved nothing)) x.exchanges t here stands h)
