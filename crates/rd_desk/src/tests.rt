@@ -1,13 +1,12 @@
-//! Which datagrams only look, how requests are refused for themselves, what an outbox holds, and how datagrams are heard one after the other.
+//! Which datagrams only look, how requests are refused for themselves, and what an outbox holds.
 
 ghost use Rattle.std.specs.Prelude.{◌≡◌, []};
 
 use super::*;
 use crate::refused_requests::refuse;
 use crate::requests::asked;
-use crate::tables::Tables;
 use coap_message::view;
-use rd_base::{Host, Moment, Peer, Starved};
+use rd_base::{Host, Peer, Starved};
 use std::alloc::Global;
 use std::test::Fail;
 
@@ -57,20 +56,6 @@ const REFUSALS: &str = "\
 51010001b2b3666f6f 51843000b2ff70617468\n\
 ";
 
-/// Datagrams of one peer, one after the other, and what each is answered: `-` for nothing, `held` for a write that is admitted. An observation begins, is
-/// renewed and ends; then a further block of an empty listing, a ping, a datagram that is no message, a registration, the same again, and a wrong path.
-const HEARD: &str = "\
-41010001b2605972642d6c6f6f6b757003726573 61450001b248000000000000000021016128\n\
-41010002b2605972642d6c6f6f6b757003726573 61450002b248000000000000000021026128\n\
-41010003b261015972642d6c6f6f6b757003726573 61450003b24800000000000000008128\n\
-41010004b2b972642d6c6f6f6b757003726573c116 61800004b2ff626c6f636b\n\
-40000005 70000005\n\
-44010006b2 70000006\n\
-41020007b2b272644465703d61 held\n\
-41020007b2b272644465703d61 -\n\
-41010008b2b3666f6f 61840008b2ff70617468\n\
-";
-
 #[test]
 fn looks_are_recognized(rt: HostRuntime) -> Result<(), Fail> {
     let mut count = 0;
@@ -115,54 +100,6 @@ fn requests_are_refused(rt: HostRuntime) -> Result<(), Fail> {
         count = u32::saturating_add(count, 1);
     }
     assert_eq!(rt; count, 11);
-    Ok(())
-}
-
-/// What a datagram that is heard is answered, as digits; `-` for nothing, `held` where it leaves a job.
-fn answer_heard(
-    tables: &mut Tables,
-    alloc: Global,
-    mids: &mut Mids,
-    datagram: &[u8],
-    out: &mut Outbox,
-) -> Result<String, Starved>
-    requires { out.old ≡ [] }
-{
-    if is_look(datagram) {
-        return Err(Starved);
-    }
-    match tables.admit(alloc, Moment(0), 0, mids, PEER, datagram, out) {
-        Admitted::Done => {}
-        Admitted::Held(_) => return Ok(String::from_str(alloc, "held")?),
-        Admitted::Starved => return Err(Starved),
-    }
-    match out.at(0) {
-        Some((_, octets)) => Ok(hex::encode(alloc, octets)?),
-        None => Ok(String::from_str(alloc, "-")?),
-    }
-}
-
-#[test]
-fn datagrams_are_heard(rt: HostRuntime) -> Result<(), Fail> {
-    let mut tables = Tables::make(rt.alloc())?;
-    let mut out = Outbox::make(rt.alloc())?;
-    let mut mids = Mids::of(3);
-    let mut count = 0;
-    for case in HEARD.lines() {
-        let (asks, want) = case.split_once(' ').ok_or("no answer")?;
-        let datagram = hex::decode(rt.alloc(), asks.as_bytes()).map_err(|_| "no digits")?;
-        out.clear();
-        let got = answer_heard(
-            &mut tables,
-            rt.alloc(),
-            &mut mids,
-            datagram.as_slice(),
-            &mut out,
-        )?;
-        assert_eq!(rt; got.as_str(), want, "{case}");
-        count = u32::saturating_add(count, 1);
-    }
-    assert_eq!(rt; count, 9);
     Ok(())
 }
 
