@@ -7,3 +7,4 @@ pub mod FetchStartLaws
 pub mod ShortAnswers
 pub mod CommitLaws
 pub mod StagingLaws
+pub mod OpenJobs

@@ -1,5 +1,5 @@
 -- A write that was admitted and is forgotten in the same row, for want of memory: the exchanges are as before (RFC 7252 section 4.5).
-use Rattle.std.proofs.Common.{◌≡◌, ◌≢◌, ℕ, ◌==◌, not, Bool, true, false, cond, List, [], ◌∷◌, ◌++◌, length, filter, refl, sym, ap, subst, ◌∙◌, Option, Some, None, eqb-true}
+use Rattle.std.proofs.Common.{◌≡◌, ◌≢◌, ℕ, ◌==◌, not, Bool, true, false, cond, List, [], ◌∷◌, length, filter, refl, sym, ap, subst, ◌∙◌, Option, Some, None, eqb-true}
 use Rattle.std.specs.List.{list_any, filter_map, AllByRecursion}
 use Rattle.rd_base.specs.declared.peers.Peer.{Peer}
 use Rattle.rd_base.proofs.lemmas.Each.{each_weaker, each_one}
@@ -15,7 +15,7 @@ use Rattle.event_model.proofs.NotedLaws.{event_at}
 use Rattle.event_model.proofs.OrderLaws.{IsOrderly-admitted}
 use Rattle.journal_model.specs.declared.steps.Step.{Step}
 use Rattle.journal_model.specs.declared.rows.Row.{Row}
-use Rattle.journal_model.specs.Effects.{Effects, nothing, noting, without_memory}
+use Rattle.journal_model.specs.Effects.{nothing, without_memory}
 use Rattle.journal_model.specs.Journal.{events}
 use Rattle.journal_model.specs.Rows.{row_with, row_moment}
 use Rattle.journal_model.specs.UnfinishedRow.{IsReady, making}
@@ -34,7 +34,6 @@ use Rattle.rd_desk.specs.Desks.{Seen}
 use Rattle.rd_desk.specs.Sendings.{IsStepOf, Sends}
 use Rattle.rd_desk.specs.UnderWay.{UnderWay}
 use Rattle.rd_desk.proofs.parts.NoteTopics as topic
-use Rattle.rd_desk.proofs.parts.NoteTopics.{AreAbout}
 use Rattle.rd_desk.proofs.parts.PartLaws.{more_exchanges}
 use Rattle.rd_desk.proofs.parts.WayLaws.{noting_more, way_moment, step_of, only}
 use Rattle.rd_desk.proofs.parts.WriteLaws.{without_memory-notes}

@@ -1,10 +1,9 @@
 -- What an admission does and leaves, by what it hears (RFC 7252 section 4).
-use Rattle.std.proofs.Common.{◌≡◌, ℕ, ◌&&◌, ◌||◌, not, Bool, true, false, List, [], ◌∷◌, length, Option, Some, None, is_none, Result, Ok, Err, refl, sym, ap, subst, ◌∙◌}
+use Rattle.std.proofs.Common.{◌≡◌, ℕ, ◌&&◌, ◌||◌, not, Bool, true, false, List, ◌∷◌, length, Option, None, is_none, Result, Ok, refl, sym, ap, subst, ◌∙◌}
 use Rattle.std.specs.List.{list_any}
 use Rattle.std.proofs.lemmas.Bool.{false≢true}
 use Rattle.rd_base.specs.declared.moments.Moment.{Moment}
 use Rattle.rd_base.specs.declared.peers.Peer.{Peer}
-use Rattle.rd_base.proofs.lemmas.Numbers.{eqb-refl}
 use Rattle.message_model.specs.declared.messages.Role.{Role}
 use Rattle.message_model.specs.declared.messages.Role.TheVariants as role
 use Rattle.message_model.specs.declared.messages.Unread.{Unread}
@@ -22,27 +21,26 @@ use Rattle.journal_model.specs.declared.steps.Step.{Step}
 use Rattle.journal_model.specs.declared.steps.StepKind.TheVariants as step
 use Rattle.journal_model.specs.declared.rows.Row.{Row}
 use Rattle.journal_model.specs.DeskJournal.{IsDeskJournal}
-use Rattle.journal_model.specs.Effects.{Effects, Reply, nothing, answering, without_memory}
-use Rattle.journal_model.specs.Journal.{events, entries}
+use Rattle.journal_model.specs.Effects.{Effects, Reply, nothing}
+use Rattle.journal_model.specs.Journal.{events}
 use Rattle.journal_model.specs.Lookups.{lookup_effects}
 use Rattle.journal_model.specs.Machine.{is_look_message, is_look_reading, is_look_datagram}
 use Rattle.journal_model.specs.Requests.{refusal_of_request, is_lookup, is_discovery, is_later_block, is_heeded, only_looks, is_look_request}
 use Rattle.journal_model.specs.Responses.{response_effects}
-use Rattle.journal_model.specs.Rows.{served, request_answered, refusal_answered, unread_answered, message_effects, heard, effects, row_moment, row}
-use Rattle.journal_model.specs.Writes.{write_effects}
+use Rattle.journal_model.specs.Rows.{served, refusal_answered, unread_answered, message_effects, heard, row_moment, row}
 use Rattle.journal_model.proofs.NoteKinds.{of_lookup, of_empty, of_response, are, none_of}
-use Rattle.journal_model.proofs.StepNotes.{look_effects-notes, lookup_effects-notes, acknowledged-notes, reset-notes}
-use Rattle.journal_model.proofs.RowEquations.{row-notes, row-step}
+use Rattle.journal_model.proofs.StepNotes.{lookup_effects-notes, acknowledged-notes, reset-notes}
+use Rattle.journal_model.proofs.RowEquations.{row-notes}
 use Rattle.journal_model.proofs.notes.ChangeNotes.{response_effects-notes}
 use Rattle.journal_model.proofs.notes.SilentSteps.{refusal_notes, unread_notes}
 use Rattle.journal_model.proofs.desks.AdmissionsInOrder.{journal-IsOrderly}
-use Rattle.journal_model.proofs.desks.OpenAdmissions.{OwnAdmission, admitted-IsOpen, row-OwnAdmission}
+use Rattle.journal_model.proofs.desks.OpenAdmissions.{admitted-IsOpen, row-OwnAdmission}
 use Rattle.rd_desk.specs.declared.admissions.Admitted.{Admitted}
 use Rattle.rd_desk.specs.declared.admissions.Admitted.TheVariants as admitted
 use Rattle.rd_desk.specs.declared.mids.Mids.{Mids}
 use Rattle.rd_desk.specs.declared.steps.Stepped.{Stepped}
 use Rattle.rd_desk.specs.declared.steps.Stepped.TheVariants as stepped
-use Rattle.rd_desk.specs.Admitting.{is_starved_admission, write_heard, IsHeldFor, jobless, write_takes, served_takes, request_takes, message_takes, takes_memory}
+use Rattle.rd_desk.specs.Admitting.{is_starved_admission, IsHeldFor, jobless, write_takes, served_takes, request_takes, message_takes}
 use Rattle.rd_desk.specs.WriteJobs.{Write, is_write_path}
 use Rattle.rd_desk.specs.Desks.{Seen}
 use Rattle.rd_desk.specs.Lookups.{lookup_heard}

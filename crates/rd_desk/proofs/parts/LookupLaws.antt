@@ -1,5 +1,5 @@
 -- What a lookup does that the journal takes part in, part by part (RFC 7959 section 2.4, RFC 7641 sections 3 and 4.1).
-use Rattle.std.proofs.Common.{◌≡◌, ℕ, ◌+◌, ◌%◌, ◌^◌, ◌<◌, ◌||◌, ◌&&◌, ◌==◌, not, Bool, true, false, List, [], ◌∷◌, ◌++◌, length, map, Option, Some, None, is_some, Result, IfOk, IfSome, refl, sym, ap, subst, ◌∙◌, append-nil, append_assoc, arith, if◌then◌else◌}
+use Rattle.std.proofs.Common.{◌≡◌, ℕ, ◌+◌, ◌%◌, ◌^◌, ◌||◌, ◌==◌, Bool, true, false, List, [], ◌∷◌, ◌++◌, length, Option, Some, None, is_some, Result, IfOk, IfSome, refl, sym, ap, subst, ◌∙◌, append_assoc, arith, if◌then◌else◌}
 use Rattle.std.specs.Prelude.{count_by}
 use Rattle.std.specs.Arc.{arc_value}
 use Rattle.std.specs.List.{list_any}
@@ -11,7 +11,7 @@ use Rattle.rd_base.specs.declared.queries.Query.{Query}
 use Rattle.message_model.specs.declared.blocks.Block.{Block}
 use Rattle.message_model.specs.Blocks.{block_of}
 use Rattle.message_model.specs.Message.{Message}
-use Rattle.message_model.specs.Request.{path_in, observe_in}
+use Rattle.message_model.specs.Request.{observe_in}
 use Rattle.message_model.specs.RequestKey.{key_in}
 use Rattle.history_model.specs.declared.entries.Entry.{Entry}
 use Rattle.history_model.specs.Versions.{Version, VersionStandsFor}
@@ -30,9 +30,9 @@ use Rattle.journal_model.specs.Bodies.{part_reply, body_reply, is_long}
 use Rattle.journal_model.specs.Effects.{Effects, Reply, nothing, joined, noting, answering, without_memory}
 use Rattle.journal_model.specs.Journal.{events, entries}
 use Rattle.journal_model.specs.Lookups.{block_now, block_of_kept, later_block, removal, addition, without, observer_of, keeping, observed_if, observed, unobserved, first_block_effects, observation_effects, block_effects, lookup_effects, listing_now}
-use Rattle.journal_model.specs.Requests.{asked_block, number_of, szx_of, query_of, is_later_block, is_heeded, is_lookup, is_discovery, only_looks}
+use Rattle.journal_model.specs.Requests.{asked_block, number_of, szx_of, query_of, is_later_block, is_heeded}
 use Rattle.journal_model.specs.Rows.{row_moment}
-use Rattle.journal_model.specs.Sought.{body, listing_of}
+use Rattle.journal_model.specs.Sought.{body}
 use Rattle.journal_model.specs.UnfinishedRow.{making}
 use Rattle.journal_model.proofs.UnfinishedRowLaws.{now-making, events-making_nothing}
 use Rattle.transfers.specs.TransferEvents.{Table, UploadsStandFor, AnswersStandFor, TransfersStandFor}

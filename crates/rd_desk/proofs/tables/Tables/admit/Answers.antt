@@ -1,10 +1,9 @@
-use Rattle.std.proofs.Common.{◌≡◌, Bool, true, false, List, length, Result, Ok, Err, refl, sym, ap, subst, ◌∙◌}
+use Rattle.std.proofs.Common.{false, Result, Ok, Err, sym, ap, ◌∙◌}
 use Rattle.message_model.specs.declared.messages.Unread.{Unread}
-use Rattle.message_model.specs.Message.{Message, role_of}
+use Rattle.message_model.specs.Message.{Message}
 use Rattle.message_model.specs.Reading.{reading}
 use Rattle.coap_message.specs.Views.{message_in}
 use Rattle.journal_model.specs.Rows.{unread_answered, row_moment}
-use Rattle.journal_model.specs.Effects.{nothing}
 use Rattle.journal_model.proofs.notes.SilentSteps.{unread_notes}
 use Rattle.rd_desk.specs.declared.admissions.Admitted.TheVariants as admitted
 use Rattle.rd_desk.specs.Admitting.{is_starved_admission, takes_memory}

@@ -1,4 +1,4 @@
-use Rattle.std.proofs.Common.{false, refl, ap, subst, ◌∙◌}
+use Rattle.std.proofs.Common.{false, refl}
 use Rattle.coap_message.specs.Views.{message_in}
 use Rattle.event_model.specs.Observers.{observers}
 use Rattle.journal_model.specs.Effects.{nothing, noting}

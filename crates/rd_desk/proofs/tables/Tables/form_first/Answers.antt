@@ -1,6 +1,5 @@
 use Rattle.std.proofs.Common.{refl, ◌∙◌}
 use Rattle.coap_message.specs.Views.{message_in}
-use Rattle.journal_model.specs.Requests.{query_of}
 use Rattle.journal_model.specs.Bodies.{is_long}
 use Rattle.rd_desk.proofs.parts.LookupLaws.{formed_now}
 use Rattle.rd_desk.proofs.tables.Tables.form_first.Goals as goal

@@ -1,4 +1,4 @@
-use Rattle.std.proofs.Common.{refl, ◌∙◌}
+use Rattle.std.proofs.Common.{◌∙◌}
 use Rattle.coap_message.specs.Views.{message_in}
 use Rattle.journal_model.specs.Requests.{query_of}
 use Rattle.rd_desk.specs.Lookups.{has_asked_block}

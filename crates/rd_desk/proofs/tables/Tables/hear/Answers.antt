@@ -1,18 +1,11 @@
-use Rattle.std.proofs.Common.{◌≡◌, Bool, true, false, List, refl, sym, ap, subst, ◌∙◌}
-use Rattle.std.specs.List.{list_any}
+use Rattle.std.proofs.Common.{◌≡◌, true, false, refl, sym, subst, ◌∙◌}
 use Rattle.message_model.specs.declared.messages.Role.{Role}
 use Rattle.message_model.specs.declared.messages.Role.TheVariants as role
-use Rattle.message_model.specs.declared.messages.Kind4.TheVariants.{Rst}
-use Rattle.message_model.specs.Message.{role_of}
-use Rattle.message_model.specs.Spelling.{spelling}
 use Rattle.coap_message.specs.Views.{message_in}
-use Rattle.event_model.specs.Repeats.{is_admitting}
-use Rattle.journal_model.specs.Effects.{Effects, nothing, resetting}
-use Rattle.journal_model.specs.Machine.{is_look_message}
+use Rattle.journal_model.specs.Effects.{resetting}
 use Rattle.journal_model.specs.Rows.{message_effects, row_moment}
-use Rattle.rd_desk.specs.Admitting.{is_starved_admission, IsHeldFor, message_takes}
+use Rattle.rd_desk.specs.Admitting.{is_starved_admission, IsHeldFor}
 use Rattle.rd_desk.specs.Responding.{response_heard}
-use Rattle.rd_desk.specs.UnderWay.{UnderWay}
 use Rattle.rd_desk.proofs.parts.HearingLaws.{hears_as, held_as, takes_as, other_as, response_is, response_admits, acknowledged_admits, reset_admits, jobless_way, jobless_held}
 use Rattle.rd_desk.proofs.changes.StagingLaws.{laid_none}
 use Rattle.rd_desk.proofs.parts.PartLaws.{only_silent}

@@ -1,8 +1,5 @@
-use Rattle.std.proofs.Common.{◌≡◌, false, sym, ap, ◌∙◌}
-use Rattle.message_model.specs.Request.{path_in, observe_in}
+use Rattle.std.proofs.Common.{sym, ◌∙◌}
 use Rattle.coap_message.specs.Views.{message_in}
-use Rattle.journal_model.specs.Requests.{is_later_block}
-use Rattle.rd_desk.specs.Asking.{begins_observation}
 use Rattle.rd_desk.proofs.parts.HearingLaws.{heeded-other}
 use Rattle.rd_desk.proofs.tables.Tables.hear_lookup.Goals as goal
 

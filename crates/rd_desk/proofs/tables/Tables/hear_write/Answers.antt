@@ -1,8 +1,8 @@
-use Rattle.std.proofs.Common.{◌≡◌, true, false, refl, sym, ap, subst, ◌∙◌}
+use Rattle.std.proofs.Common.{◌≡◌, true, false, sym, ap, ◌∙◌}
 use Rattle.std.specs.List.{list_any}
 use Rattle.coap_message.specs.Views.{message_in}
 use Rattle.event_model.specs.Repeats.{is_admitting}
-use Rattle.journal_model.specs.Effects.{nothing, without_memory}
+use Rattle.journal_model.specs.Effects.{nothing}
 use Rattle.rd_desk.specs.Desks.{Seen}
 use Rattle.rd_desk.proofs.parts.ForgottenLaws.{way_forgotten}
 use Rattle.rd_desk.proofs.parts.WayLaws.{way_moment}

@@ -1,9 +1,8 @@
-use Rattle.std.proofs.Common.{◌≡◌, Bool, true, false, List, sym, ap, subst, ◌∙◌}
+use Rattle.std.proofs.Common.{◌≡◌, true, false, sym, ap, subst, ◌∙◌}
 use Rattle.std.specs.List.{list_any}
 use Rattle.message_model.specs.declared.messages.Role.TheVariants as role
 use Rattle.message_model.specs.Request.{path_in}
 use Rattle.coap_message.specs.Views.{message_in}
-use Rattle.event_model.specs.declared.notes.Note.{Note}
 use Rattle.event_model.specs.Repeats.{is_admitting}
 use Rattle.journal_model.specs.Effects.{Effects}
 use Rattle.journal_model.specs.Requests.{is_lookup}
