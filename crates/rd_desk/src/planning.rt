@@ -87,7 +87,11 @@ fn block_of_notice(szx: u8) -> Option<Block>
     Some(Block {
         num: 0,
         more: false,
-        szx: if szx < GREATEST_SZX { szx } else { GREATEST_SZX },
+        szx: if szx < GREATEST_SZX {
+            szx
+        } else {
+            GREATEST_SZX
+        },
     })
 }
 

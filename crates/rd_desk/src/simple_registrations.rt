@@ -58,7 +58,7 @@ fn changed() -> Reply<'static>
 }
 
 /// How many Message IDs the answer to a request of this type draws.
-fn drawn_for(kind: Kind4) -> u8
+fn drawn_for(kind: Kind4) -> u64
     ensures { result ≡ effects.drawn_for kind }
 {
     match kind {
@@ -117,7 +117,7 @@ impl Tables {
             self.fail(mids, peer, &meaning.view, admitted, out);
             return Stepped::Starved;
         };
-        let mid = mids.after(u64::from(drawn_for(meaning.view.kind)));
+        let mid = mids.after(drawn_for(meaning.view.kind));
         match self
             .fetches
             .start(alloc, self.moment, word, mid, peer, params)

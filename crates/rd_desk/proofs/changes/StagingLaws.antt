@@ -1,6 +1,7 @@
 -- What a step leaves on a board: what is planned of a write has one entry more than any history that the version before stands for, and is laid or leaves all as it was.
-use Rattle.std.proofs.Common.{◌≡◌, ◌≤◌, ℕ, Bool, true, false, List, [], ◌∷◌, Option, Some, None, Result, Ok, Err, IfOk, IfSome, refl, sym, ap, subst, ◌∙◌, arith}
+use Rattle.std.proofs.Common.{◌≡◌, ◌≤◌, ℕ, Bool, true, false, List, [], ◌∷◌, ◌++◌, length, filter_map, if◌then◌else◌, Option, Some, None, Result, Ok, Err, IfOk, IfSome, refl, sym, ap, subst, ◌∙◌, arith}
 use Rattle.std.proofs.lemmas.Bool.{false≢true, true≢false}
+use Rattle.std.proofs.lemmas.List.{length-append}
 use Rattle.std.specs.Arc.{arc_value}
 use Rattle.rd_base.specs.declared.out_of_memory.Starved.{Starved}
 use Rattle.rd_base.specs.declared.peers.Host.TheVariants as host
@@ -9,13 +10,16 @@ use Rattle.history_model.specs.declared.entries.Entry.{Entry}
 use Rattle.history_model.specs.Versions.{Version, VersionStandsFor}
 use Rattle.event_model.specs.declared.notes.Note.{Note}
 use Rattle.journal_model.specs.Changes as changes
+use Rattle.journal_model.specs.Journal.{entries, entry_noted}
+use Rattle.journal_model.specs.declared.rows.Row.{Row}
 use Rattle.journal_model.specs.declared.steps.Step.{Step}
 use Rattle.journal_model.specs.declared.steps.StepKind.TheVariants as step
 use Rattle.directory_core.specs.Boards.{HasOneMore}
 use Rattle.rd_desk.specs.declared.outcomes.Entering.{Entering}
 use Rattle.rd_desk.specs.declared.outcomes.Outcome.{Outcome}
 use Rattle.rd_desk.specs.Outcomes.{AreNotes, IsPlanned, IsTimely, IsReadyAt}
-use Rattle.rd_desk.specs.Staging.{version_ready, IsLaid, IsLeftBy, IsNextOf, IsSweptBefore}
+use Rattle.rd_desk.specs.Desks.{Seen, StandsFor}
+use Rattle.rd_desk.specs.Staging.{staged_after, LeavesStaged, version_ready, IsLaid, IsLeftBy, IsNextOf, IsSweptBefore}
 
 -- a step of a peer
 abbrev pub from_peer : Peer → Step
@@ -93,3 +97,46 @@ laid_kept old new before after same kept = subst (IsLaid old new before) (sym ke
 -- where the version stayed before, it is laid as from the beginning
 pub laid_from : (old begun new : Version) (before after : Option (Option Version)) → begun ≡ old → IsLaid begun new before after → IsLaid old new before after
 laid_from old begun new before after same laid = subst (λ (v : Version). IsLaid v new before after) same laid
+
+-- ---- a whole step
+
+carried : (after : Option (Option Version)) (f g : Option Version → Option Version) → ((o : Option Version) → f o ≡ g o) → (before : Option (Option Version)) → IfSome before (λ o. after ≡ Some (f o)) → IfSome before (λ o. after ≡ Some (g o))
+carried after f g same None h = tt
+carried after f g same (Some b) h = h ∙ ap Some (same b)
+
+-- so many entries leave the version before, or this one
+none_left : (es : List Entry) (version : Version) → length es ≡ 0 → (o : Option Version) → o ≡ staged_after es version o
+none_left [] version n o = refl
+none_left (e ∷ es) version n o = absurd (omega (arith, n))
+
+one_left : (es : List Entry) (version : Version) → length es ≡ 1 → (o : Option Version) → Some version ≡ staged_after es version o
+one_left [] version n o = absurd (omega (arith, n))
+one_left (e ∷ es) version n o = refl
+
+-- a version stood for a history, and then one for that with the entries of these notes: it is staged where there is one
+leaves_staged : (history : List Entry) (notes : List Note) (old new : Version) (before after : Option (Option Version)) → VersionStandsFor 0 history old → VersionStandsFor 0 (history ++ filter_map entry_noted notes) new
+    → IsLaid old new before after → LeavesStaged notes new before after
+leaves_staged history notes old new before after stood stands laid = by laid.entered refl
+  where
+    by : (entered : Bool) → laid.entered ≡ entered → LeavesStaged notes new before after
+    by false is =
+        let was = stood.entries in
+        let are = stands.entries in
+        let same = ap (λ (v : Version). v.entries) (laid.kept is) in
+        let longer = length-append history (filter_map entry_noted notes) in
+        carried after (λ o. o) (λ o. staged_after (filter_map entry_noted notes) new o) (none_left (filter_map entry_noted notes) new (omega (arith, was, are, same, longer))) before
+        (subst (λ (b : Bool). IfSome before (λ staged. after ≡ Some (if b then Some new else staged))) is laid.staged)
+    by true is =
+        let more = laid.made is history stood in
+        let was = more.stands.entries in
+        let are = stands.entries in
+        let longer = length-append history (filter_map entry_noted notes) in
+        let once = length-append history (more.entry ∷ []) in
+        carried after (λ o. Some new) (λ o. staged_after (filter_map entry_noted notes) new o) (one_left (filter_map entry_noted notes) new (omega (arith, was, are, longer, once))) before
+        (subst (λ (b : Bool). IfSome before (λ staged. after ≡ Some (if b then Some new else staged))) is laid.staged)
+
+-- a step that was made leaves its version staged where it made an entry
+pub made_staged : (rows : List Row) (r : Row) (d e : Seen) (before after : Option (Option Version)) → StandsFor rows d → StandsFor (r ∷ rows) e → IsLaid d.version e.version before after
+    → LeavesStaged r.notes e.version before after
+unfolding entries
+made_staged rows r d e before after stood stands laid = leaves_staged (entries rows) r.notes d.version e.version before after stood.directory.history stands.directory.history laid

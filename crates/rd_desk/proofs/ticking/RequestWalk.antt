@@ -181,11 +181,13 @@ goes rows s starved first d after out sent mids i next most less e one h it what
 same_after : (rows : List Row) (s : Step) (starved : Bool) (done e : Effects) (n : Note) (qs : List Peer) → e.notes ≡ n ∷ [] → AllByRecursion (λ q. IsAside q n) qs → AllByRecursion (IsAsBefore rows s starved done) qs
     → AllByRecursion (IsAsBefore rows s starved (joined done e)) qs
 same_after rows s starved done e n [] is aside same = tt
-same_after rows s starved done e n (q ∷ qs) is aside same =
-    (record {
-      request = ap (λ (es : List Event). last_request q es) later ∙ (last_request-other q x past aside.0 ∙ same.0.request);
-      due = λ event. ap (λ (es : List Event). fetch_due (row_moment rows s) q event es) later ∙ (fetch_due-other (row_moment rows s) q event x past aside.0 ∙ same.0.due event);
-    }, same_after rows s starved done e n qs is aside.1 same.1)
+same_after rows s starved done e n (q ∷ qs) is aside same = (
+  record {
+    request = ap (λ (es : List Event). last_request q es) later ∙ (last_request-other q x past aside.0 ∙ same.0.request);
+    due = λ event. ap (λ (es : List Event). fetch_due (row_moment rows s) q event es) later ∙ (fetch_due-other (row_moment rows s) q event x past aside.0 ∙ same.0.due event);
+  },
+  same_after rows s starved done e n qs is aside.1 same.1,
+)
   where
     past : List Event
     past = events (making rows s starved done)

@@ -1,4 +1,4 @@
-use Rattle.std.proofs.Common.{false, Result, Ok, Err, sym, ap, ◌∙◌}
+use Rattle.std.proofs.Common.{false, Result, Ok, Err, sym, ap, subst, ◌∙◌}
 use Rattle.message_model.specs.declared.messages.Unread.{Unread}
 use Rattle.message_model.specs.Message.{Message}
 use Rattle.message_model.specs.Reading.{reading}

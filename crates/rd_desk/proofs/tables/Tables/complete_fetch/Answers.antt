@@ -23,11 +23,11 @@ register_fetched-requires g c =
 pub returns-clause-way : goal.returns-clause-way
 returns-clause-way g c =
     λ rows s request mids of same way.
-      way_completed rows s false (message_in c.args.view.now) request c.args.params c.args.body.now c.args.peer c.deref.result.now c.in-Ok.planned _ c.args.self.now c.register_fetched.new.self _ c.end.new.self
-      c.args.out.now c.acknowledge_response.new.out mids c.self.view_is of same c.deref.ensures
-      (λ history step further stands from. of_laid (λ o. IsPlanned history _ further _ o) c.registered-planned.result c.in-Ok.planned c.in-Ok.ensures.same (c.registered-planned.ensures.planned history step further stands from))
-      (λ done meant none timed planned h. c.register_fetched.ensures.way rows s false done meant c.acknowledge_response.new.out mids none timed planned h)
-      c.self-2.view_is c.end.ensures (c.acknowledge_response.ensures.sends s mids of) way
+    way_completed rows s false (message_in c.args.view.now) request c.args.params c.args.body.now c.args.peer c.deref.result.now c.in-Ok.planned _ c.args.self.now c.register_fetched.new.self _ c.end.new.self
+    c.args.out.now c.acknowledge_response.new.out mids c.self.view_is of same c.deref.ensures
+    (λ history step further stands from. of_laid (λ o. IsPlanned history _ further _ o) c.registered-planned.result c.in-Ok.planned c.in-Ok.ensures.same (c.registered-planned.ensures.planned history step further stands from))
+    (λ done meant none timed planned h. c.register_fetched.ensures.way rows s false done meant c.acknowledge_response.new.out mids none timed planned h)
+    c.self-2.view_is c.end.ensures (c.acknowledge_response.ensures.sends s mids of) way
 
 pub returns-clause-laid : goal.returns-clause-laid
 returns-clause-laid g c =
