@@ -3,5 +3,10 @@ pub mod FittingLaws
 pub mod AgainLaws
 pub mod AgainWalk
 pub mod RequestWalk
+pub mod NoticeWalk
+pub mod WholeTick
+pub mod PlanLaws
+pub mod SkipLaws
+pub mod PlanSteps
 pub mod CarryLaws
 pub mod EndLaws

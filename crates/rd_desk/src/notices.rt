@@ -1,13 +1,19 @@
 //! New notices: what is planned for observers that are due is done, one after the other (RFC 7641 sections 1.3, 4.2 and 4.5).
-ghost use Rattle.std.specs.Prelude.{◌≡◌, ◌<◌, ◌≤◌, ◌+◌, ◌++◌, ◌∷◌, [], ℕ, Bool, false, List, Some, length, slice_get};
+ghost use Rattle.std.specs.Prelude.{◌≡◌, ◌<◌, ◌≤◌, ◌+◌, ◌++◌, ◌∷◌, [], ℕ, Bool, false, List, Some, IfOk, length, slice_get};
+ghost use Rattle.std.specs.Arc.{arc_value};
+ghost use Rattle.history_model.specs.Listing.{listing};
+ghost use Rattle.event_model.specs.declared.notes.Observer.{Observer as Observed};
 ghost use Rattle.event_model.specs.KeptAnswers.{KeptAnswer};
+ghost use Rattle.event_model.specs.Observers.{observers};
 ghost use Rattle.journal_model.specs.declared.steps.Step.{Step};
 ghost use Rattle.journal_model.specs.declared.rows.Row.{Row};
 ghost use Rattle.journal_model.specs.Effects.{Effects};
-ghost use Rattle.journal_model.specs.Journal.{events, transitions};
+ghost use Rattle.journal_model.specs.Journal as journal;
+ghost use Rattle.journal_model.specs.Journal.{events, entries, transitions};
 ghost use Rattle.observers.specs.Watchers.{Watcher, is_awaited};
 ghost use Rattle.rd_desk.specs.declared.planning.Planned.{Planned as Meant};
 ghost use Rattle.rd_desk.specs.declared.planning.Planned.TheVariants as meant;
+ghost use Rattle.rd_desk.specs.Desks.{StandsFor};
 ghost use Rattle.rd_desk.specs.Noticing.{next_noticed};
 ghost use Rattle.coap_message.specs.PartialMessages.{longest_datagram};
 ghost use Rattle.rd_desk.specs.Outboxes.{most_datagrams};
@@ -15,12 +21,13 @@ ghost use Rattle.rd_desk.specs.Planning.{CarryingOut, with_answers};
 ghost use Rattle.rd_desk.specs.UnderWay.{UnderWay};
 ghost use Rattle.rd_desk.specs.Watching.{WatchingStandsFor};
 
-use crate::planning::Planned;
+use crate::planning::{Planned, formed_body};
 use crate::tables::Tables;
 use crate::watching::Watching;
 use crate::{Mids, Outbox};
 use exchange_core::Sent;
-use rd_base::Bytes;
+use rd_base::{Bytes, Starved};
+use std::alloc::Global;
 use std::sync::Arc;
 
 /// A notice is sent to the observer with an index.
@@ -46,6 +53,20 @@ fn index_after(watching: &Watching, index: usize) -> usize
 }
 
 impl Tables {
+    /// The body of the query of the observer with an index. It is kept, so that it is formed once for all who observe it. `Starved`: out of memory.
+    fn body_for(&mut self, alloc: Global, index: usize) -> Result<Arc<Bytes>, Starved>
+        requires { index < length self.old.watching.observers }
+        ensures body { (rows : List Row) (o : Observed) → StandsFor rows self.old → slice_get (observers (events rows)) index ≡ Some o → IfOk result (λ body. arc_value body ≡ listing o.query (entries rows) (journal.now rows)) }
+        ensures stands { (rows : List Row) → StandsFor rows self.old → StandsFor rows self.new }
+        ensures observers { self.new.watching.observers ≡ self.old.watching.observers }
+        ensures others { self.new ≡ record self.old { watching = self.new.watching } }
+    {
+        let body = formed_body(&self.watching, alloc, &*self.version, self.moment, index)?;
+        let kept = Arc::try_clone(&body)?;
+        self.watching.keep_body(index, kept);
+        Ok(body)
+    }
+
     /// The observer with an index gets the notice with a body that is planned for it. Takes no memory.
     fn send_new(
         &mut self,
