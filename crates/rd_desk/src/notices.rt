@@ -1,7 +1,8 @@
-//! New notices: what is planned for observers that are due is done, one after the other (RFC 7641 sections 1.3, 4.2 and 4.5).
-ghost use Rattle.std.specs.Prelude.{◌≡◌, ◌<◌, ◌≤◌, ◌+◌, ◌++◌, ◌∷◌, [], ℕ, Bool, false, List, Some, IfOk, length, slice_get};
+//! New notices: observers that are due get one, one after the other (RFC 7641 sections 1.3, 4.2 and 4.5).
+ghost use Rattle.std.specs.Prelude.{◌≡◌, ◌<◌, ◌≤◌, ◌+◌, ◌++◌, ◌∷◌, [], ℕ, Bool, false, List, Some, None, IfOk, OnOk, length, slice_get};
 ghost use Rattle.std.specs.Arc.{arc_value};
-ghost use Rattle.history_model.specs.Listing.{listing};
+ghost use Rattle.rd_base.specs.declared.peers.Peer.{Peer as Endpoint};
+ghost use Rattle.history_model.specs.Listing.{listing, tag as tag_of};
 ghost use Rattle.event_model.specs.declared.notes.Observer.{Observer as Observed};
 ghost use Rattle.event_model.specs.KeptAnswers.{KeptAnswer};
 ghost use Rattle.event_model.specs.Observers.{observers};
@@ -10,25 +11,30 @@ ghost use Rattle.journal_model.specs.declared.rows.Row.{Row};
 ghost use Rattle.journal_model.specs.Effects.{Effects};
 ghost use Rattle.journal_model.specs.Journal as journal;
 ghost use Rattle.journal_model.specs.Journal.{events, entries, transitions};
-ghost use Rattle.observers.specs.Watchers.{Watcher, is_awaited};
+ghost use Rattle.journal_model.specs.Rows.{row_moment};
+ghost use Rattle.journal_model.specs.Ticks as ticks_of;
+ghost use Rattle.observers.specs.Watchers.{Watcher, is_awaited, next_ready};
+ghost use Rattle.rd_desk.specs.declared.mids.Mids.{Mids as Drawn};
 ghost use Rattle.rd_desk.specs.declared.planning.Planned.{Planned as Meant};
 ghost use Rattle.rd_desk.specs.declared.planning.Planned.TheVariants as meant;
 ghost use Rattle.rd_desk.specs.Desks.{StandsFor};
 ghost use Rattle.rd_desk.specs.Noticing.{next_noticed};
 ghost use Rattle.coap_message.specs.PartialMessages.{longest_datagram};
 ghost use Rattle.rd_desk.specs.Outboxes.{most_datagrams};
-ghost use Rattle.rd_desk.specs.Planning.{CarryingOut, with_answers};
+ghost use Rattle.rd_desk.specs.Planning.{PlannedUpTo, AreDone, CarryingOut, with_answers, notices_done};
+ghost use Rattle.rd_desk.specs.Stepping.{is_starved_step};
 ghost use Rattle.rd_desk.specs.UnderWay.{UnderWay};
 ghost use Rattle.rd_desk.specs.Watching.{WatchingStandsFor};
 
-use crate::planning::{Planned, formed_body};
+use crate::planning::{MAX_NOTICES, Occasion, Plan, Planned, formed_body, is_unchanged, observe_after};
 use crate::tables::Tables;
 use crate::watching::Watching;
-use crate::{Mids, Outbox};
+use crate::{Mids, Outbox, Stepped};
 use exchange_core::Sent;
-use rd_base::{Bytes, Starved};
+use rd_base::{Bytes, Starved, Tag};
 use std::alloc::Global;
 use std::sync::Arc;
+use transfers::Answers;
 
 /// A notice is sent to the observer with an index.
 fn send_to(watching: &Watching, index: usize, sent: &Sent, out: &mut Outbox)
@@ -65,6 +71,82 @@ impl Tables {
         let kept = Arc::try_clone(&body)?;
         self.watching.keep_body(index, kept);
         Ok(body)
+    }
+
+    /// What is done for the observer with an index, which is due and to whose peer no notice is in flight, is planned: nothing where a notice to its peer is planned.
+    /// `Starved`: out of memory.
+    fn plan_one(
+        &mut self,
+        alloc: Global,
+        word: u32,
+        tag: Tag,
+        mids: &Mids,
+        index: usize,
+        plan: &mut Plan,
+    ) -> Result<(), Starved>
+        requires { index < length self.old.watching.observers }
+        ensures planned { (rows : List Row) (s : Step) (starved : Bool) (whole first : Effects) (out : List (Endpoint × List ℕ)) (from : ℕ) → s.word ≡ word → UnderWay rows s starved first self.old out mids.now → tag.0 ≡ tag_of (entries rows) (row_moment rows s)
+            → next_ready from self.old.watching.observers ≡ Some index → length plan.old.peers.items < 64
+            → PlannedUpTo rows s starved tag.0 whole first self.old.watching.observers self.old.observed plan.old from
+            → OnOk result (PlannedUpTo rows s starved tag.0 whole first self.old.watching.observers self.old.observed plan.new (index + 1)) }
+        ensures stands { (rows : List Row) → StandsFor rows self.old → StandsFor rows self.new }
+        ensures observers { self.new.watching.observers ≡ self.old.watching.observers }
+        ensures others { self.new ≡ record self.old { watching = self.new.watching } }
+    {
+        let Some(observer) = self.watching.at(index) else {
+            unreachable!()
+        };
+        if plan.waits_for(&observer.peer) {
+            return Ok(());
+        }
+        let body = self.body_for(alloc, index)?;
+        let Some(observer) = self.watching.at(index) else {
+            unreachable!()
+        };
+        if is_unchanged(observer, body.as_slice()) {
+            return plan.add_unchanged();
+        }
+        let planned = plan.peers.len() as u64;
+        let occasion = Occasion {
+            now: self.moment,
+            word,
+            tag,
+        };
+        plan.add_notice(
+            alloc,
+            observer,
+            occasion,
+            mids.after(planned),
+            observe_after(self.observed, planned),
+            body,
+        )
+    }
+
+    /// What is done for each observer that is looked at is planned. Nothing changes but bodies that are kept. `Starved`: out of memory.
+    fn plan_all(
+        &mut self,
+        alloc: Global,
+        word: u32,
+        tag: Tag,
+        mids: &Mids,
+        plan: &mut Plan,
+    ) -> Result<(), Starved>
+        ensures planned { (rows : List Row) (s : Step) (starved : Bool) (whole first : Effects) (out : List (Endpoint × List ℕ)) → s.word ≡ word → UnderWay rows s starved first self.old out mids.now → tag.0 ≡ tag_of (entries rows) (row_moment rows s)
+            → PlannedUpTo rows s starved tag.0 whole first self.old.watching.observers self.old.observed plan.old 0
+            → OnOk result (AreDone rows s starved tag.0 whole first 0 plan.new.items.items plan.new.kept.items) }
+        ensures stands { (rows : List Row) → StandsFor rows self.old → StandsFor rows self.new }
+        ensures others { self.new ≡ record self.old { watching = self.new.watching } }
+    {
+        let mut from = 0;
+        'due: while plan.peers.len() < MAX_NOTICES {
+            let Some(index) = self.watching.next_due(from) else {
+                return Ok(());
+            };
+            let next = index_after(&self.watching, index);
+            self.plan_one(alloc, word, tag, mids, index, plan)?;
+            from = next;
+        }
+        Ok(())
     }
 
     /// The observer with an index gets the notice with a body that is planned for it. Takes no memory.
@@ -122,5 +204,33 @@ impl Tables {
             self.carry_out_one(index, item, mids, out);
             from = next;
         }
+    }
+
+    /// The second part of a tick: observers that are due get a notice, one after the other, at most 64 in all. What takes memory comes before anything changes.
+    pub(crate) fn notices(
+        &mut self,
+        alloc: Global,
+        word: u32,
+        mids: &mut Mids,
+        out: &mut Outbox,
+    ) -> Stepped
+        ensures way { (rows : List Row) (s : Step) → s.word ≡ word → UnderWay rows s (is_starved_step result) (ticks_of.notices_again rows (row_moment rows s)) self.old out.old mids.old
+            → UnderWay rows s (is_starved_step result) (notices_done (is_starved_step result) rows s) self.new out.new mids.new }
+    {
+        let tag = self.version.tag(self.moment);
+        let mut plan = Plan::empty(alloc);
+        if self.plan_all(alloc, word, tag, mids, &mut plan).is_err() {
+            return Stepped::Starved;
+        }
+        let Plan { items, peers, kept } = plan;
+        if peers.is_empty() && items.is_empty() {
+            return Stepped::Done;
+        }
+        let Ok(ready) = self.transfers.ready(alloc, self.moment, Answers::of(kept)) else {
+            return Stepped::Starved;
+        };
+        self.carry_out(items, mids, out);
+        self.transfers.adopt(ready);
+        Stepped::Done
     }
 }
