@@ -12,6 +12,7 @@ mod heard_empties;
 mod heard_responses;
 mod heard_writes;
 mod hearing;
+mod jobs;
 mod joining;
 mod keep_jobs;
 mod keeps;
@@ -49,6 +50,7 @@ mod write_jobs;
 
 pub use admissions::Admitted;
 pub use desk::Desk;
+pub use jobs::Job;
 pub use keep_jobs::KeepJob;
 pub use looks::{Looked, look};
 pub use mids::Mids;
@@ -58,6 +60,10 @@ pub use steps::Stepped;
 pub use watchers::Watcher;
 pub use write_jobs::WriteJob;
 
+#[cfg(test)]
+mod desk_tests;
+#[cfg(test)]
+mod stories;
 #[cfg(test)]
 mod tests;
 #[cfg(test)]

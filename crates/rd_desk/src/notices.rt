@@ -26,7 +26,9 @@ ghost use Rattle.rd_desk.specs.Stepping.{is_starved_step};
 ghost use Rattle.rd_desk.specs.UnderWay.{UnderWay};
 ghost use Rattle.rd_desk.specs.Watching.{WatchingStandsFor};
 
-use crate::planning::{MAX_NOTICES, Occasion, Plan, Planned, formed_body, is_unchanged, observe_after};
+use crate::planning::{
+    MAX_NOTICES, Occasion, Plan, Planned, formed_body, is_unchanged, observe_after,
+};
 use crate::tables::Tables;
 use crate::watching::Watching;
 use crate::{Mids, Outbox, Stepped};

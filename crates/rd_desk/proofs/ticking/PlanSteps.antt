@@ -72,16 +72,20 @@ planned_plan rows s starved current whole first ws given p after from index x o 
     subst (λ (xs : List Planned). AreDone rows s starved current whole first 0 (xs ++ more) (after.kept.items ++ later)) (sym it.items)
     (subst (λ (ks : List NamedAnswer). AreDone rows s starved current whole first 0 ((p.items.items ++ item ∷ []) ++ more) (ks ++ later)) (sym it.kept)
     (more_items rows s starved current whole first p.items.items item more p.kept.items (planned_kept current o item) later
-    (h.plan (item ∷ more) (planned_kept current o item ++ later)
-    (record {
-      index = index;
-      observer = o;
-      next = planned_next rows s starved current whole first ws given p from index x is got h
-          ∙ ap (λ (b : Bool). cond b (next_noticed (index + 1) (events (making rows s starved h.done)) (transitions (making rows s starved h.done))) (Some index)) free;
-      got = it.got;
-      may = it.may;
-      room = let size = h.size in omega (arith, size, few);
-    }, later, refl, done))))
+    (h.plan (item ∷ more) (planned_kept current o item ++ later) (
+      record {
+        index = index;
+        observer = o;
+        next = planned_next rows s starved current whole first ws given p from index x is got h
+            ∙ ap (λ (b : Bool). cond b (next_noticed (index + 1) (events (making rows s starved h.done)) (transitions (making rows s starved h.done))) (Some index)) free;
+        got = it.got;
+        may = it.may;
+        room = let size = h.size in omega (arith, size, few);
+      },
+      later,
+      refl,
+      done,
+    ))))
 
 -- what is left to be looked at is what comes after it
 pub planned_left : (rows : List Row) (s : Step) (starved : Bool) (current : List ℕ) (whole first : Effects) (ws : List Watcher) (given : ℕ) (p after : Plan) (from index : ℕ) (x : Watcher) (o : Observer) (item : Planned) (now : Watching) → is_look s.kind ≡ false
