@@ -8,3 +8,4 @@ pub mod WatcherParts
 pub mod WatchingNotes
 pub mod JoiningLaws
 pub mod TickLaws
+pub mod ShownLaws

@@ -1,16 +1,26 @@
 -- What a request asks, and the refusals that it alone decides, as the code says them.
-use Rattle.std.specs.Prelude.{◌≡◌, ℕ, Bool, true, false, not, ◌&&◌, codes, Some, None}
+use Rattle.std.specs.Prelude.{◌≡◌, ℕ, Bool, true, false, not, ◌&&◌, ◌||◌, ◌==◌, codes, Option, Some, None}
 use Rattle.message_model.specs.declared.messages.Kind4.{Kind4}
 use Rattle.message_model.specs.declared.messages.Kind4.TheVariants.{Non}
+use Rattle.message_model.specs.declared.requests.Path.{Path}
 use Rattle.message_model.specs.declared.requests.Refusal.TheVariants as refusal
 use Rattle.message_model.specs.Codes as codes_of
 use Rattle.message_model.specs.Message.{Message}
 use Rattle.message_model.specs.Request.{path_in, observe_in}
 use Rattle.message_model.specs.Refusals.{refusal_of, refusal_code, refusal_word}
 use Rattle.journal_model.specs.Effects.{Reply, diagnostic}
-use Rattle.journal_model.specs.Requests.{is_lookup, is_later_block, is_heeded}
+use Rattle.journal_model.specs.Requests.{is_discovery, is_lookup, is_later_block, is_heeded, register}
 use Rattle.rd_desk.specs.declared.requests.Refused.{Refused}
 use Rattle.rd_desk.specs.declared.requests.Refused.TheVariants as refused
+
+-- the path is that of a discovery or of a lookup (RFC 9176 sections 4.1 and 6)
+abbrev pub seeks_links : Path → Bool
+seeks_links p = is_discovery p || is_lookup p
+
+-- the value of Observe begins an observation (RFC 7641 section 2)
+abbrev pub begins_observation : Option ℕ → Bool
+begins_observation None = false
+begins_observation (Some value) = value == register
 
 -- a lookup of a first block that neither begins nor ends an observation
 abbrev pub is_plain_lookup : Message → Bool

@@ -1,13 +1,15 @@
 -- What a row does with a notice for one observer, and which observer comes next (RFC 7641 sections 1.3 and 4.2).
-use Rattle.std.specs.Prelude.{ℕ, ◌+◌, Bool, not, ◌&&◌, List, [], ◌∷◌, drop, Option, Some, None, if◌then◌else◌}
+use Rattle.std.specs.Prelude.{ℕ, ◌+◌, Bool, true, false, not, ◌&&◌, List, [], ◌∷◌, drop, Option, Some, None, if◌then◌else◌}
 use Rattle.event_model.specs.declared.notes.Note.TheVariants as note
 use Rattle.event_model.specs.declared.notes.Observer.{Observer}
 use Rattle.event_model.specs.Events.{Event}
 use Rattle.event_model.specs.Observers.{observers}
 use Rattle.event_model.specs.Flights.{Sent, is_waited_for}
 use Rattle.event_model.specs.Due.{Transition, is_due}
-use Rattle.journal_model.specs.Effects.{Effects}
-use Rattle.observers.specs.Watchers.{Watcher}
+use Rattle.exchange_core.specs.declared.resends.Again.{Again}
+use Rattle.exchange_core.specs.declared.resends.Again.TheVariants as again
+use Rattle.journal_model.specs.Effects.{Effects, nothing, noting}
+use Rattle.observers.specs.Watchers.{Watcher, due_of}
 
 -- a notice with a body is formed: it is sent and noted, and draws a Message ID
 abbrev pub forming : Watcher → List ℕ → Sent → Effects
@@ -16,6 +18,21 @@ forming x body sent = record { sent = (x.peer, sent.octets) ∷ []; notes = note
 -- a notice is sent again
 abbrev pub sending_again : Watcher → Sent → Effects
 sending_again x sent = record { sent = (x.peer, sent.octets) ∷ []; notes = note.Again x.peer sent.mid ∷ []; drew = 0 }
+
+-- what a tick does with the notice in flight to an observer, by what is due of it: nothing, or it is sent again, or the observer is given up (RFC 7641 section 4.5)
+abbrev pub again_as : Again → Watcher → Option Sent → Effects
+again_as again.Send x (Some sent) = sending_again x sent
+again_as again.GaveUp x (Some sent) = noting (note.Unwatched x.peer x.token ∷ [])
+again_as _ x flight = nothing
+
+-- so at a moment
+abbrev pub again_done : ℕ → Watcher → Effects
+again_done now x = again_as (due_of now x.flight) x x.flight
+
+-- the index of the next, after one that stays or is taken out
+abbrev pub index_after : Bool → ℕ → ℕ
+index_after true index = index + 1
+index_after false index = index
 
 -- the first of these observers that passes a test, as they are counted from a number on
 abbrev pub first_observer : (Observer → Bool) → ℕ → List Observer → Option ℕ

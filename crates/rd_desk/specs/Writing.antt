@@ -1,7 +1,9 @@
 -- A message that is being written option by option.
 use Rattle.std.specs.Prelude.{◌≡◌, ℕ, ◌≤◌, ◌<◌, List, [], ◌++◌}
+use Rattle.message_model.specs.declared.messages.Kind4.TheVariants.{Con}
 use Rattle.message_model.specs.Codes.{empty}
 use Rattle.message_model.specs.Message.{Message, Opt, end_number}
+use Rattle.journal_model.specs.Effects.{Reply}
 
 -- a message with these options after its own
 abbrev pub with_options : Message → List Opt → Message
@@ -12,3 +14,7 @@ pub record IsReadyFor (number : ℕ) (m : Message) : Type 0 where
   pub filled : empty < m.code
   pub open_end : m.payload ≡ []
   pub ascends : end_number 0 m.options ≤ number
+
+-- a confirmable message that says a reply, with a token (RFC 7641 section 4.2)
+abbrev pub notice_saying : ℕ → List ℕ → Reply → Message
+notice_saying mid token reply = record { kind = Con; code = reply.code; mid = mid; token = token; options = reply.options; payload = reply.payload }

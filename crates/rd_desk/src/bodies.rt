@@ -4,6 +4,7 @@ ghost use Rattle.std.specs.Option.{ForSome};
 ghost use Rattle.message_model.specs.Blocks.{IsBlock};
 ghost use Rattle.journal_model.specs.Bodies as bodies_of;
 ghost use Rattle.journal_model.specs.Requests as requests_of;
+ghost use Rattle.rd_desk.specs.Lookups.{has_asked_block};
 ghost use Rattle.rd_desk.specs.Replies.{IsReply, reply_said, tag_octets};
 
 use crate::replies::Reply;
@@ -104,4 +105,12 @@ pub(crate) fn is_long(asked: &Option<Block>, body: &[u8]) -> bool
     ensures { result ≡ bodies_of.is_long asked.now body.now }
 {
     body.len() > 1usize << (szx_of(asked) + 4)
+}
+
+/// Whether a body has the block that is asked for, the first where none is (RFC 7959 section 2.2).
+pub(crate) fn has_asked_block(asked: &Option<Block>, body: &[u8]) -> bool
+    requires { ForSome asked.now IsBlock }
+    ensures { result ≡ has_asked_block asked.now body.now }
+{
+    slice_of(body, number_of(asked), szx_of(asked)).is_some()
 }

@@ -16,8 +16,9 @@ impl Tables {
     /// An empty acknowledgement of a peer with a Message ID: it ends the flight of the notice that it is of, or it makes the fetch wait for a response that
     /// comes apart. Takes no memory.
     pub(crate) fn acknowledge(&mut self, peer: Peer, mid: u16)
-        ensures { (rows : List Row) (s : Step) (starved : Bool) (out : List (Peer × List ℕ)) (mids : Mids) → s.peer ≡ peer → UnderWay rows s starved nothing self.old out mids
+        ensures way { (rows : List Row) (s : Step) (starved : Bool) (out : List (Peer × List ℕ)) (mids : Mids) → s.peer ≡ peer → UnderWay rows s starved nothing self.old out mids
             → UnderWay rows s starved (empties.acknowledged s.peer mid (events rows)) self.new out mids }
+        ensures version { self.new.version ≡ self.old.version }
     {
         let _landed = self.watching.acked(&peer, mid);
         let _waits = self.fetches.acked(&peer, mid);
@@ -25,8 +26,9 @@ impl Tables {
 
     /// A Reset of a peer with a Message ID: it removes the observer whose notice it is of, or it ends the fetch. Takes no memory.
     pub(crate) fn reset(&mut self, peer: Peer, mid: u16)
-        ensures { (rows : List Row) (s : Step) (starved : Bool) (out : List (Peer × List ℕ)) (mids : Mids) → s.peer ≡ peer → UnderWay rows s starved nothing self.old out mids
+        ensures way { (rows : List Row) (s : Step) (starved : Bool) (out : List (Peer × List ℕ)) (mids : Mids) → s.peer ≡ peer → UnderWay rows s starved nothing self.old out mids
             → UnderWay rows s starved (empties.reset s.peer mid (events rows)) self.new out mids }
+        ensures version { self.new.version ≡ self.old.version }
     {
         let _removed = self.watching.reset(&peer, mid);
         let _ended = self.fetches.reset(&peer, mid);

@@ -1,5 +1,5 @@
 //! Writes as they are heard (RFC 7252 sections 4.2 and 4.5).
-ghost use Rattle.std.specs.Prelude.{◌≡◌, ◌<◌, ◌≤◌, Bool, [], ◌∷◌, List, length, if◌then◌else◌};
+ghost use Rattle.std.specs.Prelude.{◌≡◌, ◌<◌, ◌≤◌, Bool, true, false, [], ◌∷◌, List, length, if◌then◌else◌};
 ghost use Rattle.message_model.specs.Message.{longest_token};
 ghost use Rattle.coap_message.specs.Views.{message_in};
 ghost use Rattle.event_model.specs.declared.notes.Note.TheVariants as note;
@@ -9,9 +9,10 @@ ghost use Rattle.journal_model.specs.Effects.{nothing};
 ghost use Rattle.journal_model.specs.Journal.{events};
 ghost use Rattle.journal_model.specs.Rows.{row_moment};
 ghost use Rattle.journal_model.specs.Writes.{write_effects};
-ghost use Rattle.rd_desk.specs.Admitting.{is_starved_admission, write_heard, IsHeldFor};
+ghost use Rattle.rd_desk.specs.Admitting.{is_starved_admission, write_heard, write_takes, IsHeldFor};
 ghost use Rattle.rd_desk.specs.Outboxes.{most_datagrams};
 ghost use Rattle.rd_desk.specs.UnderWay.{UnderWay};
+ghost use Rattle.rd_desk.specs.WriteJobs.{is_write_datagram};
 
 use crate::server_errors::{answer_full, answer_starved};
 use crate::tables::Tables;
@@ -36,7 +37,8 @@ impl Tables {
             → UnderWay rows s starved (write_effects (events rows) (row_moment rows s) s (message_in view.now)) self.new out.new mids.new }
         ensures admitted { (rows : List Row) (s : Step) (starved : Bool) → s.peer ≡ peer → UnderWay rows s starved nothing self.old out.old mids.old
             → (write_effects (events rows) (row_moment rows s) s (message_in view.now)).notes ≡ (if result then note.Admitted s.peer view.now.mid ∷ [] else []) }
-        ensures moment { self.new.moment ≡ self.old.moment }
+        ensures alone { self.new ≡ record self.old { exchanges = self.new.exchanges } }
+        ensures unsent { result ≡ true → (out.new ≡ out.old) × (mids.new ≡ mids.old) }
     {
         match self.exchanges.admit_key(self.moment, peer, view.mid) {
             Keyed::Fresh => return true,
@@ -52,7 +54,8 @@ impl Tables {
         }
     }
 
-    /// A write that nothing refuses. The datagram is copied into the job before anything changes: it takes memory.
+    /// A write that nothing refuses. One that is admitted leaves a job with a copy of its datagram; where there is no memory for that, it is forgotten again.
+    /// What is not admitted takes no memory.
     pub(crate) fn hear_write(
         &mut self,
         alloc: Global,
@@ -63,23 +66,28 @@ impl Tables {
         out: &mut Outbox,
     ) -> Admitted
         requires token { length view.now.token.now ≤ longest_token }
+        requires write { is_write_datagram datagram.now ≡ true }
         requires room { length out.old < most_datagrams }
         ensures way { (rows : List Row) (s : Step) → s.peer ≡ peer → UnderWay rows s (is_starved_admission result) nothing self.old out.old mids.old
             → UnderWay rows s (is_starved_admission result) (write_heard (is_starved_admission result) rows s (message_in view.now)) self.new out.new mids.new }
         ensures held { (rows : List Row) (s : Step) → s.peer ≡ peer → s.datagram ≡ datagram.now → UnderWay rows s (is_starved_admission result) nothing self.old out.old mids.old
             → IsHeldFor result (write_heard (is_starved_admission result) rows s (message_in view.now)).notes s (row_moment rows s) }
+        ensures unstarved { (rows : List Row) (s : Step) → s.peer ≡ peer → UnderWay rows s false nothing self.old out.old mids.old
+            → write_takes rows (row_moment rows s) s (message_in view.now) ≡ false → is_starved_admission result ≡ false }
+        ensures version { self.new.version ≡ self.old.version }
     {
+        if !self.admit_write(mids, peer, view, out) {
+            return Admitted::Done;
+        }
         let Ok(copied) = Bytes::copy_of(alloc, datagram) else {
+            self.exchanges.forget(peer, view.mid, self.moment);
             answer_starved(mids, peer, view, out);
             return Admitted::Starved;
         };
-        if self.admit_write(mids, peer, view, out) {
-            return Admitted::Held(WriteJob {
-                peer,
-                datagram: copied,
-                admitted: self.moment,
-            });
-        }
-        Admitted::Done
+        Admitted::Held(WriteJob {
+            peer,
+            datagram: copied,
+            admitted: self.moment,
+        })
     }
 }

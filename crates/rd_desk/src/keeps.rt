@@ -32,7 +32,7 @@ use transfers::{Answer, Answers, Ready, Transfers};
 
 /// The kept answers with a listing kept after them, under who asked and the key of the request. The listing is shared. `Starved`: out of
 /// memory.
-fn with_listing(
+pub(crate) fn with_listing(
     transfers: &Transfers,
     alloc: Global,
     now: Moment,

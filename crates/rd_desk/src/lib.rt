@@ -3,36 +3,67 @@
 
 mod admissions;
 mod bodies;
+mod commits;
+mod desk;
 mod empty_messages;
+mod entries;
+mod fetching;
 mod heard_empties;
+mod heard_responses;
 mod heard_writes;
+mod hearing;
+mod jobs;
 mod joining;
 mod keep_jobs;
 mod keeps;
+mod listings;
+mod locations;
 mod looks;
+mod lookups;
 mod marks;
 mod mids;
+mod notices;
+mod notices_again;
 mod outbox;
+mod outcomes;
+mod parameters;
+mod planning;
 mod refusals;
 mod refused_requests;
+mod refused_writes;
+mod registrations;
 mod replies;
 mod requests;
+mod requests_again;
 mod server_errors;
+mod settling;
+mod simple_registrations;
+mod staging;
 mod steps;
 mod tables;
+mod ticks;
 mod unread_datagrams;
+mod uploads;
+mod watchers;
 mod watching;
 mod write_jobs;
 
 pub use admissions::Admitted;
+pub use desk::Desk;
+pub use jobs::Job;
 pub use keep_jobs::KeepJob;
 pub use looks::{Looked, look};
 pub use mids::Mids;
 pub use outbox::Outbox;
 pub use requests::is_look;
 pub use steps::Stepped;
+pub use watchers::Watcher;
 pub use write_jobs::WriteJob;
 
+#[cfg(test)]
+mod desk_tests;
+#[cfg(test)]
+mod stories;
 #[cfg(test)]
 mod tests;
 #[cfg(test)]

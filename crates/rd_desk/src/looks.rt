@@ -2,6 +2,7 @@
 ghost use Rattle.std.specs.Prelude.{◌≡◌, ◌≤◌, ◌<◌, true, false, List, length, Ok, Some, IfOk};
 ghost use Rattle.message_model.specs.Message.{longest_token};
 ghost use Rattle.message_model.specs.Reading.{reading};
+ghost use Rattle.message_model.specs.Request.{path_in};
 ghost use Rattle.coap_message.specs.Views.{message_in};
 ghost use Rattle.coap_options.specs.Meanings.{IsMeaning, HasShortBlocks};
 ghost use Rattle.history_model.specs.declared.entries.Entry.{Entry};
@@ -11,6 +12,7 @@ ghost use Rattle.journal_model.specs.declared.steps.Step.{Step};
 ghost use Rattle.journal_model.specs.Looks as looks_of;
 ghost use Rattle.journal_model.specs.Machine.{is_look_datagram};
 ghost use Rattle.journal_model.specs.Requests as requests_of;
+ghost use Rattle.rd_desk.specs.Asking.{seeks_links};
 ghost use Rattle.rd_desk.specs.Looking.{look_found, is_starved_look, look_done, look_left, IsHeld};
 ghost use Rattle.rd_desk.specs.Outboxes.{most_datagrams};
 ghost use Rattle.rd_desk.specs.Replies.{IsReply, reply_said};
@@ -74,10 +76,10 @@ fn kind_of(path: &Path) -> Kind
 }
 
 /// What a lookup or a discovery asks for, whose query options are not refused. `Starved`: out of memory.
-fn query_of(alloc: Global, meaning: &Meaning<'_>) -> Result<Query, Starved>
+pub(crate) fn query_of(alloc: Global, meaning: &Meaning<'_>) -> Result<Query, Starved>
     requires meaning { IsMeaning (message_in meaning.now.view) meaning.now }
     requires good { requests_of.has_bad_query (message_in meaning.now.view) ≡ false }
-    requires looks { requests_of.only_looks (message_in meaning.now.view) ≡ true }
+    requires seeks { seeks_links (path_in (message_in meaning.now.view)) ≡ true }
     ensures { IfOk result (λ query. query ≡ requests_of.query_of (message_in meaning.now.view)) }
 {
     match lookup_query(alloc, kind_of(&meaning.path), queries(meaning)) {
@@ -100,7 +102,7 @@ fn names_tag(meaning: &Meaning<'_>, tag: Tag) -> bool
 }
 
 /// The listing of a query at a moment. `Starved`: out of memory.
-fn listing_at<L: Ledger>(
+pub(crate) fn listing_at<L: Ledger>(
     blank: Blank,
     version: &Directory,
     now: Moment,

@@ -1,5 +1,5 @@
 //! The Message IDs that a worker draws (RFC 7252 section 4.4).
-ghost use Rattle.std.specs.Prelude.{◌≡◌, ◌<◌};
+ghost use Rattle.std.specs.Prelude.{◌≡◌, ◌<◌, ◌+◌};
 ghost use Rattle.journal_model.specs.DeskJournal.{max_workers};
 ghost use Rattle.journal_model.specs.Effects.{mid_of};
 ghost use Rattle.journal_model.specs.UnfinishedRow.{drawing};
@@ -27,14 +27,28 @@ impl Mids {
         Mids { worker, drawn: 0 }
     }
 
+    /// The one that is drawn next.
+    pub(crate) fn upcoming(&self) -> u16
+        ensures { result ≡ mid_of self.now.worker self.now.drawn }
+    {
+        u16::from(self.worker) * WORKER_MIDS + (self.drawn % u64::from(WORKER_MIDS)) as u16
+    }
+
+    /// The one that is drawn after so many more.
+    pub(crate) fn after(&self, more: u64) -> u16
+        ensures { result ≡ mid_of self.now.worker (self.now.drawn + more) }
+    {
+        u16::from(self.worker) * WORKER_MIDS
+            + (self.drawn.wrapping_add(more) % u64::from(WORKER_MIDS)) as u16
+    }
+
     /// Draws the next.
     pub fn next(&mut self) -> u16
         ensures mid { result ≡ mid_of self.old.worker self.old.drawn }
         ensures worker { self.new.worker ≡ self.old.worker }
         ensures drawn { self.new.drawn ≡ drawing 1 self.old.drawn }
     {
-        let mid = u16::from(self.worker) * WORKER_MIDS
-            + (self.drawn % u64::from(WORKER_MIDS)) as u16;
+        let mid = self.upcoming();
         self.drawn = self.drawn.wrapping_add(1);
         mid
     }

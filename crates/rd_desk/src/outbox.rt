@@ -10,6 +10,9 @@ use std::marker::Model;
 /// How many datagrams one step sends at most.
 const MOST: usize = 1_152;
 
+/// How many octets a datagram has at most (RFC 7252 section 4.6).
+const LONGEST: usize = 1_280;
+
 /// How many octets they have at most together: 1,280 each.
 const OCTETS: usize = 1_474_560;
 
@@ -68,6 +71,15 @@ impl Outbox {
         }
         let end = self.octets.len();
         self.spans.push_reserved(Span { peer, start, end });
+    }
+
+    /// One more datagram after the others, where there is room for it and it is no longer than a datagram may be. Takes no memory.
+    pub(crate) fn push_fitting(&mut self, peer: Peer, datagram: &[u8])
+        ensures { length self.old < most_datagrams → length datagram.now ≤ longest_datagram → self.new ≡ self.old ++ (peer, datagram.now) ∷ [] }
+    {
+        if self.len() < MOST && datagram.len() <= LONGEST {
+            self.push(peer, datagram);
+        }
     }
 
     /// How many datagrams there are.

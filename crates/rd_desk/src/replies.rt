@@ -1,12 +1,12 @@
 //! Answers to requests: what they say, and their octets (RFC 7252 sections 5.2 and 5.10).
-ghost use Rattle.std.specs.Prelude.{◌≡◌, ◌+◌, ◌^◌, ◌<◌, ◌≤◌, [], List, length};
+ghost use Rattle.std.specs.Prelude.{◌≡◌, ◌+◌, ◌^◌, ◌<◌, ◌≤◌, [], List, length, IfOk};
 ghost use Rattle.std.specs.Option.{ForSome};
 ghost use Rattle.message_model.specs.Message.{Message, longest_token, end_number};
 ghost use Rattle.message_model.specs.Codes as codes_of;
 ghost use Rattle.message_model.specs.Blocks.{IsBlock};
 ghost use Rattle.message_model.specs.OptionTable as table;
 ghost use Rattle.message_model.specs.Spelling.{spelling};
-ghost use Rattle.coap_message.specs.PartialMessages.{with_last_option, with_payload};
+ghost use Rattle.coap_message.specs.PartialMessages.{longest_datagram, with_last_option, with_payload};
 ghost use Rattle.coap_message.specs.Views.{message_in};
 ghost use Rattle.event_model.specs.declared.notes.Note.{Note};
 ghost use Rattle.journal_model.specs.declared.steps.Step.{Step};
@@ -15,7 +15,7 @@ ghost use Rattle.journal_model.specs.Effects.{answering, drawn_for};
 ghost use Rattle.journal_model.specs.UnfinishedRow.{drawing};
 ghost use Rattle.rd_desk.specs.Outboxes.{most_datagrams};
 ghost use Rattle.rd_desk.specs.Replies.{IsReply, reply_said, options_of, tag_octets, location_option, format_option, block1_options};
-ghost use Rattle.rd_desk.specs.Writing.{IsReadyFor, with_options};
+ghost use Rattle.rd_desk.specs.Writing.{IsReadyFor, with_options, notice_saying};
 ghost use Rattle.journal_model.specs.Bodies.{tag_option, observe_option, block2_option};
 ghost use Rattle.journal_model.specs.Changes.{location_options};
 ghost use Rattle.message_model.specs.Numbers.{uint_bytes};
@@ -27,7 +27,8 @@ use block_wise::{block_write, uint_write};
 use coap_message::{Kind4, View, Writer};
 use itoa::Buffer;
 use message_model::Block;
-use rd_base::{Peer, Tag};
+use rd_base::{Bytes, Peer, Starved, Tag};
+use std::alloc::Global;
 
 /// Content-Format 40: link documents (RFC 7252 section 12.3).
 const LINK_FORMAT: u32 = 40;
@@ -259,7 +260,7 @@ fn answer_mid(mids: &mut Mids, kind: Kind4, mid: u16) -> u16
 }
 
 /// A message that begins as the answer to a request, with its options.
-fn begin_answer(mids: &mut Mids, view: &View<'_>, reply: &Reply<'_>) -> Writer
+pub(crate) fn begin_answer(mids: &mut Mids, view: &View<'_>, reply: &Reply<'_>) -> Writer
     requires token { length view.now.token.now ≤ longest_token }
     requires reply { IsReply reply.now }
     ensures begun { (s : Step) → s.worker ≡ mids.old.worker → s.drawn ≡ mids.old.drawn → with_payload result reply.now.payload.now ≡ effects.answer s (message_in view.now) (reply_said reply.now) }
@@ -293,4 +294,24 @@ pub(crate) fn answer(
         unreachable!()
     };
     out.push(peer, datagram);
+}
+
+/// The octets of a notice (RFC 7641 section 4.2): a confirmable message with a reply, under this Message ID and token. `Starved`: out of memory.
+pub(crate) fn spell_notice(
+    alloc: Global,
+    mid: u16,
+    token: &[u8],
+    reply: &Reply<'_>,
+) -> Result<Bytes, Starved>
+    requires token { length token.now ≤ longest_token }
+    requires reply { IsReply reply.now }
+    ensures spelled { IfOk result (λ octets. octets ≡ spelling (notice_saying mid token.now (reply_said reply.now))) }
+    ensures short { IfOk result (λ octets. length octets ≤ longest_datagram) }
+{
+    let mut writer = Writer::start(Kind4::Con, reply.code, mid, token);
+    put_options(&mut writer, reply);
+    let Ok(datagram) = writer.finish(reply.payload) else {
+        unreachable!()
+    };
+    Bytes::copy_of(alloc, datagram)
 }

@@ -7,7 +7,8 @@ ghost use Rattle.coap_message.specs.Views.{message_in};
 ghost use Rattle.coap_options.specs.Meanings.{IsMeaning, HasShortBlocks, HasReadableBlocks};
 ghost use Rattle.journal_model.specs.Requests as requests_of;
 ghost use Rattle.journal_model.specs.Machine.{is_look_datagram};
-ghost use Rattle.rd_desk.specs.Asking.{is_plain_lookup, refused_with, IsRefusedBy};
+ghost use Rattle.rd_desk.specs.Asking.{begins_observation, is_plain_lookup, refused_with, IsRefusedBy};
+ghost use Rattle.rd_desk.specs.WriteJobs.{is_write_path};
 
 use block_wise::block_read;
 use coap_message::{View, role_of, view};
@@ -65,8 +66,20 @@ pub(crate) fn asked_block(meaning: &Meaning<'_>) -> Option<Block>
     }
 }
 
-/// Whether that block comes after the first.
-fn is_later_block(meaning: &Meaning<'_>) -> bool
+/// The block that the payload is (RFC 7959 section 2.1).
+pub(crate) fn sent_block(meaning: &Meaning<'_>) -> Option<Block>
+    requires short { HasShortBlocks meaning.now }
+    ensures sent { (m : Message) → IsMeaning m meaning.now → result ≡ requests_of.sent_block m }
+    ensures block { ForSome result IsBlock }
+{
+    match meaning.block1 {
+        None => None,
+        Some(value) => block_read(value).ok(),
+    }
+}
+
+/// Whether the block that is asked for comes after the first.
+pub(crate) fn is_later_block(meaning: &Meaning<'_>) -> bool
     requires short { HasShortBlocks meaning.now }
     ensures { (m : Message) → IsMeaning m meaning.now → result ≡ requests_of.is_later_block m }
 {
@@ -86,13 +99,33 @@ fn is_heeded(observe: Option<u32>) -> bool
     }
 }
 
+/// Whether the value of Observe begins an observation (RFC 7641 section 2).
+pub(crate) fn begins_observation(observe: Option<u32>) -> bool
+    ensures { result ≡ begins_observation observe }
+{
+    match observe {
+        None => false,
+        Some(value) => value == 0,
+    }
+}
+
 /// Whether the path is that of a lookup of resources or of endpoints (RFC 9176 section 6).
-fn is_lookup(path: &Path) -> bool
+pub(crate) fn is_lookup(path: &Path) -> bool
     ensures { result ≡ requests_of.is_lookup path.now }
 {
     match path {
         Path::Res | Path::Ep => true,
         Path::Core | Path::SimpleRd | Path::Rd | Path::Location(_) | Path::Other => false,
+    }
+}
+
+/// Whether it is that of a registration, a simple registration, or a request on a registration (RFC 9176 sections 5, 5.1 and 5.3).
+pub(crate) fn is_write(path: &Path) -> bool
+    ensures { result ≡ is_write_path path.now }
+{
+    match path {
+        Path::SimpleRd | Path::Rd | Path::Location(_) => true,
+        Path::Core | Path::Res | Path::Ep | Path::Other => false,
     }
 }
 

@@ -22,7 +22,7 @@ const INTERNAL_SERVER_ERROR: u8 = 160;
 const SERVICE_UNAVAILABLE: u8 = 163;
 
 /// 5.00 alone.
-fn internal_server_error() -> Reply<'static>
+pub(crate) fn internal_server_error() -> Reply<'static>
     ensures said { reply_said result ≡ effects.bare codes_of.internal_server_error }
     ensures reply { IsReply result }
 {

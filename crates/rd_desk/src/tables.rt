@@ -8,11 +8,11 @@ ghost use Rattle.rd_desk.specs.declared.mids.Mids.{Mids};
 ghost use Rattle.rd_desk.specs.Desks.{StandsFor};
 ghost use Rattle.rd_desk.specs.UnderWay.{UnderWay, IsCalled};
 
+use crate::fetching::Fetching;
 use crate::watching::Watching;
 use directory_core::Directory;
 use exchange_core::Exchanges;
 use rd_base::{Moment, Starved};
-use simple_registration::Fetches;
 use std::alloc::Global;
 use std::marker::Model;
 use std::sync::Arc;
@@ -32,7 +32,7 @@ pub(crate) struct Tables {
     /// The observed queries and their observers.
     pub(crate) watching: Watching,
     /// The fetches of simple registrations.
-    pub(crate) fetches: Fetches,
+    pub(crate) fetches: Fetching,
     /// How many Observe values were given, modulo 2^64.
     pub(crate) observed: u64,
 }
@@ -68,7 +68,7 @@ impl Tables {
         let exchanges = Exchanges::make(alloc)?;
         let transfers = Transfers::make(alloc)?;
         let watching = Watching::make(alloc)?;
-        let fetches = Fetches::make(alloc)?;
+        let fetches = Fetching::make(alloc)?;
         Ok(Tables {
             moment: Moment(0),
             version,
@@ -84,7 +84,8 @@ impl Tables {
     /// changes. A step begins with it. Takes no memory.
     pub(crate) fn pass(&mut self, now: Moment)
         requires { now.0 ≤ 10 ^ 15 }
-        ensures { (rows : List Row) (s : Step) (starved : Bool) (out : List (Peer × List ℕ)) (mids : Mids) → out ≡ [] → IsCalled rows s now mids self.old → UnderWay rows s starved nothing self.new out mids }
+        ensures way { (rows : List Row) (s : Step) (starved : Bool) (out : List (Peer × List ℕ)) (mids : Mids) → out ≡ [] → IsCalled rows s now mids self.old → UnderWay rows s starved nothing self.new out mids }
+        ensures version { self.new.version ≡ self.old.version }
     {
         let to = later(self.moment, now);
         self.watching.pass(&*self.version, self.moment, to);

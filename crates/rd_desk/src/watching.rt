@@ -23,7 +23,7 @@ ghost use Rattle.journal_model.specs.Ticks.{is_confirmable_with};
 ghost use Rattle.journal_model.specs.UnfinishedRow.{making};
 ghost use Rattle.exchange_core.specs.Retransmissions.{Resends};
 ghost use Rattle.observers.specs.ObserverEvents.{notice_due};
-ghost use Rattle.observers.specs.Watchers.{Watcher, is_awaited};
+ghost use Rattle.observers.specs.Watchers.{Watcher, is_awaited, next_ready, noticed, due_of, timed, changed_at};
 ghost use Rattle.rd_desk.specs.Desks.{DirectoryStandsFor};
 ghost use Rattle.rd_desk.specs.Entering.{IsEntered};
 ghost use Rattle.rd_desk.specs.Joining.{observer_joining, joining_notes};
@@ -151,6 +151,7 @@ impl Watching {
     /// The first index from a number on of an observer that is due and to whose peer no notice is in flight (RFC 7252 section 4.7, NSTART).
     pub(crate) fn next_due(&self, from: usize) -> Option<usize>
         ensures next { (rows : List Row) → WatchingStandsFor rows self.now → result ≡ next_noticed from (events rows) (transitions rows) }
+        ensures ready { result ≡ next_ready from self.now.observers }
         ensures within { IfSome result (λ i. (from ≤ i) × (i < length self.now.observers)) }
         ensures free { (x : Watcher) → IfSome result (λ i. slice_get self.now.observers i ≡ Some x → is_awaited x.peer self.now.observers ≡ false) }
     {
@@ -190,6 +191,7 @@ impl Watching {
         requires free { (x : Watcher) → slice_get self.old.observers index ≡ Some x → is_awaited x.peer self.old.observers ≡ false }
         ensures stands { (rows : List Row) (s : Step) (starved : Bool) (done : Effects) (x : Watcher) → slice_get self.old.observers index ≡ Some x → list_any (λ d. is_same_peer d.0 x.peer && is_confirmable_with flight.mid d.1) done.sent ≡ false → is_confirmable_with flight.mid flight.octets ≡ true → ((first : Event) → first.moment ≡ row_moment rows s → first.word ≡ s.word → Resends first [] flight.resend) → WatchingStandsFor (making rows s starved done) self.old → WatchingStandsFor (making rows s starved (joined done (forming x (arc_value body) flight))) self.new }
         ensures len { length self.new.observers ≡ length self.old.observers }
+        ensures formed { self.new.observers ≡ changed_at (noticed flight (arc_value body)) index self.old.observers }
     {
         self.observers.formed(index, flight, body);
     }
@@ -210,6 +212,8 @@ impl Watching {
         ensures stands { (rows : List Row) (s : Step) (starved : Bool) (done : Effects) (x : Watcher) (sent : Message) → result ≡ Again.Send → slice_get self.old.observers index ≡ Some x → x.flight ≡ Some sent → now.0 ≡ row_moment rows s → WatchingStandsFor (making rows s starved done) self.old → WatchingStandsFor (making rows s starved (joined done (sending_again x sent))) self.new }
         ensures unsent { result ≢ Again.Send → self.new ≡ self.old }
         ensures len { length self.new.observers ≡ length self.old.observers }
+        ensures answer { (x : Watcher) → slice_get self.old.observers index ≡ Some x → result ≡ due_of now.0 x.flight }
+        ensures kept { self.new.observers ≡ changed_at (timed now.0) index self.old.observers }
     {
         self.observers.timeout(now, index)
     }

@@ -29,6 +29,7 @@ use Rattle.journal_model.specs.Machine.{is_look_message, is_look_reading, is_loo
 use Rattle.journal_model.specs.Sought.{sought_at}
 use Rattle.journal_model.specs.Looks.{Look, answered, held, names_tag, still_valid, unless_long, unless_valid, found_under, look_for, look, look_sent, look_effects, looked, body_held, held_after}
 use Rattle.rd_desk.specs.declared.looks.Looked.TheVariants as ended
+use Rattle.rd_desk.specs.Asking.{seeks_links}
 use Rattle.rd_desk.specs.Looking.{look_done, look_left, IsHeld}
 
 -- no fault is found
@@ -36,27 +37,34 @@ no_fault : (fault : Option Fault) → is_some fault ≡ false → fault ≡ None
 no_fault None e = refl
 no_fault (Some fault) e = cc
 
--- where query options are not refused, and a look's path has them, they have no fault of a lookup
-good_at : (p : Path) (m : Message) (first plain : Bool) → (is_discovery p || (is_lookup p && first && plain)) ≡ true
-    → is_some (option_and_then (λ as_what. fault_of as_what (queries_in m)) (reading_of p m.code)) ≡ false → lookup_fault (queries_in m) ≡ None
+-- where query options are not refused, and the path is that of a discovery or of a lookup, they have no fault of a lookup
+good_at : (p : Path) (m : Message) → seeks_links p ≡ true → is_some (option_and_then (λ as_what. fault_of as_what (queries_in m)) (reading_of p m.code)) ≡ false → lookup_fault (queries_in m) ≡ None
 unfolding fault_of
-good_at path.Core m first plain looks good = no_fault (lookup_fault (queries_in m)) good
-good_at path.SimpleRd m first plain looks good = cc
-good_at path.Rd m first plain looks good = cc
-good_at (path.Location number) m first plain looks good = cc
-good_at path.Res m first plain looks good = no_fault (lookup_fault (queries_in m)) good
-good_at path.Ep m first plain looks good = no_fault (lookup_fault (queries_in m)) good
-good_at path.Other m first plain looks good = cc
+good_at path.Core m seeks good = no_fault (lookup_fault (queries_in m)) good
+good_at path.SimpleRd m seeks good = cc
+good_at path.Rd m seeks good = cc
+good_at (path.Location number) m seeks good = cc
+good_at path.Res m seeks good = no_fault (lookup_fault (queries_in m)) good
+good_at path.Ep m seeks good = no_fault (lookup_fault (queries_in m)) good
+good_at path.Other m seeks good = cc
 
-pub good_query : (m : Message) → only_looks m ≡ true → has_bad_query m ≡ false → lookup_fault (queries_in m) ≡ None
-good_query m looks good = good_at (path_in m) m (not (is_later_block m)) (not (is_heeded (observe_in m))) looks good
+pub good_query : (m : Message) → seeks_links (path_in m) ≡ true → has_bad_query m ≡ false → lookup_fault (queries_in m) ≡ None
+good_query m seeks good = good_at (path_in m) m seeks good
+
+-- a request that only looks is a discovery or a lookup
+pub looks_seek : (m : Message) → only_looks m ≡ true → seeks_links (path_in m) ≡ true
+looks_seek m looks = by (is_discovery (path_in m)) (is_lookup (path_in m)) (not (is_later_block m)) (not (is_heeded (observe_in m))) looks where
+  by : (d l first plain : Bool) → (d || (l && first && plain)) ≡ true → (d || l) ≡ true
+  by true l first plain h = refl
+  by false true first plain h = refl
+  by false false first plain h = h
 
 -- what the query options say: what the request asks for
-pub query_meant : (m : Message) (kind : Kind) (left : List (List ℕ)) → kind ≡ kind_of (path_in m) → left ≡ queries_in m → only_looks m ≡ true → has_bad_query m ≡ false → lookup_query kind left ≡ Ok (query_of m)
+pub query_meant : (m : Message) (kind : Kind) (left : List (List ℕ)) → kind ≡ kind_of (path_in m) → left ≡ queries_in m → seeks_links (path_in m) ≡ true → has_bad_query m ≡ false → lookup_query kind left ≡ Ok (query_of m)
 unfolding lookup_query
-query_meant m kind left by all looks good =
+query_meant m kind left by all seeks good =
     ap (λ (k : Kind). lookup_query k left) by ∙ (ap (λ (queries : List (List ℕ)). lookup_query (kind_of (path_in m)) queries) all
-    ∙ ap (λ (fault : Option Fault). unless_fault fault (lookup_values (kind_of (path_in m)) (queries_in m))) (good_query m looks good))
+    ∙ ap (λ (fault : Option Fault). unless_fault fault (lookup_values (kind_of (path_in m)) (queries_in m))) (good_query m seeks good))
 
 -- so it is read as that
 pub query_read : (m : Message) (query : Query) (meant : Result Query Fault) → meant ≡ Ok (query_of m) → meant ≡ Ok query → query ≡ query_of m

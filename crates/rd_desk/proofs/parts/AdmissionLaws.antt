@@ -1,4 +1,4 @@
--- What an admission does, by what it hears (RFC 7252 section 4). For the desk above: nothing here cites these.
+-- What an admission does, by what it hears (RFC 7252 section 4).
 use Rattle.std.proofs.Common.{◌≡◌, Bool, true, false, List, Some, None, Result, Ok, refl}
 use Rattle.std.proofs.lemmas.Bool.{false≢true}
 use Rattle.message_model.specs.declared.messages.Role.{Role}
@@ -19,6 +19,7 @@ use Rattle.journal_model.specs.Requests.{refusal_of_request}
 use Rattle.journal_model.specs.Rows.{served, refusal_answered, message_effects, heard, effects, row_moment}
 use Rattle.journal_model.specs.Writes.{write_effects}
 use Rattle.rd_desk.specs.Admitting.{write_heard}
+use Rattle.rd_desk.specs.WriteJobs.{is_write_path}
 
 -- an admission hears what is read of its datagram
 pub admission_hears : (rows : List Row) (s : Step) (starved : Bool) (read : Result Message Unread) → s.kind ≡ step.Admit → reading s.datagram ≡ read
@@ -40,13 +41,6 @@ request_refused rows s m refusal is = rw is refl
 pub request_served : (rows : List Row) (s : Step) (m : Message) (p : Path) → refusal_of_request m ≡ None → path_in m ≡ p
     → served p rows (row_moment rows s) s m ≡ message_effects role.Request false rows (row_moment rows s) s m
 request_served rows s m p none is = rw none (rw is refl)
-
--- the path of a write
-abbrev pub is_write_path : Path → Bool
-is_write_path path.Rd = true
-is_write_path path.SimpleRd = true
-is_write_path (path.Location number) = true
-is_write_path _ = false
 
 -- a write
 pub request_writes : (rows : List Row) (s : Step) (starved : Bool) (m : Message) → refusal_of_request m ≡ None → is_write_path (path_in m) ≡ true

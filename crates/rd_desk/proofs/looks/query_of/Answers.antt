@@ -11,10 +11,10 @@ unreachable-requires c =
     let m = message_in c.args.meaning.now.view in
     let faulty = rw c.in-Err-At.field-0-is at c.in-Err-At.ensures in
     query_faulty m (c.in-Err-At.field-0-0, c.in-Err-At.field-0-1) (lookup_query c.kind_of.result (queries_left c.queries.result))
-    (query_meant m c.kind_of.result (queries_left c.queries.result) (c.kind_of.ensures ∙ ap kind_of c.requires.meaning.path) c.queries.ensures c.requires.looks c.requires.good) faulty
+    (query_meant m c.kind_of.result (queries_left c.queries.result) (c.kind_of.ensures ∙ ap kind_of c.requires.meaning.path) c.queries.ensures c.requires.seeks c.requires.good) faulty
 
 pub returns-in-Ok : goal.returns-in-Ok
 returns-in-Ok c =
     let m = message_in c.args.meaning.now.view in
     query_read m c.in-Ok.query (lookup_query c.kind_of.result (queries_left c.queries.result))
-    (query_meant m c.kind_of.result (queries_left c.queries.result) (c.kind_of.ensures ∙ ap kind_of c.requires.meaning.path) c.queries.ensures c.requires.looks c.requires.good) c.in-Ok.ensures
+    (query_meant m c.kind_of.result (queries_left c.queries.result) (c.kind_of.ensures ∙ ap kind_of c.requires.meaning.path) c.queries.ensures c.requires.seeks c.requires.good) c.in-Ok.ensures

@@ -5,8 +5,8 @@ use Rattle.rd_desk.specs.Watching.{WatchingStandsFor}
 use Rattle.rd_desk.proofs.parts.WayLaws.{begun, moment_passes}
 use Rattle.rd_desk.proofs.tables.Tables.pass.Goals as goal
 
-pub returns : goal.returns
-returns c rows s starved out mids none call =
+pub returns-clause-way : goal.returns-clause-way
+returns-clause-way c rows s starved out mids none call =
     let seen = c.self.view_is in
     let before : c.self.inside.moment.0 ≡ c.args.self.now.moment = ap (λ (d : Seen). d.moment) seen in
     let here : c.later-to.result.0 ≡ row_moment rows s = c.later-to.ensures ∙ (ap (max c.args.now.0) before ∙ moment_passes rows s c.args.now mids c.args.self.now call) in

@@ -1,0 +1,2 @@
+pub mod FetchingLaws
+pub mod ResponseLaws

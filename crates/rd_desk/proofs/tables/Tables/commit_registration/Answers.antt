@@ -1,0 +1,18 @@
+use Rattle.std.proofs.Common.{◌≡◌, Some, None, Option, sym, ap, subst, ◌∙◌}
+use Rattle.message_model.specs.declared.blocks.Block.{Block}
+use Rattle.coap_message.specs.Views.{message_in}
+use Rattle.rd_desk.specs.Stepping.{is_starved_step}
+use Rattle.rd_desk.proofs.changes.CommitLaws.{way_registered}
+use Rattle.rd_desk.proofs.tables.Tables.commit_registration.Goals as goal
+
+pub returns-in-None-clause-way : goal.returns-in-None-clause-way
+returns-in-None-clause-way g c =
+    λ rows s place of opened way.
+    way_registered rows s (is_starved_step c.commit_whole.result) place (message_in c.args.meaning.now.view) None c.commit_whole.new.self c.commit_whole.new.out c.commit_whole.new.mids
+    (sym c.in-None.is ∙ c.sent_block.ensures.sent (message_in c.args.meaning.now.view) c.requires.meaning) (c.commit_whole.ensures.way rows s place of opened way)
+
+pub returns-in-Some-clause-way : goal.returns-in-Some-clause-way
+returns-in-Some-clause-way g c =
+    λ rows s place of opened way.
+    way_registered rows s (is_starved_step c.commit_block.result) place (message_in c.args.meaning.now.view) (Some c.in-Some.block) c.commit_block.new.self c.commit_block.new.out c.commit_block.new.mids
+    (sym c.in-Some.is ∙ c.sent_block.ensures.sent (message_in c.args.meaning.now.view) c.requires.meaning) (c.commit_block.ensures.way rows s place of opened way)

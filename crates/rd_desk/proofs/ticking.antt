@@ -1,0 +1,12 @@
+pub mod BoundLaws
+pub mod FittingLaws
+pub mod AgainLaws
+pub mod AgainWalk
+pub mod RequestWalk
+pub mod NoticeWalk
+pub mod WholeTick
+pub mod PlanLaws
+pub mod SkipLaws
+pub mod PlanSteps
+pub mod CarryLaws
+pub mod EndLaws

@@ -1,0 +1,170 @@
+//! Writes that were admitted are done: what they ask for is made, and they are answered (RFC 9176 section 5, RFC 7252 section 4.5).
+ghost use Rattle.std.specs.Prelude.{◌≡◌, ◌+◌, ◌<◌, ◌≤◌, ◌^◌, ℕ, Bool, [], List, length, Ok, IfOk, false};
+ghost use Rattle.message_model.specs.Message.{Message, longest_token};
+ghost use Rattle.message_model.specs.Reading.{reading};
+ghost use Rattle.event_model.specs.AdmissionOrder.{IsOpen};
+ghost use Rattle.coap_message.specs.Views.{message_in};
+ghost use Rattle.journal_model.specs.declared.steps.Step.{Step};
+ghost use Rattle.journal_model.specs.declared.steps.StepKind.TheVariants as step;
+ghost use Rattle.journal_model.specs.declared.rows.Row.{Row};
+ghost use Rattle.journal_model.specs.Changes as changes;
+ghost use Rattle.journal_model.specs.Commits.{settling};
+ghost use Rattle.journal_model.specs.Effects.{nothing};
+ghost use Rattle.journal_model.specs.Journal.{events, entries};
+ghost use Rattle.journal_model.specs.Rows.{row_moment, done, row};
+ghost use Rattle.rd_desk.specs.Committing.{unless_failing, IsShort};
+ghost use Rattle.rd_desk.specs.Outboxes.{most_datagrams};
+ghost use Rattle.rd_desk.specs.Outcomes.{IsTimely, IsPlanned, IsMadeAt};
+ghost use Rattle.rd_desk.specs.Replies.{IsReply};
+ghost use Rattle.rd_desk.specs.Stepping.{is_starved_step};
+ghost use Rattle.rd_desk.specs.UnderWay.{UnderWay, IsCalled, Made};
+ghost use Rattle.rd_desk.specs.Shown.{AreToldOf};
+ghost use Rattle.history_model.specs.declared.entries.Entry.{Entry};
+ghost use Rattle.history_model.specs.Versions.{VersionStandsFor};
+ghost use Rattle.rd_desk.specs.Staging.{IsLaid, IsLeftBy, IsNextOf};
+
+use crate::outcomes::Outcome;
+use crate::staging::staged;
+use crate::tables::Tables;
+use crate::write_jobs::write_meaning;
+use crate::{Mids, Outbox, Stepped, WriteJob};
+use coap_message::View;
+use coap_options::Path;
+use directory_core::Board;
+use rd_base::{Moment, Peer, Starved};
+use std::alloc::Global;
+
+impl Tables {
+    /// What is planned of a write is done: its entry is made, where it makes one, and then its answer settles it. Takes no memory.
+    fn conclude(
+        &mut self,
+        mids: &mut Mids,
+        peer: Peer,
+        view: &View<'_>,
+        admitted: Moment,
+        outcome: Outcome,
+        out: &mut Outbox,
+    )
+        requires token { length view.now.token.now ≤ longest_token }
+        requires reply { IsReply outcome.reply }
+        requires short { IsShort outcome.reply }
+        requires timely { IsTimely self.old.moment outcome }
+        requires room { length out.old < most_datagrams }
+        ensures way { (rows : List Row) (s : Step) (starved : Bool) (place : ℕ) (meant : changes.Outcome) → s.peer ≡ peer → IsOpen place peer view.now.mid admitted.0 (events rows)
+            → IsMadeAt (row_moment rows s) meant → IsPlanned (entries rows) self.old.version.swept [] meant outcome
+            → UnderWay rows s starved nothing self.old out.old mids.old → UnderWay rows s starved (settling place s (message_in view.now) meant) self.new out.new mids.new }
+        ensures version { IsLeftBy self.old.version self.new.version outcome.entering }
+    {
+        let Outcome { reply, entering } = outcome;
+        let Some(entering) = entering else {
+            self.settle(mids, peer, view, admitted, &reply, out);
+            return;
+        };
+        self.enter(entering);
+        self.settle(mids, peer, view, admitted, &reply, out);
+    }
+
+    /// A write that was admitted is done as it is planned, or fails where memory ran out meanwhile. Takes no memory.
+    pub(crate) fn finish<B: Board>(
+        &mut self,
+        board: &mut B,
+        mids: &mut Mids,
+        peer: Peer,
+        view: &View<'_>,
+        admitted: Moment,
+        planned: Result<Outcome, Starved>,
+        out: &mut Outbox,
+    ) -> Stepped
+        requires token { length view.now.token.now ≤ longest_token }
+        requires reply { IfOk planned (λ o. IsReply o.reply) }
+        requires short { IfOk planned (λ o. IsShort o.reply) }
+        requires timely { IfOk planned (IsTimely self.old.moment) }
+        requires room { length out.old < most_datagrams }
+        requires free { B.has_staged board.old ≡ false }
+        requires told { AreToldOf self.old.version (B.told board.old) }
+        requires next { (history : List Entry) → VersionStandsFor 0 history self.old.version → IfOk planned (IsNextOf history) }
+        ensures way { (rows : List Row) (s : Step) (place : ℕ) (meant : changes.Outcome) → s.peer ≡ peer → IsOpen place s.peer view.now.mid admitted.0 (events rows)
+            → IsMadeAt (row_moment rows s) meant → IfOk planned (IsPlanned (entries rows) self.old.version.swept [] meant)
+            → UnderWay rows s (is_starved_step result) nothing self.old out.old mids.old
+            → UnderWay rows s (is_starved_step result) (unless_failing (is_starved_step result) place s (message_in view.now) (settling place s (message_in view.now) meant)) self.new out.new mids.new }
+        ensures laid { IsLaid self.old.version self.new.version (B.staged board.old) (B.staged board.new) }
+        ensures name { B.name board.new ≡ B.name board.old }
+        ensures told { B.told board.new ≡ B.told board.old }
+    {
+        match staged(board, planned) {
+            Ok(outcome) => {
+                self.conclude(mids, peer, view, admitted, outcome, out);
+                return Stepped::Done;
+            }
+            Err(Starved) => {
+                self.fail(mids, peer, view, admitted, out);
+                return Stepped::Starved;
+            }
+        }
+    }
+
+    /// The write of a job is done, by what it writes to.
+    fn commit_write<B: Board>(
+        &mut self,
+        alloc: Global,
+        board: &mut B,
+        mids: &mut Mids,
+        job: WriteJob,
+        out: &mut Outbox,
+    ) -> Stepped
+        requires room { length out.old + 1 < most_datagrams }
+        requires free { B.has_staged board.old ≡ false }
+        requires told { AreToldOf self.old.version (B.told board.old) }
+        ensures way { (rows : List Row) (s : Step) (place : ℕ) (m : Message) → s.peer ≡ job.peer → s.word ≡ 0 → reading job.datagram ≡ Ok m → IsOpen place s.peer m.mid job.admitted (events rows)
+            → UnderWay rows s (is_starved_step result) nothing self.old out.old mids.old
+            → UnderWay rows s (is_starved_step result) (done (is_starved_step result) rows (row_moment rows s) place s (reading job.datagram)) self.new out.new mids.new }
+        ensures laid { IsLaid self.old.version self.new.version (B.staged board.old) (B.staged board.new) }
+        ensures name { B.name board.new ≡ B.name board.old }
+        ensures told { B.told board.new ≡ B.told board.old }
+    {
+        let WriteJob {
+            peer,
+            datagram,
+            admitted,
+        } = job;
+        let meaning = write_meaning(datagram.as_slice());
+        match meaning.path {
+            Path::Rd => {
+                return self.commit_registration(alloc, board, mids, peer, admitted, &meaning, out);
+            }
+            Path::SimpleRd => {
+                return self.commit_simple(alloc, 0, mids, peer, admitted, &meaning, out);
+            }
+            Path::Location(number) => {
+                return self.commit_location(
+                    alloc, board, mids, peer, admitted, &meaning, number, out,
+                );
+            }
+            Path::Core | Path::Res | Path::Ep | Path::Other => unreachable!(),
+        }
+    }
+
+    /// The step that does a write that was admitted, at a moment that is at most 10^15; one below that of the tables is lifted to it. `out` is empty.
+    pub(crate) fn commit<B: Board>(
+        &mut self,
+        alloc: Global,
+        board: &mut B,
+        now: Moment,
+        mids: &mut Mids,
+        job: WriteJob,
+        out: &mut Outbox,
+    ) -> Stepped
+        requires moment { now.0 ≤ 10 ^ 15 }
+        requires empty { out.old ≡ [] }
+        requires free { B.has_staged board.old ≡ false }
+        requires told { AreToldOf self.old.version (B.told board.old) }
+        ensures made { (rows : List Row) (s : Step) (place : ℕ) (m : Message) → s.kind ≡ step.Commit place → s.peer ≡ job.peer → s.datagram ≡ job.datagram → s.word ≡ 0 → reading job.datagram ≡ Ok m
+            → IsOpen place s.peer m.mid job.admitted (events rows) → IsCalled rows s now mids.old self.old → Made rows (row rows s (is_starved_step result)) self.new out.new mids.old mids.new }
+        ensures laid { IsLaid self.old.version self.new.version (B.staged board.old) (B.staged board.new) }
+        ensures name { B.name board.new ≡ B.name board.old }
+        ensures told { B.told board.new ≡ B.told board.old }
+    {
+        self.pass(now);
+        self.commit_write(alloc, board, mids, job, out)
+    }
+}

@@ -1,0 +1,199 @@
+//! The core of the directory: one call is one step, and does what the journal says of its row (RFC 9176, RFC 7252, RFC 7641, RFC 7959).
+ghost use Rattle.std.specs.Prelude.{◌≡◌, ◌≤◌, ◌^◌, ℕ, false, [], List, Some, None, Ok, IfOk, IfSome, length, slice_get};
+ghost use Rattle.std.specs.Arc.{arc_value};
+ghost use Rattle.std.specs.Borrow.{Lends, sem};
+ghost use Rattle.message_model.specs.Message.{Message};
+ghost use Rattle.message_model.specs.Reading.{reading};
+ghost use Rattle.event_model.specs.AdmissionOrder.{IsOpen};
+ghost use Rattle.event_model.specs.declared.notes.Observer.{Observer as Observed};
+ghost use Rattle.event_model.specs.Observers.{observers};
+ghost use Rattle.journal_model.specs.declared.steps.Step.{Step};
+ghost use Rattle.journal_model.specs.declared.steps.StepKind.TheVariants as step;
+ghost use Rattle.journal_model.specs.declared.rows.Row.{Row};
+ghost use Rattle.journal_model.specs.Journal.{events};
+ghost use Rattle.journal_model.specs.Machine.{is_look_datagram};
+ghost use Rattle.journal_model.specs.Rows.{row, row_moment};
+ghost use Rattle.observers.specs.Watchers.{Watcher as Kept};
+ghost use Rattle.rd_desk.specs.Admitting.{is_starved_admission, takes_memory, IsHeldFor};
+ghost use Rattle.rd_desk.specs.Desks.{StandsFor};
+ghost use Rattle.rd_desk.specs.Shown.{AreToldOf};
+ghost use Rattle.rd_desk.specs.Staging.{LeavesStaged};
+ghost use Rattle.rd_desk.specs.Stepping.{is_starved_step};
+ghost use Rattle.rd_desk.specs.UnderWay.{IsCalled, Made};
+ghost use Rattle.rd_desk.specs.Watchers.{IsShownAs, IsObserverAfter};
+
+use crate::tables::Tables;
+use crate::{Admitted, KeepJob, Mids, Outbox, Stepped, Watcher, WriteJob};
+use directory_core::{Board, Directory};
+use rd_base::{Moment, Peer, Starved};
+use std::alloc::Global;
+use std::marker::Model;
+use std::sync::Arc;
+
+/// A directory. Contracts see what it keeps, which says the journal that it stands for, and the board that its versions are laid on.
+#[derive(Drop)]
+pub struct Desk<B: Board + Drop> {
+    /// Where its memory comes from.
+    alloc: Global,
+    /// What it keeps.
+    tables: Tables,
+    /// Where a version with an entry is laid, to be published after the step that made it.
+    board: B,
+}
+
+impl<B: Board + Drop> Model for Desk<B> {
+    ghost use Rattle.rd_desk.specs.Shown.{Shown};
+
+    ghost Value = { Shown B };
+
+    ghost view = { λ d. record { tables = d.tables; board = d.board } };
+}
+
+impl<B: Board + Drop> Desk<B> {
+    ghost use Rattle.rd_desk.specs.contracts.desk.Desk.{the_row};
+
+    /// A directory in which nothing was done, with all the room that its tables take. Nothing is staged on the board, and its entries, where it tells them, are none.
+    /// `Starved`: out of memory.
+    pub fn make(alloc: Global, board: B) -> Result<Desk<B>, Starved>
+        requires free { B.has_staged board ≡ false }
+        requires told { IfSome (B.told board) (λ history. history ≡ []) }
+        ensures stands { IfOk result (λ desk. StandsFor [] desk.tables) }
+        ensures board { IfOk result (λ desk. desk.board ≡ board) }
+    {
+        let tables = Tables::make(alloc)?;
+        Ok(Desk {
+            alloc,
+            tables,
+            board,
+        })
+    }
+
+    /// The step that hears a datagram of a peer, which is not one that only looks ([`crate::is_look`]), at a moment in milliseconds that is at most 10^15; one below that of the
+    /// directory is lifted to it. Waits of messages that go out are made from the word. `out` is empty, and gets what is sent. `Held`: it is a write that is admitted, and the worker
+    /// has its job. `Starved`: out of memory; a request is answered 5.00, a response is as if it had not come (RFC 7252 section 4).
+    ///
+    /// Nothing is staged on the board, and its entries, where it tells them, are those of the directory. Where the step makes an entry, its version is staged afterwards.
+    pub fn admit(
+        &mut self,
+        now: Moment,
+        word: u32,
+        mids: &mut Mids,
+        peer: Peer,
+        datagram: &[u8],
+        out: &mut Outbox,
+    ) -> Admitted
+        requires moment { now.0 ≤ 10 ^ 15 }
+        requires other { is_look_datagram datagram.now ≡ false }
+        requires empty { out.old ≡ [] }
+        requires free { B.has_staged self.old.board ≡ false }
+        requires told { AreToldOf self.old.tables.version (B.told self.old.board) }
+        // The desk stands for the journal with the row of the step, which is what was sent and drawn.
+        ensures made { (rows : List Row) (s : Step) → s.kind ≡ step.Admit → s.peer ≡ peer → s.datagram ≡ datagram.now → s.word ≡ word → IsCalled rows s now mids.old self.old.tables
+            → Made rows (row rows s (is_starved_admission result)) self.new.tables out.new mids.old mids.new }
+        // The worker has the job of the write that the row admits, where it admits one.
+        ensures held { (rows : List Row) (s : Step) → s.kind ≡ step.Admit → s.peer ≡ peer → s.datagram ≡ datagram.now → IsCalled rows s now mids.old self.old.tables
+            → IsHeldFor result (row rows s (is_starved_admission result)).notes s (row_moment rows s) }
+        // Refusals, repeats and empty messages take no memory.
+        ensures unstarved { (rows : List Row) (s : Step) → s.peer ≡ peer → s.datagram ≡ datagram.now → IsCalled rows s now mids.old self.old.tables
+            → takes_memory rows (row_moment rows s) s (reading datagram.now) ≡ false → is_starved_admission result ≡ false }
+        // Its version is staged where it makes an entry, and else nothing is.
+        ensures staged { (rows : List Row) (s : Step) → s.kind ≡ step.Admit → s.peer ≡ peer → s.datagram ≡ datagram.now → s.word ≡ word → IsCalled rows s now mids.old self.old.tables
+            → LeavesStaged (row rows s (is_starved_admission result)).notes self.new.tables.version (B.staged self.old.board) (B.staged self.new.board) }
+        ensures name { B.name self.new.board ≡ B.name self.old.board }
+        ensures told { B.told self.new.board ≡ B.told self.old.board }
+    {
+        self.tables.admit(
+            self.alloc,
+            &mut self.board,
+            now,
+            word,
+            mids,
+            peer,
+            datagram,
+            out,
+        )
+    }
+
+    /// The step that does a write that was admitted, at a moment in milliseconds that is at most 10^15; one below that of the directory is lifted to it. The job is of an admission
+    /// of this directory that nothing has ended since. `out` is empty, and gets what is sent. `Starved`: out of memory; nothing is changed, the request is answered 5.00, and the
+    /// write may come again as a new one (RFC 9176 section 5, RFC 7252 section 4.5).
+    ///
+    /// Nothing is staged on the board, and its entries, where it tells them, are those of the directory. Where the step makes an entry, its version is staged afterwards.
+    pub fn commit(
+        &mut self,
+        now: Moment,
+        mids: &mut Mids,
+        job: WriteJob,
+        out: &mut Outbox,
+    ) -> Stepped
+        requires moment { now.0 ≤ 10 ^ 15 }
+        requires empty { out.old ≡ [] }
+        requires free { B.has_staged self.old.board ≡ false }
+        requires told { AreToldOf self.old.tables.version (B.told self.old.board) }
+        // The desk stands for the journal with the row of the step, which is what was sent and drawn.
+        ensures made { (rows : List Row) (s : Step) (place : ℕ) (m : Message) → s.kind ≡ step.Commit place → s.peer ≡ job.peer → s.datagram ≡ job.datagram → s.word ≡ 0 → reading job.datagram ≡ Ok m
+            → IsOpen place s.peer m.mid job.admitted (events rows) → IsCalled rows s now mids.old self.old.tables
+            → Made rows (row rows s (is_starved_step result)) self.new.tables out.new mids.old mids.new }
+        // Its version is staged where it makes an entry, and else nothing is.
+        ensures staged { (rows : List Row) (s : Step) (place : ℕ) (m : Message) → s.kind ≡ step.Commit place → s.peer ≡ job.peer → s.datagram ≡ job.datagram → s.word ≡ 0 → reading job.datagram ≡ Ok m
+            → IsOpen place s.peer m.mid job.admitted (events rows) → IsCalled rows s now mids.old self.old.tables
+            → LeavesStaged (row rows s (is_starved_step result)).notes self.new.tables.version (B.staged self.old.board) (B.staged self.new.board) }
+        ensures name { B.name self.new.board ≡ B.name self.old.board }
+        ensures told { B.told self.new.board ≡ B.told self.old.board }
+    {
+        self.tables
+            .commit(self.alloc, &mut self.board, now, mids, job, out)
+    }
+
+    /// The step that does the job to keep a listing, at a moment in milliseconds that is at most 10^15; one below that of the directory is lifted to it. `out` is empty, and gets
+    /// what is sent: the block of the listing that was asked for (RFC 7959 section 2.4). `Starved`: out of memory; nothing is kept, and the request is answered 5.00.
+    pub fn keep(&mut self, now: Moment, mids: &mut Mids, job: KeepJob, out: &mut Outbox) -> Stepped
+        requires moment { now.0 ≤ 10 ^ 15 }
+        requires empty { out.old ≡ [] }
+        requires free { B.has_staged self.old.board ≡ false }
+        requires told { AreToldOf self.old.tables.version (B.told self.old.board) }
+        ensures made { (rows : List Row) (s : Step) → s.kind ≡ step.Keep job.answer.body job.answer.tag → s.peer ≡ job.peer → s.datagram ≡ job.datagram → IsCalled rows s now mids.old self.old.tables
+            → Made rows (row rows s (is_starved_step result)) self.new.tables out.new mids.old mids.new }
+        ensures board { self.new.board ≡ self.old.board }
+    {
+        self.tables.keep(self.alloc, now, mids, job, out)
+    }
+
+    /// The version of the registrations now.
+    pub fn version(&self) -> &Arc<Directory>
+        ensures { arc_value result.now ≡ self.now.tables.version }
+    {
+        &self.tables.version
+    }
+
+    /// The greatest moment that was handed in, in milliseconds.
+    pub fn moment(&self) -> Moment
+        ensures { result.0 ≡ self.now.tables.moment }
+    {
+        self.tables.moment
+    }
+
+    /// The observer with an index, in the order in which they joined; none from their number on.
+    pub fn observer(&self, index: usize) -> Option<Watcher>
+        ensures shown { (x : Kept) → slice_get self.now.tables.watching.observers index ≡ Some x → IfSome result (IsShownAs x) }
+        ensures none { slice_get self.now.tables.watching.observers index ≡ None → result ≡ None }
+        ensures observer { (rows : List Row) (o : Observed) → StandsFor rows self.now.tables → slice_get (observers (events rows)) index ≡ Some o → IfSome result (IsObserverAfter rows o) }
+    {
+        self.tables.observer(index)
+    }
+
+    /// How many observers there are.
+    pub fn watchers(&self) -> usize
+        ensures { result ≡ length self.now.tables.watching.observers }
+    {
+        self.tables.watching.len()
+    }
+
+    /// The board. What the desk keeps stays as it is, and the board is what the reference leaves.
+    pub fn board(&mut self) -> &mut B
+        ensures value { result.now ≡ self.old.board }
+        ensures* writes_back { sem 𝓛 (Lends (the_row B.row B.Board) B.row self.entry result (λ (board : B). record { tables = self.old.tables; board = board })) }
+    {
+        &mut self.board
+    }
+}

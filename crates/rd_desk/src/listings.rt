@@ -1,0 +1,181 @@
+//! Listings that are formed for lookups in which the journal takes part, and the kept answers with them (RFC 7959 section 2.4).
+ghost use Rattle.std.specs.Prelude.{◌≡◌, ◌<◌, ◌≤◌, ◌^◌, ℕ, true, false, List, length, Some, None, IfOk};
+ghost use Rattle.std.specs.Arc.{arc_value};
+ghost use Rattle.std.specs.Option.{ForSome};
+ghost use Rattle.message_model.specs.Message.{longest_token};
+ghost use Rattle.message_model.specs.RequestKey.{key_in};
+ghost use Rattle.coap_message.specs.Views.{message_in};
+ghost use Rattle.coap_options.specs.Meanings.{IsMeaning, HasShortBlocks};
+ghost use Rattle.history_model.specs.declared.entries.Entry.{Entry};
+ghost use Rattle.history_model.specs.Versions.{VersionStandsFor};
+ghost use Rattle.event_model.specs.declared.notes.Note.{Note};
+ghost use Rattle.event_model.specs.Events.{Event};
+ghost use Rattle.event_model.specs.KeptAnswers.{kept_answer};
+ghost use Rattle.journal_model.specs.declared.steps.Step.{Step};
+ghost use Rattle.journal_model.specs.Bodies as bodies_of;
+ghost use Rattle.journal_model.specs.Effects.{answering};
+ghost use Rattle.journal_model.specs.Requests as requests_of;
+ghost use Rattle.transfers.specs.TransferEvents.{TransfersStandFor};
+ghost use Rattle.rd_desk.specs.Lookups.{answer_listed, answer_at, IsFormed, IsReadied, IsJoining, IsUsed};
+ghost use Rattle.rd_desk.specs.Outboxes.{most_datagrams};
+ghost use Rattle.rd_desk.specs.Sendings.{IsStepOf, Sends};
+
+use crate::bodies::{body_reply, szx_of};
+use crate::joining::Joining;
+use crate::keeps::with_listing;
+use crate::looks::listing_at;
+use crate::replies::answer;
+use crate::requests::asked_block;
+use crate::{Mids, Outbox};
+use coap_options::{Meaning, request_key};
+use directory_core::Directory;
+use exchange_core::Token;
+use rd_base::{Bytes, Key, Moment, Peer, Query, Starved, Tag};
+use std::alloc::Global;
+use std::marker::Brand;
+use std::sync::Arc;
+use std::sync::ledger::Blank;
+use transfers::{Ready, Transfers};
+
+/// A listing under its entity tag, which is shared and never copied.
+#[derive(Drop)]
+pub(crate) struct Listed {
+    /// The listing.
+    pub body: Arc<Bytes>,
+    /// Its entity tag.
+    pub tag: Tag,
+}
+
+/// A listing that is formed for a request, with all that it takes to keep it.
+#[derive(Drop)]
+pub(crate) struct Formed {
+    /// The listing.
+    pub listed: Listed,
+    /// The kept answers with it after them, where it is to be kept for its further blocks.
+    pub ready: Option<Ready>,
+}
+
+/// The listing of a query in a version at a moment, which is not before its last entry and its last sweep. `Starved`: out of memory.
+pub(crate) fn listed_at(
+    alloc: Global,
+    version: &Directory,
+    now: Moment,
+    query: &Query,
+) -> Result<Listed, Starved>
+    requires after_at { version.now.at ≤ now.0 }
+    requires after_sweep { version.now.swept ≤ now.0 }
+    ensures { (history : List Entry) → VersionStandsFor 0 history version.now → IfOk result (λ listed. answer_listed listed ≡ answer_at history now.0 query.now) }
+{
+    let octets = listing_at::<Brand>(Blank::new(1), version, now, query)?;
+    let body = Arc::new(alloc, octets)?;
+    let tag = version.tag(now);
+    Ok(Listed { body, tag })
+}
+
+/// What it takes to keep a listing, where it is to be kept. `Starved`: out of memory.
+pub(crate) fn form(
+    transfers: &Transfers,
+    alloc: Global,
+    now: Moment,
+    peer: Peer,
+    meaning: &Meaning<'_>,
+    keep: bool,
+    listed: Listed,
+) -> Result<Formed, Starved>
+    requires meaning { IsMeaning (message_in meaning.now.view) meaning.now }
+    ensures formed { IfOk result (IsFormed keep (answer_listed listed)) }
+    ensures ready { IfOk result (IsReadied now.0 peer (key_in (message_in meaning.now.view)) transfers.now.answers) }
+{
+    if !keep {
+        return Ok(Formed {
+            listed,
+            ready: None,
+        });
+    }
+    let ready = with_listing(
+        transfers,
+        alloc,
+        now,
+        peer,
+        meaning,
+        &listed.body,
+        listed.tag,
+    )?;
+    Ok(Formed {
+        listed,
+        ready: Some(ready),
+    })
+}
+
+/// Who asks to observe by a request that is answered with a listing. `Starved`: out of memory.
+pub(crate) fn joining_by(
+    alloc: Global,
+    peer: Peer,
+    meaning: &Meaning<'_>,
+    listed: &Listed,
+) -> Result<Joining, Starved>
+    requires meaning { IsMeaning (message_in meaning.now.view) meaning.now }
+    requires short { HasShortBlocks meaning.now }
+    requires token { length meaning.now.view.token.now ≤ longest_token }
+    ensures { IfOk result (IsJoining peer (message_in meaning.now.view) (arc_value listed.now.body)) }
+{
+    let key = request_key(alloc, meaning)?;
+    let body = Arc::try_clone(&listed.body)?;
+    let asked = asked_block(meaning);
+    Ok(Joining {
+        peer,
+        token: Token::of(meaning.view.token),
+        key,
+        szx: szx_of(&asked),
+        body,
+    })
+}
+
+/// The block of a body that is asked for is sent, under its tag and an Observe value; 4.00 where it lies past the end of the body.
+pub(crate) fn send_block(
+    mids: &mut Mids,
+    peer: Peer,
+    meaning: &Meaning<'_>,
+    observe: Option<u32>,
+    tag: Tag,
+    body: &[u8],
+    out: &mut Outbox,
+)
+    requires meaning { IsMeaning (message_in meaning.now.view) meaning.now }
+    requires short { HasShortBlocks meaning.now }
+    requires token { length meaning.now.view.token.now ≤ longest_token }
+    requires observe { ForSome observe (λ value. value < 2 ^ 24) }
+    requires room { length out.old < most_datagrams }
+    ensures { (s : Step) (notes : List Note) → IsStepOf s peer mids.old
+        → Sends (answering s (message_in meaning.now.view) (bodies_of.body_reply (Some tag.0) observe (requests_of.asked_block (message_in meaning.now.view)) body.now) notes) out.old out.new mids.old mids.new }
+{
+    let asked = asked_block(meaning);
+    let reply = body_reply(Some(tag), observe, &asked, body);
+    answer(mids, peer, &meaning.view, &reply, out);
+}
+
+/// The block that is asked for is sent of the answer that is kept under a peer and a key, where one is: that is a use of it, also where the block lies past
+/// its end. Whether one is kept. Takes no memory.
+pub(crate) fn send_kept(
+    transfers: &mut Transfers,
+    now: Moment,
+    mids: &mut Mids,
+    peer: Peer,
+    meaning: &Meaning<'_>,
+    key: &Key,
+    out: &mut Outbox,
+) -> bool
+    requires meaning { IsMeaning (message_in meaning.now.view) meaning.now }
+    requires short { HasShortBlocks meaning.now }
+    requires token { length meaning.now.view.token.now ≤ longest_token }
+    requires room { length out.old < most_datagrams }
+    ensures used { result ≡ true → (at : ℕ) (events : List Event) → TransfersStandFor at events transfers.old → IsUsed at now.0 peer key.now (message_in meaning.now.view) events transfers.new out.old out.new mids.old mids.new }
+    ensures none { result ≡ false → (at : ℕ) (events : List Event) → TransfersStandFor at events transfers.old → kept_answer now.0 (peer, key.now) events ≡ None }
+    ensures unchanged { result ≡ false → (transfers.new ≡ transfers.old) × (out.new ≡ out.old) × (mids.new ≡ mids.old) }
+{
+    if let Some((body, tag)) = transfers.kept_block(now, peer, key) {
+        send_block(mids, peer, meaning, None, tag, body.as_slice(), out);
+        return true;
+    }
+    false
+}

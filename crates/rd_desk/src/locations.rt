@@ -1,0 +1,167 @@
+//! Writes on a registration: updates and removals (RFC 9176 sections 5.3.1 and 5.3.2).
+ghost use Rattle.std.specs.Prelude.{◌≡◌, ◌≢◌, ◌<◌, ◌≤◌, ◌^◌, ℕ, [], List, length, None, IfOk, false};
+ghost use Rattle.message_model.specs.Codes as codes_of;
+ghost use Rattle.message_model.specs.Message.{longest_token};
+ghost use Rattle.message_model.specs.Request.{queries_in};
+ghost use Rattle.record_model.specs.declared.readings.Reading.TheVariants as reading;
+ghost use Rattle.record_model.specs.AllowedParameters.{IsAllowedChange};
+ghost use Rattle.record_model.specs.Criteria.{fault_of};
+ghost use Rattle.record_model.specs.Parameters.{update_values};
+ghost use Rattle.history_model.specs.Versions.{VersionStandsFor};
+ghost use Rattle.event_model.specs.AdmissionOrder.{IsOpen};
+ghost use Rattle.coap_message.specs.Views.{message_in};
+ghost use Rattle.journal_model.specs.declared.steps.Step.{Step};
+ghost use Rattle.journal_model.specs.declared.rows.Row.{Row};
+ghost use Rattle.journal_model.specs.Commits.{settling, updating, removing, on_location};
+ghost use Rattle.journal_model.specs.Effects.{nothing};
+ghost use Rattle.journal_model.specs.Journal.{events, entries};
+ghost use Rattle.journal_model.specs.Requests.{method_of};
+ghost use Rattle.journal_model.specs.Rows.{row_moment};
+ghost use Rattle.rd_desk.specs.Committing.{unless_failing, IsShort};
+ghost use Rattle.rd_desk.specs.Outboxes.{most_datagrams};
+ghost use Rattle.rd_desk.specs.Outcomes.{IsTimely, IsPlanned};
+ghost use Rattle.rd_desk.specs.Replies.{IsReply};
+ghost use Rattle.rd_desk.specs.Stepping.{is_starved_step};
+ghost use Rattle.rd_desk.specs.UnderWay.{UnderWay};
+ghost use Rattle.rd_desk.specs.Shown.{AreToldOf};
+ghost use Rattle.history_model.specs.declared.entries.Entry.{Entry};
+ghost use Rattle.rd_desk.specs.Staging.{IsLaid, IsNextOf};
+
+use crate::outcomes::{Outcome, removed, updated};
+use crate::tables::Tables;
+use crate::{Mids, Outbox, Stepped};
+use coap_options::{Meaning, queries};
+use directory_core::{Board, Directory};
+use query_text::{QueryBad, update_params};
+use rd_base::{Moment, Peer, Starved, UpdateParams};
+use std::alloc::Global;
+
+/// POST (RFC 7252 section 5.8.2).
+const POST: u8 = 2;
+
+/// What an update gives whose query options are not refused. `Starved`: out of memory.
+fn given_change(alloc: Global, meaning: &Meaning<'_>) -> Result<UpdateParams, Starved>
+    requires { fault_of reading.Update (queries_in (message_in meaning.now.view)) ≡ None }
+    ensures value { IfOk result (λ change. change ≡ update_values (queries_in (message_in meaning.now.view))) }
+    ensures allowed { IfOk result IsAllowedChange }
+{
+    match update_params(alloc, queries(meaning)) {
+        Ok(change) => Ok(change),
+        Err(QueryBad::Starved) => Err(Starved),
+        Err(QueryBad::At { .. }) => unreachable!(),
+    }
+}
+
+/// What comes of a request for an update of the registration of a number. `Starved`: out of memory.
+fn update_outcome(
+    alloc: Global,
+    version: &Directory,
+    now: Moment,
+    peer: Peer,
+    meaning: &Meaning<'_>,
+    number: u64,
+) -> Result<Outcome, Starved>
+    requires after_at { version.now.at ≤ now.0 }
+    requires after_sweep { version.now.swept ≤ now.0 }
+    requires moment { now.0 ≤ 10 ^ 15 }
+    requires good { fault_of reading.Update (queries_in (message_in meaning.now.view)) ≡ None }
+    ensures reply { IfOk result (λ o. IsReply o.reply) }
+    ensures short { IfOk result (λ o. IsShort o.reply) }
+    ensures moments { IfOk result (IsTimely now.0) }
+    ensures next { (history : List Entry) → VersionStandsFor 0 history version.now → IfOk result (IsNextOf history) }
+    ensures planned { (rows : List Row) (s : Step) → VersionStandsFor 0 (entries rows) version.now → s.peer ≡ peer
+        → IfOk result (IsPlanned (entries rows) version.now.swept [] (updating rows now.0 s (message_in meaning.now.view) number)) }
+{
+    let change = given_change(alloc, meaning)?;
+    updated(alloc, version, now, number, change, peer)
+}
+
+impl Tables {
+    /// An update of the registration of a number that was admitted is done, or fails where memory runs out.
+    fn commit_update<B: Board>(
+        &mut self,
+        alloc: Global,
+        board: &mut B,
+        mids: &mut Mids,
+        peer: Peer,
+        admitted: Moment,
+        meaning: &Meaning<'_>,
+        number: u64,
+        out: &mut Outbox,
+    ) -> Stepped
+        requires token { length meaning.now.view.token.now ≤ longest_token }
+        requires good { fault_of reading.Update (queries_in (message_in meaning.now.view)) ≡ None }
+        requires room { length out.old < most_datagrams }
+        requires free { B.has_staged board.old ≡ false }
+        requires told { AreToldOf self.old.version (B.told board.old) }
+        ensures way { (rows : List Row) (s : Step) (place : ℕ) → s.peer ≡ peer → IsOpen place s.peer (message_in meaning.now.view).mid admitted.0 (events rows)
+            → UnderWay rows s (is_starved_step result) nothing self.old out.old mids.old
+            → UnderWay rows s (is_starved_step result) (unless_failing (is_starved_step result) place s (message_in meaning.now.view)
+            (settling place s (message_in meaning.now.view) (updating rows (row_moment rows s) s (message_in meaning.now.view) number))) self.new out.new mids.new }
+        ensures laid { IsLaid self.old.version self.new.version (B.staged board.old) (B.staged board.new) }
+        ensures name { B.name board.new ≡ B.name board.old }
+        ensures told { B.told board.new ≡ B.told board.old }
+    {
+        let planned = update_outcome(alloc, &*self.version, self.moment, peer, meaning, number);
+        self.finish(board, mids, peer, &meaning.view, admitted, planned, out)
+    }
+
+    /// A removal of the registration of a number that was admitted is done, or fails where memory runs out.
+    fn commit_removal<B: Board>(
+        &mut self,
+        alloc: Global,
+        board: &mut B,
+        mids: &mut Mids,
+        peer: Peer,
+        admitted: Moment,
+        meaning: &Meaning<'_>,
+        number: u64,
+        out: &mut Outbox,
+    ) -> Stepped
+        requires token { length meaning.now.view.token.now ≤ longest_token }
+        requires room { length out.old < most_datagrams }
+        requires free { B.has_staged board.old ≡ false }
+        requires told { AreToldOf self.old.version (B.told board.old) }
+        ensures way { (rows : List Row) (s : Step) (place : ℕ) → s.peer ≡ peer → IsOpen place s.peer (message_in meaning.now.view).mid admitted.0 (events rows)
+            → UnderWay rows s (is_starved_step result) nothing self.old out.old mids.old
+            → UnderWay rows s (is_starved_step result) (unless_failing (is_starved_step result) place s (message_in meaning.now.view)
+            (settling place s (message_in meaning.now.view) (removing rows (row_moment rows s) s number))) self.new out.new mids.new }
+        ensures laid { IsLaid self.old.version self.new.version (B.staged board.old) (B.staged board.new) }
+        ensures name { B.name board.new ≡ B.name board.old }
+        ensures told { B.told board.new ≡ B.told board.old }
+    {
+        let planned = removed(alloc, &*self.version, self.moment, number);
+        self.finish(board, mids, peer, &meaning.view, admitted, planned, out)
+    }
+
+    /// A write on a registration that was admitted is done: POST updates it, and DELETE removes it (RFC 9176 sections 5.3.1 and 5.3.2).
+    pub(crate) fn commit_location<B: Board>(
+        &mut self,
+        alloc: Global,
+        board: &mut B,
+        mids: &mut Mids,
+        peer: Peer,
+        admitted: Moment,
+        meaning: &Meaning<'_>,
+        number: u64,
+        out: &mut Outbox,
+    ) -> Stepped
+        requires token { length meaning.now.view.token.now ≤ longest_token }
+        requires good { meaning.now.view.code ≡ codes_of.post → fault_of reading.Update (queries_in (message_in meaning.now.view)) ≡ None }
+        requires room { length out.old < most_datagrams }
+        requires free { B.has_staged board.old ≡ false }
+        requires told { AreToldOf self.old.version (B.told board.old) }
+        ensures way { (rows : List Row) (s : Step) (place : ℕ) → s.peer ≡ peer → IsOpen place s.peer (message_in meaning.now.view).mid admitted.0 (events rows)
+            → UnderWay rows s (is_starved_step result) nothing self.old out.old mids.old
+            → UnderWay rows s (is_starved_step result) (unless_failing (is_starved_step result) place s (message_in meaning.now.view)
+            (on_location (method_of (message_in meaning.now.view).code) rows (row_moment rows s) place s (message_in meaning.now.view) number)) self.new out.new mids.new }
+        ensures laid { IsLaid self.old.version self.new.version (B.staged board.old) (B.staged board.new) }
+        ensures name { B.name board.new ≡ B.name board.old }
+        ensures told { B.told board.new ≡ B.told board.old }
+    {
+        if meaning.view.code == POST {
+            return self.commit_update(alloc, board, mids, peer, admitted, meaning, number, out);
+        }
+        self.commit_removal(alloc, board, mids, peer, admitted, meaning, number, out)
+    }
+}

@@ -1,0 +1,160 @@
+//! Simple registrations: the directory answers, and then fetches the links of the device itself (RFC 9176 section 5.1).
+ghost use Rattle.std.specs.Prelude.{◌≡◌, ◌<◌, ◌≤◌, ◌+◌, ℕ, Bool, [], ◌∷◌, ◌++◌, List, length, None};
+ghost use Rattle.message_model.specs.Codes as codes_of;
+ghost use Rattle.message_model.specs.Message.{longest_token};
+ghost use Rattle.message_model.specs.Request.{queries_in};
+ghost use Rattle.record_model.specs.declared.readings.Reading.TheVariants as reading;
+ghost use Rattle.record_model.specs.Criteria.{fault_of};
+ghost use Rattle.event_model.specs.AdmissionOrder.{IsOpen};
+ghost use Rattle.coap_message.specs.Views.{message_in};
+ghost use Rattle.coap_options.specs.Meanings.{IsMeaning};
+ghost use Rattle.journal_model.specs.declared.steps.Step.{Step};
+ghost use Rattle.journal_model.specs.declared.rows.Row.{Row};
+ghost use Rattle.journal_model.specs.Commits.{settling, registering_simply};
+ghost use Rattle.journal_model.specs.Effects as effects;
+ghost use Rattle.journal_model.specs.Effects.{nothing};
+ghost use Rattle.journal_model.specs.Journal.{events};
+ghost use Rattle.simple_registration.specs.Table.{Table};
+ghost use Rattle.rd_desk.specs.Committing.{unless_failing, IsShort};
+ghost use Rattle.rd_desk.specs.Outboxes.{most_datagrams};
+ghost use Rattle.rd_desk.specs.Replies.{IsReply, reply_said};
+ghost use Rattle.rd_desk.specs.Stepping.{is_starved_step};
+ghost use Rattle.rd_desk.specs.UnderWay.{UnderWay};
+
+use crate::heard_responses::ask_next;
+use crate::parameters::given_params;
+use crate::replies::Reply;
+use crate::settling::answer_short;
+use crate::tables::Tables;
+use crate::{Mids, Outbox, Stepped};
+use coap_message::{Kind4, View};
+use coap_options::Meaning;
+use rd_base::{Moment, Peer};
+use simple_registration::StartFault;
+use std::alloc::Global;
+
+/// 2.04 (RFC 7252 section 5.9.1.4).
+const CHANGED: u8 = 68;
+
+/// 5.03 (RFC 7252 section 5.9.3.4).
+const SERVICE_UNAVAILABLE: u8 = 163;
+
+/// 2.04 alone.
+fn changed() -> Reply<'static>
+    ensures said { reply_said result ≡ effects.bare codes_of.changed }
+    ensures reply { IsReply result }
+    ensures short { IsShort result }
+{
+    Reply {
+        code: CHANGED,
+        tag: None,
+        observe: None,
+        location: None,
+        format: false,
+        block2: None,
+        block1: None,
+        payload: b"",
+    }
+}
+
+/// How many Message IDs the answer to a request of this type draws.
+fn drawn_for(kind: Kind4) -> u64
+    ensures { result ≡ effects.drawn_for kind }
+{
+    match kind {
+        Kind4::Con => 0,
+        Kind4::Non | Kind4::Ack | Kind4::Rst => 1,
+    }
+}
+
+impl Tables {
+    /// The 2.04 is sent and settles the write, where the fetch that comes after it started already: whatever fetches the tables have, these stay.
+    fn settle_beside_fetch(
+        &mut self,
+        mids: &mut Mids,
+        peer: Peer,
+        view: &View<'_>,
+        admitted: Moment,
+        out: &mut Outbox,
+    )
+        requires token { length view.now.token.now ≤ longest_token }
+        requires room { length out.old < most_datagrams }
+        ensures way { (fetches : Table) (rows : List Row) (s : Step) (starved : Bool) (place : ℕ) → s.peer ≡ peer → IsOpen place peer view.now.mid admitted.0 (events rows)
+            → UnderWay rows s starved nothing (record self.old { fetches = fetches }) out.old mids.old
+            → UnderWay rows s starved (settling place s (message_in view.now) (record { reply = effects.bare codes_of.changed; notes = [] })) (record self.new { fetches = fetches }) out.new mids.new }
+        ensures fetches { self.new.fetches ≡ self.old.fetches }
+        ensures one { length out.new ≡ length out.old + 1 }
+        ensures version { self.new.version ≡ self.old.version }
+    {
+        let octets = answer_short(mids, peer, view, &changed(), out);
+        self.exchanges.settle(peer, view.mid, admitted, octets);
+    }
+
+    /// A simple registration that was admitted is done: it is answered, and a fetch of the links of its device starts after the answer, unless one runs or
+    /// as many run as may (RFC 9176 section 5.1). The first wait is made from the word. What takes memory comes before anything is sent; where it runs out,
+    /// the write fails.
+    pub(crate) fn commit_simple(
+        &mut self,
+        alloc: Global,
+        word: u32,
+        mids: &mut Mids,
+        peer: Peer,
+        admitted: Moment,
+        meaning: &Meaning<'_>,
+        out: &mut Outbox,
+    ) -> Stepped
+        requires meaning { IsMeaning (message_in meaning.now.view) meaning.now }
+        requires token { length meaning.now.view.token.now ≤ longest_token }
+        requires good { fault_of reading.Simple (queries_in (message_in meaning.now.view)) ≡ None }
+        requires room { length out.old + 1 < most_datagrams }
+        ensures way { (rows : List Row) (s : Step) (place : ℕ) → s.peer ≡ peer → s.word ≡ word → IsOpen place s.peer (message_in meaning.now.view).mid admitted.0 (events rows)
+            → UnderWay rows s (is_starved_step result) nothing self.old out.old mids.old
+            → UnderWay rows s (is_starved_step result) (unless_failing (is_starved_step result) place s (message_in meaning.now.view)
+            (registering_simply (events rows) place s (message_in meaning.now.view))) self.new out.new mids.new }
+        ensures version { self.new.version ≡ self.old.version }
+    {
+        let Ok(params) = given_params(alloc, meaning, true) else {
+            self.fail(mids, peer, &meaning.view, admitted, out);
+            return Stepped::Starved;
+        };
+        let mid = mids.after(drawn_for(meaning.view.kind));
+        match self
+            .fetches
+            .start(alloc, self.moment, word, mid, peer, params)
+        {
+            Ok(ask) => {
+                self.settle_beside_fetch(mids, peer, &meaning.view, admitted, out);
+                ask_next(mids, &ask, out);
+                return Stepped::Done;
+            }
+            Err(StartFault::Fetching(_)) => {
+                self.refuse_write(
+                    mids,
+                    peer,
+                    &meaning.view,
+                    admitted,
+                    SERVICE_UNAVAILABLE,
+                    b"fetching",
+                    out,
+                );
+                return Stepped::Done;
+            }
+            Err(StartFault::FullFetches) => {
+                self.refuse_write(
+                    mids,
+                    peer,
+                    &meaning.view,
+                    admitted,
+                    SERVICE_UNAVAILABLE,
+                    b"fetches",
+                    out,
+                );
+                return Stepped::Done;
+            }
+            Err(StartFault::Starved) => {
+                self.fail(mids, peer, &meaning.view, admitted, out);
+                return Stepped::Starved;
+            }
+        }
+    }
+}

@@ -1,0 +1,317 @@
+//! Registrations whose body comes in blocks (RFC 7959 sections 2.3, 2.5 and 2.9).
+ghost use Rattle.std.specs.Prelude.{◌≡◌, ◌≢◌, ◌<◌, ◌≤◌, ◌^◌, ℕ, Bool, [], ◌∷◌, List, length, None, IfOk, false};
+ghost use Rattle.rd_base.specs.declared.peers.Peer.{Peer};
+ghost use Rattle.message_model.specs.Blocks.{IsBlock};
+ghost use Rattle.message_model.specs.Codes as codes_of;
+ghost use Rattle.message_model.specs.Message.{longest_token};
+ghost use Rattle.message_model.specs.Request.{queries_in};
+ghost use Rattle.record_model.specs.declared.readings.Reading.TheVariants as reading;
+ghost use Rattle.record_model.specs.Criteria.{fault_of};
+ghost use Rattle.record_model.specs.Parameters.{registration_values};
+ghost use Rattle.history_model.specs.declared.entries.Entry.{Entry};
+ghost use Rattle.history_model.specs.Versions.{VersionStandsFor};
+ghost use Rattle.event_model.specs.declared.notes.Note.{Note};
+ghost use Rattle.event_model.specs.declared.notes.Note.TheVariants as note;
+ghost use Rattle.event_model.specs.AdmissionOrder.{IsOpen};
+ghost use Rattle.coap_message.specs.Views.{message_in};
+ghost use Rattle.coap_options.specs.Meanings.{IsMeaning};
+ghost use Rattle.journal_model.specs.declared.steps.Step.{Step};
+ghost use Rattle.journal_model.specs.declared.rows.Row.{Row};
+ghost use Rattle.journal_model.specs.Changes as changes;
+ghost use Rattle.journal_model.specs.Changes.{registration};
+ghost use Rattle.journal_model.specs.Commits.{settling};
+ghost use Rattle.journal_model.specs.Effects.{Effects, nothing, joined, noting};
+ghost use Rattle.journal_model.specs.Journal.{events, entries};
+ghost use Rattle.journal_model.specs.Registrations.{block1_option, block_uploaded};
+ghost use Rattle.journal_model.specs.Rows.{row_moment};
+ghost use Rattle.transfers.specs.TransferEvents.{block_answer};
+ghost use Rattle.rd_desk.specs.declared.mids.Mids.{Mids};
+ghost use Rattle.rd_desk.specs.Committing.{unless_failing, IsShort};
+ghost use Rattle.rd_desk.specs.Outboxes.{most_datagrams};
+ghost use Rattle.rd_desk.specs.Outcomes.{IsTimely, IsPlanned, IsMadeAt};
+ghost use Rattle.rd_desk.specs.Replies.{IsReply, reply_said};
+ghost use Rattle.rd_desk.specs.Stepping.{is_starved_step};
+ghost use Rattle.rd_desk.specs.UnderWay.{UnderWay};
+ghost use Rattle.rd_desk.specs.Shown.{AreToldOf};
+ghost use Rattle.rd_desk.specs.Staging.{IsLaid, IsLeftBy, IsNextOf};
+
+use crate::outcomes::{Outcome, registered};
+use crate::parameters::given_params;
+use crate::replies::Reply;
+use crate::staging::staged;
+use crate::tables::Tables;
+use crate::{Mids, Outbox, Stepped};
+use coap_message::View;
+use coap_options::{Meaning, request_key};
+use directory_core::{Board, Directory};
+use message_model::Block;
+use rd_base::{Key, Moment, Peer, Starved};
+use std::alloc::Global;
+use transfers::Upload;
+
+/// 2.31, to a block that is collected (RFC 7959 section 2.9.1).
+const CONTINUE: u8 = 95;
+
+/// 4.08, to a block that does not begin where what is collected ends (RFC 7959 section 2.9.2).
+const REQUEST_ENTITY_INCOMPLETE: u8 = 136;
+
+/// 4.13, to a block with which more would be collected than a body may have (RFC 7959 section 2.9.3).
+const REQUEST_ENTITY_TOO_LARGE: u8 = 141;
+
+/// 5.03, to a first block where as many other uploads live as may (RFC 7252 section 5.9.3.4).
+const SERVICE_UNAVAILABLE: u8 = 163;
+
+/// 2.31 to a block that is collected, and more follow.
+fn continued(block: Block) -> Reply<'static>
+    requires { IsBlock block }
+    ensures said { reply_said result ≡ record { code = codes_of.continue; options = block1_option block; payload = [] } }
+    ensures reply { IsReply result }
+    ensures short { IsShort result }
+{
+    Reply {
+        code: CONTINUE,
+        tag: None,
+        observe: None,
+        location: None,
+        format: false,
+        block2: None,
+        block1: Some(block),
+        payload: b"",
+    }
+}
+
+/// What comes of a registration by the last of its blocks, which makes its body whole. `Starved`: out of memory.
+fn body_outcome(
+    alloc: Global,
+    version: &Directory,
+    now: Moment,
+    peer: Peer,
+    meaning: &Meaning<'_>,
+    block: &Block,
+    body: &[u8],
+) -> Result<Outcome, Starved>
+    requires after_at { version.now.at ≤ now.0 }
+    requires after_sweep { version.now.swept ≤ now.0 }
+    requires moment { now.0 ≤ 10 ^ 15 }
+    requires good { fault_of reading.Register (queries_in (message_in meaning.now.view)) ≡ None }
+    requires block { IsBlock block.now }
+    ensures moments { IfOk result (IsTimely now.0) }
+    ensures reply { IfOk result (λ o. IsReply o.reply) }
+    ensures short { IfOk result (λ o. IsShort o.reply) }
+    ensures next { (history : List Entry) → VersionStandsFor 0 history version.now → IfOk result (IsNextOf history) }
+    ensures planned { (history : List Entry) (s : Step) (further : List Note) → VersionStandsFor 0 history version.now → s.peer ≡ peer
+        → IfOk result (IsPlanned history version.now.swept further
+        (registration history now.0 s (registration_values (queries_in (message_in meaning.now.view))) body.now (block1_option block.now) further)) }
+{
+    let params = given_params(alloc, meaning, false)?;
+    registered(alloc, version, now, peer, params, body, Some(*block))
+}
+
+impl Tables {
+    /// How a block is answered that comes from a peer, under the key of its request. One that more follow is collected where it is answered by `More`;
+    /// after any other answer all is as before.
+    fn take_block(
+        &mut self,
+        alloc: Global,
+        peer: Peer,
+        key: &Key,
+        block: &Block,
+        piece: &[u8],
+    ) -> Upload
+        ensures answer { (rows : List Row) (s : Step) (starved : Bool) (out : List (Peer × List ℕ)) (mids : Mids) → s.peer ≡ peer → UnderWay rows s starved nothing self.old out mids → result ≢ Upload.Starved
+            → result ≡ block_answer (row_moment rows s) (s.peer, key.now) block.now piece.now (events rows) }
+        ensures more { (rows : List Row) (s : Step) (starved : Bool) (out : List (Peer × List ℕ)) (mids : Mids) → s.peer ≡ peer → result ≡ Upload.More → UnderWay rows s starved nothing self.old out mids
+            → UnderWay rows s starved (joined nothing (noting (note.Piece s.peer key.now block.now.num piece.now ∷ []))) self.new out mids }
+        ensures other { result ≢ Upload.More → self.new ≡ self.old }
+        ensures version { self.new.version ≡ self.old.version }
+    {
+        self.transfers
+            .upload(alloc, self.moment, peer, key, block, piece)
+    }
+
+    /// The upload of a registration that is accepted ends. Takes no memory.
+    fn end_upload(&mut self, peer: Peer, key: &Key)
+        ensures way { (rows : List Row) (s : Step) (starved : Bool) (done : Effects) (out : List (Peer × List ℕ)) (mids : Mids) → s.peer ≡ peer → UnderWay rows s starved done self.old out mids
+            → UnderWay rows s starved (joined done (noting (note.Finished s.peer key.now ∷ []))) self.new out mids }
+        ensures version { self.new.version ≡ self.old.version }
+    {
+        self.transfers.end_upload(peer, key);
+    }
+
+    /// What is planned of a registration by the last of its blocks is done: where it is accepted, its entry is made and its upload ends; else its upload
+    /// stays, so that the block can come again. In both cases the write is answered, and settled by that. Takes no memory.
+    fn settle_upload(
+        &mut self,
+        mids: &mut Mids,
+        peer: Peer,
+        view: &View<'_>,
+        admitted: Moment,
+        key: &Key,
+        outcome: Outcome,
+        out: &mut Outbox,
+    )
+        requires token { length view.now.token.now ≤ longest_token }
+        requires timely { IsTimely self.old.moment outcome }
+        requires reply { IsReply outcome.reply }
+        requires short { IsShort outcome.reply }
+        requires room { length out.old < most_datagrams }
+        ensures way { (rows : List Row) (s : Step) (starved : Bool) (place : ℕ) (meant : changes.Outcome) → s.peer ≡ peer → IsOpen place peer view.now.mid admitted.0 (events rows)
+            → IsMadeAt (row_moment rows s) meant → IsPlanned (entries rows) self.old.version.swept (note.Finished s.peer key.now ∷ []) meant outcome
+            → UnderWay rows s starved nothing self.old out.old mids.old → UnderWay rows s starved (settling place s (message_in view.now) meant) self.new out.new mids.new }
+        ensures version { IsLeftBy self.old.version self.new.version outcome.entering }
+    {
+        let Outcome { reply, entering } = outcome;
+        let Some(entering) = entering else {
+            self.settle(mids, peer, view, admitted, &reply, out);
+            return;
+        };
+        self.enter(entering);
+        self.end_upload(peer, key);
+        self.settle(mids, peer, view, admitted, &reply, out);
+    }
+
+    /// A registration whose last block came is done with its whole body. What takes memory comes before anything changes; where it runs out, the write fails.
+    fn commit_body<B: Board>(
+        &mut self,
+        alloc: Global,
+        board: &mut B,
+        mids: &mut Mids,
+        peer: Peer,
+        admitted: Moment,
+        meaning: &Meaning<'_>,
+        block: &Block,
+        key: &Key,
+        body: &[u8],
+        out: &mut Outbox,
+    ) -> Stepped
+        requires token { length meaning.now.view.token.now ≤ longest_token }
+        requires good { fault_of reading.Register (queries_in (message_in meaning.now.view)) ≡ None }
+        requires block { IsBlock block.now }
+        requires room { length out.old < most_datagrams }
+        requires free { B.has_staged board.old ≡ false }
+        requires told { AreToldOf self.old.version (B.told board.old) }
+        ensures way { (rows : List Row) (s : Step) (place : ℕ) → s.peer ≡ peer → IsOpen place peer meaning.now.view.mid admitted.0 (events rows)
+            → UnderWay rows s (is_starved_step result) nothing self.old out.old mids.old
+            → UnderWay rows s (is_starved_step result) (unless_failing (is_starved_step result) place s (message_in meaning.now.view)
+            (settling place s (message_in meaning.now.view)
+            (registration (entries rows) (row_moment rows s) s (registration_values (queries_in (message_in meaning.now.view))) body.now (block1_option block.now) (note.Finished s.peer key.now ∷ []))))
+            self.new out.new mids.new }
+        ensures laid { IsLaid self.old.version self.new.version (B.staged board.old) (B.staged board.new) }
+        ensures name { B.name board.new ≡ B.name board.old }
+        ensures told { B.told board.new ≡ B.told board.old }
+    {
+        let planned = body_outcome(
+            alloc,
+            &*self.version,
+            self.moment,
+            peer,
+            meaning,
+            block,
+            body,
+        );
+        match staged(board, planned) {
+            Ok(outcome) => {
+                self.settle_upload(mids, peer, &meaning.view, admitted, key, outcome, out);
+                return Stepped::Done;
+            }
+            Err(_) => {
+                self.fail(mids, peer, &meaning.view, admitted, out);
+                return Stepped::Starved;
+            }
+        }
+    }
+
+    /// A block of a registration that was admitted is done (RFC 7959 sections 2.5 and 2.9). What takes memory comes before anything changes; where it runs
+    /// out, the write fails.
+    pub(crate) fn commit_block<B: Board>(
+        &mut self,
+        alloc: Global,
+        board: &mut B,
+        mids: &mut Mids,
+        peer: Peer,
+        admitted: Moment,
+        meaning: &Meaning<'_>,
+        block: &Block,
+        out: &mut Outbox,
+    ) -> Stepped
+        requires meaning { IsMeaning (message_in meaning.now.view) meaning.now }
+        requires token { length meaning.now.view.token.now ≤ longest_token }
+        requires good { fault_of reading.Register (queries_in (message_in meaning.now.view)) ≡ None }
+        requires block { IsBlock block.now }
+        requires room { length out.old < most_datagrams }
+        requires free { B.has_staged board.old ≡ false }
+        requires told { AreToldOf self.old.version (B.told board.old) }
+        ensures way { (rows : List Row) (s : Step) (place : ℕ) → s.peer ≡ peer → IsOpen place s.peer (message_in meaning.now.view).mid admitted.0 (events rows)
+            → UnderWay rows s (is_starved_step result) nothing self.old out.old mids.old
+            → UnderWay rows s (is_starved_step result) (unless_failing (is_starved_step result) place s (message_in meaning.now.view)
+            (settling place s (message_in meaning.now.view) (block_uploaded rows (row_moment rows s) s (message_in meaning.now.view) block.now))) self.new out.new mids.new }
+        ensures laid { IsLaid self.old.version self.new.version (B.staged board.old) (B.staged board.new) }
+        ensures name { B.name board.new ≡ B.name board.old }
+        ensures told { B.told board.new ≡ B.told board.old }
+    {
+        let Ok(key) = request_key(alloc, meaning) else {
+            self.fail(mids, peer, &meaning.view, admitted, out);
+            return Stepped::Starved;
+        };
+        match self.take_block(alloc, peer, &key, block, meaning.view.payload) {
+            Upload::More => {
+                self.settle(mids, peer, &meaning.view, admitted, &continued(*block), out);
+                return Stepped::Done;
+            }
+            Upload::Whole(body) => {
+                return self.commit_body(
+                    alloc,
+                    board,
+                    mids,
+                    peer,
+                    admitted,
+                    meaning,
+                    block,
+                    &key,
+                    body.as_slice(),
+                    out,
+                );
+            }
+            Upload::OutOfOrder => {
+                self.refuse_write(
+                    mids,
+                    peer,
+                    &meaning.view,
+                    admitted,
+                    REQUEST_ENTITY_INCOMPLETE,
+                    b"order",
+                    out,
+                );
+                return Stepped::Done;
+            }
+            Upload::TooLarge => {
+                self.refuse_write(
+                    mids,
+                    peer,
+                    &meaning.view,
+                    admitted,
+                    REQUEST_ENTITY_TOO_LARGE,
+                    b"size",
+                    out,
+                );
+                return Stepped::Done;
+            }
+            Upload::FullUploads => {
+                self.refuse_write(
+                    mids,
+                    peer,
+                    &meaning.view,
+                    admitted,
+                    SERVICE_UNAVAILABLE,
+                    b"uploads",
+                    out,
+                );
+                return Stepped::Done;
+            }
+            Upload::Starved => {
+                self.fail(mids, peer, &meaning.view, admitted, out);
+                return Stepped::Starved;
+            }
+        }
+    }
+}
