@@ -150,13 +150,26 @@ impl<B: Board + Drop> Desk<B> {
     pub fn keep(&mut self, now: Moment, mids: &mut Mids, job: KeepJob, out: &mut Outbox) -> Stepped
         requires moment { now.0 ≤ 10 ^ 15 }
         requires empty { out.old ≡ [] }
-        requires free { B.has_staged self.old.board ≡ false }
-        requires told { AreToldOf self.old.tables.version (B.told self.old.board) }
+        // The desk stands for the journal with the row of the step, which is what was sent and drawn.
         ensures made { (rows : List Row) (s : Step) → s.kind ≡ step.Keep job.answer.body job.answer.tag → s.peer ≡ job.peer → s.datagram ≡ job.datagram → IsCalled rows s now mids.old self.old.tables
             → Made rows (row rows s (is_starved_step result)) self.new.tables out.new mids.old mids.new }
         ensures board { self.new.board ≡ self.old.board }
     {
         self.tables.keep(self.alloc, now, mids, job, out)
+    }
+
+    /// The step in which time passes, at a moment in milliseconds that is at most 10^15; one below that of the directory is lifted to it. Notices and requests whose wait has ended
+    /// are sent again, and observers that are due are told, 64 at most; the first waits of what goes out are made from the word. Then what is old or has lapsed is dropped. `out` is
+    /// empty, and gets what is sent. `Starved`: out of memory; then nobody is told anew, and the rest is done (RFC 7252 section 4.2, RFC 7641 sections 4.2 and 4.5).
+    pub fn tick(&mut self, now: Moment, word: u32, mids: &mut Mids, out: &mut Outbox) -> Stepped
+        requires moment { now.0 ≤ 10 ^ 15 }
+        requires empty { out.old ≡ [] }
+        // The desk stands for the journal with the row of the step, which is what was sent and drawn.
+        ensures made { (rows : List Row) (s : Step) → s.kind ≡ step.Tick → s.word ≡ word → IsCalled rows s now mids.old self.old.tables
+            → Made rows (row rows s (is_starved_step result)) self.new.tables out.new mids.old mids.new }
+        ensures board { self.new.board ≡ self.old.board }
+    {
+        self.tables.tick(self.alloc, now, word, mids, out)
     }
 
     /// The version of the registrations now.
