@@ -1,5 +1,5 @@
 //! The core of the directory: one call is one step, and does what the journal says of its row (RFC 9176, RFC 7252, RFC 7641, RFC 7959).
-ghost use Rattle.std.specs.Prelude.{◌≡◌, ◌≤◌, ◌^◌, ℕ, false, [], List, Some, None, Ok, IfOk, IfSome, length, slice_get};
+ghost use Rattle.std.specs.Prelude.{◌≡◌, ◌≤◌, ◌^◌, ℕ, false, [], List, Some, None, Ok, IfOk, IfErr, IfSome, length, slice_get};
 ghost use Rattle.std.specs.Arc.{arc_value};
 ghost use Rattle.std.specs.Borrow.{Lends, sem};
 ghost use Rattle.message_model.specs.Message.{Message};
@@ -32,7 +32,7 @@ use std::sync::Arc;
 
 /// A directory. Contracts see what it keeps, which says the journal that it stands for, and the board that its versions are laid on.
 #[derive(Drop)]
-pub struct Desk<B: Board + Drop> {
+pub struct Desk<B: Board> {
     /// Where its memory comes from.
     alloc: Global,
     /// What it keeps.
@@ -41,7 +41,7 @@ pub struct Desk<B: Board + Drop> {
     board: B,
 }
 
-impl<B: Board + Drop> Model for Desk<B> {
+impl<B: Board> Model for Desk<B> {
     ghost use Rattle.rd_desk.specs.Shown.{Shown};
 
     ghost Value = { Shown B };
@@ -49,18 +49,43 @@ impl<B: Board + Drop> Model for Desk<B> {
     ghost view = { λ d. record { tables = d.tables; board = d.board } };
 }
 
-impl<B: Board + Drop> Desk<B> {
-    ghost use Rattle.rd_desk.specs.contracts.desk.Desk.{the_row};
+/// A board for whose desk there was no memory.
+#[derive(Drop)]
+pub struct Unmade<B> {
+    /// The board that was handed in.
+    pub board: B,
+}
 
-    /// A directory in which nothing was done, with all the room that its tables take. Nothing is staged on the board, and its entries, where it tells them, are none.
-    /// `Starved`: out of memory.
+impl<B: Board + Drop> Desk<B> {
+    /// As [`Desk::make_or_return`], for a board that can be let go. `Starved`: out of memory.
     pub fn make(alloc: Global, board: B) -> Result<Desk<B>, Starved>
         requires free { B.has_staged board ≡ false }
         requires told { IfSome (B.told board) (λ history. history ≡ []) }
         ensures stands { IfOk result (λ desk. StandsFor [] desk.tables) }
         ensures board { IfOk result (λ desk. desk.board ≡ board) }
     {
-        let tables = Tables::make(alloc)?;
+        match Desk::make_or_return(alloc, board) {
+            Ok(desk) => Ok(desk),
+            Err(Unmade { board: _ }) => Err(Starved),
+        }
+    }
+}
+
+impl<B: Board> Desk<B> {
+    ghost use Rattle.rd_desk.specs.contracts.desk.Desk.{the_row};
+
+    /// A directory in which nothing was done, with all the room that its tables take. Nothing is staged on the board, and its entries, where it tells them, are none.
+    /// Out of memory the board comes back.
+    pub fn make_or_return(alloc: Global, board: B) -> Result<Desk<B>, Unmade<B>>
+        requires free { B.has_staged board ≡ false }
+        requires told { IfSome (B.told board) (λ history. history ≡ []) }
+        ensures stands { IfOk result (λ desk. StandsFor [] desk.tables) }
+        ensures board { IfOk result (λ desk. desk.board ≡ board) }
+        ensures back { IfErr result (λ unmade. unmade.board ≡ board) }
+    {
+        let Ok(tables) = Tables::make(alloc) else {
+            return Err(Unmade { board });
+        };
         Ok(Desk {
             alloc,
             tables,
