@@ -1,5 +1,5 @@
 //! The core of the directory: one call is one step, and does what the journal says of its row (RFC 9176, RFC 7252, RFC 7641, RFC 7959).
-ghost use Rattle.std.specs.Prelude.{◌≡◌, ◌≤◌, ◌^◌, ℕ, false, [], List, Some, None, Ok, IfOk, IfSome, length, slice_get};
+ghost use Rattle.std.specs.Prelude.{◌≡◌, ◌≤◌, ◌^◌, ℕ, false, [], List, Some, None, Ok, IfOk, IfErr, IfSome, length, slice_get};
 ghost use Rattle.std.specs.Arc.{arc_value};
 ghost use Rattle.std.specs.Borrow.{Lends, sem};
 ghost use Rattle.message_model.specs.Message.{Message};
@@ -32,7 +32,7 @@ use std::sync::Arc;
 
 /// A directory. Contracts see what it keeps, which says the journal that it stands for, and the board that its versions are laid on.
 #[derive(Drop)]
-pub struct Desk<B: Board + Drop> {
+pub struct Desk<B: Board> {
     /// Where its memory comes from.
     alloc: Global,
     /// What it keeps.
@@ -41,7 +41,7 @@ pub struct Desk<B: Board + Drop> {
     board: B,
 }
 
-impl<B: Board + Drop> Model for Desk<B> {
+impl<B: Board> Model for Desk<B> {
     ghost use Rattle.rd_desk.specs.Shown.{Shown};
 
     ghost Value = { Shown B };
@@ -49,18 +49,43 @@ impl<B: Board + Drop> Model for Desk<B> {
     ghost view = { λ d. record { tables = d.tables; board = d.board } };
 }
 
-impl<B: Board + Drop> Desk<B> {
-    ghost use Rattle.rd_desk.specs.contracts.desk.Desk.{the_row};
+/// A board for whose desk there was no memory.
+#[derive(Drop)]
+pub struct Unmade<B> {
+    /// The board that was handed in.
+    pub board: B,
+}
 
-    /// A directory in which nothing was done, with all the room that its tables take. Nothing is staged on the board, and its entries, where it tells them, are none.
-    /// `Starved`: out of memory.
+impl<B: Board + Drop> Desk<B> {
+    /// As [`Desk::make_or_return`], for a board that can be let go. `Starved`: out of memory.
     pub fn make(alloc: Global, board: B) -> Result<Desk<B>, Starved>
         requires free { B.has_staged board ≡ false }
         requires told { IfSome (B.told board) (λ history. history ≡ []) }
         ensures stands { IfOk result (λ desk. StandsFor [] desk.tables) }
         ensures board { IfOk result (λ desk. desk.board ≡ board) }
     {
-        let tables = Tables::make(alloc)?;
+        match Desk::make_or_return(alloc, board) {
+            Ok(desk) => Ok(desk),
+            Err(Unmade { board: _ }) => Err(Starved),
+        }
+    }
+}
+
+impl<B: Board> Desk<B> {
+    ghost use Rattle.rd_desk.specs.contracts.desk.Desk.{the_row};
+
+    /// A directory in which nothing was done, with all the room that its tables take. Nothing is staged on the board, and its entries, where it tells them, are none.
+    /// Out of memory the board comes back.
+    pub fn make_or_return(alloc: Global, board: B) -> Result<Desk<B>, Unmade<B>>
+        requires free { B.has_staged board ≡ false }
+        requires told { IfSome (B.told board) (λ history. history ≡ []) }
+        ensures stands { IfOk result (λ desk. StandsFor [] desk.tables) }
+        ensures board { IfOk result (λ desk. desk.board ≡ board) }
+        ensures back { IfErr result (λ unmade. unmade.board ≡ board) }
+    {
+        let Ok(tables) = Tables::make(alloc) else {
+            return Err(Unmade { board });
+        };
         Ok(Desk {
             alloc,
             tables,
@@ -150,13 +175,26 @@ impl<B: Board + Drop> Desk<B> {
     pub fn keep(&mut self, now: Moment, mids: &mut Mids, job: KeepJob, out: &mut Outbox) -> Stepped
         requires moment { now.0 ≤ 10 ^ 15 }
         requires empty { out.old ≡ [] }
-        requires free { B.has_staged self.old.board ≡ false }
-        requires told { AreToldOf self.old.tables.version (B.told self.old.board) }
+        // The desk stands for the journal with the row of the step, which is what was sent and drawn.
         ensures made { (rows : List Row) (s : Step) → s.kind ≡ step.Keep job.answer.body job.answer.tag → s.peer ≡ job.peer → s.datagram ≡ job.datagram → IsCalled rows s now mids.old self.old.tables
             → Made rows (row rows s (is_starved_step result)) self.new.tables out.new mids.old mids.new }
         ensures board { self.new.board ≡ self.old.board }
     {
         self.tables.keep(self.alloc, now, mids, job, out)
+    }
+
+    /// The step in which time passes, at a moment in milliseconds that is at most 10^15; one below that of the directory is lifted to it. Notices and requests whose wait has ended
+    /// are sent again, and observers that are due are told, 64 at most; the first waits of what goes out are made from the word. Then what is old or has lapsed is dropped. `out` is
+    /// empty, and gets what is sent. `Starved`: out of memory; then nobody is told anew, and the rest is done (RFC 7252 section 4.2, RFC 7641 sections 4.2 and 4.5).
+    pub fn tick(&mut self, now: Moment, word: u32, mids: &mut Mids, out: &mut Outbox) -> Stepped
+        requires moment { now.0 ≤ 10 ^ 15 }
+        requires empty { out.old ≡ [] }
+        // The desk stands for the journal with the row of the step, which is what was sent and drawn.
+        ensures made { (rows : List Row) (s : Step) → s.kind ≡ step.Tick → s.word ≡ word → IsCalled rows s now mids.old self.old.tables
+            → Made rows (row rows s (is_starved_step result)) self.new.tables out.new mids.old mids.new }
+        ensures board { self.new.board ≡ self.old.board }
+    {
+        self.tables.tick(self.alloc, now, word, mids, out)
     }
 
     /// The version of the registrations now.

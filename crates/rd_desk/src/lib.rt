@@ -49,7 +49,7 @@ mod watching;
 mod write_jobs;
 
 pub use admissions::Admitted;
-pub use desk::Desk;
+pub use desk::{Desk, Unmade};
 pub use jobs::Job;
 pub use keep_jobs::KeepJob;
 pub use looks::{Looked, look};
