@@ -8,5 +8,6 @@ pub mod WholeTick
 pub mod PlanLaws
 pub mod SkipLaws
 pub mod PlanSteps
+pub mod PlanCases
 pub mod CarryLaws
 pub mod EndLaws

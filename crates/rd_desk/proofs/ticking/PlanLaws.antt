@@ -62,9 +62,11 @@ planned_begins rows s starved current d p out mids items peers kept way =
     let few = few_observers rows way.journal in
     let given = way.stands.observed in
     record {
+      begins = refl;
       done = first;
       watching = d.watching;
       stands = way.stands.watching;
+      standing = refl;
       same = refl;
       awaited = λ peer. sym (ap (λ (ps : List Peer). is_awaited peer d.watching.observers || list_any (λ (q : Peer). is_same_peer q peer) ps) peers ∙ or_false (is_awaited peer d.watching.observers));
       drew = drew ∙ sym none;

@@ -32,7 +32,7 @@ use Rattle.rd_desk.proofs.ticking.PlanLaws.{free_before}
 
 -- ---- the first that passes one test, and the first that passes a stronger one
 
-first-least : (test : Watcher → Bool) (i j : ℕ) (xs : List Watcher) → first_from test i xs ≡ Some j → i ≤ j
+pub first-least : (test : Watcher → Bool) (i j : ℕ) (xs : List Watcher) → first_from test i xs ≡ Some j → i ≤ j
 first-least test i j [] h = absurd (let none_is : None ≡ Some j = h in cc)
 first-least test i j (x ∷ xs) h = by (test x) h (λ g. first-least test (i + 1) j xs g)
   where
@@ -60,7 +60,7 @@ first-either weak strong stronger i j k (y ∷ ys) x b h at got is = by (weak y)
         ∙ more g n (omega (arith, here)) there
 
 -- the first passes
-first-passes : (test : Watcher → Bool) (i j k : ℕ) (xs : List Watcher) (x : Watcher) → first_from test i xs ≡ Some j → j ≡ i + k → slice_get xs k ≡ Some x → test x ≡ true
+pub first-passes : (test : Watcher → Bool) (i j k : ℕ) (xs : List Watcher) (x : Watcher) → first_from test i xs ≡ Some j → j ≡ i + k → slice_get xs k ≡ Some x → test x ≡ true
 first-passes test i j k [] x h at got = absurd (let none_is : None ≡ Some j = h in cc)
 first-passes test i j k (y ∷ ys) x h at got = by (test y) refl h k at got (λ g n here there. first-passes test (i + 1) j n ys x g here there)
   where
@@ -183,9 +183,11 @@ pub planned_skips : (rows : List Row) (s : Step) (starved : Bool) (current : Lis
     → PlannedUpTo rows s starved current whole first ws given p from → PlannedUpTo rows s starved current whole first ws given p (index + 1)
 unfolding next_ready
 planned_skips rows s starved current whole first ws given p from index x desk few is got planned h = record {
+  begins = h.begins;
   done = h.done;
   watching = h.watching;
   stands = h.stands;
+  standing = h.standing;
   same = after;
   awaited = h.awaited;
   drew = h.drew;
