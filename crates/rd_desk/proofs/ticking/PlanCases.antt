@@ -50,7 +50,7 @@ use Rattle.rd_desk.specs.declared.planning.Planned.{Planned}
 use Rattle.rd_desk.specs.declared.planning.Planned.TheVariants as planned
 use Rattle.rd_desk.specs.Desks.{Seen, StandsFor}
 use Rattle.rd_desk.specs.Noticing.{forming}
-use Rattle.rd_desk.specs.Planning.{block_of_notice, block_named, notice_spelled, kept_by, AddsNotice, forming_for, kept_of, keeping_noted, planned_done, planned_kept, MayBeSent, AreDone, PlannedUpTo}
+use Rattle.rd_desk.specs.Planning.{block_of_notice, block_named, kept_by, AddsNotice, forming_for, kept_of, keeping_noted, planned_done, MayBeSent, AreDone, PlannedUpTo}
 use Rattle.rd_desk.specs.UnderWay.{UnderWay}
 use Rattle.rd_desk.specs.Watching.{Watching, WatchingStandsFor}
 use Rattle.rd_desk.specs.Writing.{notice_saying}
@@ -61,7 +61,7 @@ use Rattle.rd_desk.proofs.parts.EffectLaws.{joined-assoc}
 use Rattle.rd_desk.proofs.ticking.AgainWalk.{drop-changed}
 use Rattle.rd_desk.proofs.ticking.BoundLaws.{asking_observers}
 use Rattle.rd_desk.proofs.ticking.NoticeWalk.{events-with, drop-drop, got-drop}
-use Rattle.rd_desk.proofs.ticking.PlanSteps.{awaited-seen, Adds, Grows, planned_adds}
+use Rattle.rd_desk.proofs.ticking.PlanSteps.{awaited-seen, planned_adds}
 use Rattle.rd_desk.proofs.ticking.SkipLaws.{first-least, first-passes}
 use Rattle.rd_desk.proofs.ticking.WholeTick.{again_draws}
 

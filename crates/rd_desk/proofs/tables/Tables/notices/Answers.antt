@@ -1,13 +1,11 @@
-use Rattle.std.proofs.Common.{◌≡◌, List, [], not, true, false, is_ok, map, refl, sym, ap, subst, ◌∙◌, arith}
-use Rattle.std.proofs.lemmas.Bool.Decides.{nat_tests}
-use Rattle.history_model.specs.Versions.{Version, VersionStandsFor}
+use Rattle.std.proofs.Common.{◌≡◌, List, not, true, false, is_ok, map, sym, ap, subst, ◌∙◌}
+use Rattle.history_model.specs.Versions.{VersionStandsFor}
 use Rattle.event_model.specs.Events.{noted}
 use Rattle.journal_model.specs.Rows.{row_moment}
 use Rattle.journal_model.specs.Ticks.{ticking, notices_again, notices}
 use Rattle.transfers.specs.Keeping.{NamedAnswer}
 use Rattle.transfers.specs.TransferEvents.{AnswersStandFor, kept_note}
 use Rattle.rd_desk.specs.Desks.{Seen}
-use Rattle.rd_desk.specs.Planning.{AreDone, CarryingOut}
 use Rattle.rd_desk.proofs.ticking.PlanLaws.{planned_begins}
 use Rattle.rd_desk.proofs.ticking.PlanCases.{way_kept, when_ok, zero_by, tag_again, moment_again, nothing_planned}
 use Rattle.rd_desk.proofs.ticking.CarryLaws.{carrying_begins, adopted, none_planned}
