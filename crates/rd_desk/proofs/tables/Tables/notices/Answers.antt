@@ -7,7 +7,7 @@ use Rattle.transfers.specs.Keeping.{NamedAnswer}
 use Rattle.transfers.specs.TransferEvents.{AnswersStandFor, kept_note}
 use Rattle.rd_desk.specs.Desks.{Seen}
 use Rattle.rd_desk.proofs.ticking.PlanLaws.{planned_begins}
-use Rattle.rd_desk.proofs.ticking.PlanCases.{way_kept, when_ok, zero_by, tag_again, moment_again, nothing_planned}
+use Rattle.rd_desk.proofs.ticking.PlanWay.{way_kept, when_ok, zero_by, tag_again, moment_again, nothing_planned}
 use Rattle.rd_desk.proofs.ticking.CarryLaws.{carrying_begins, adopted, none_planned}
 use Rattle.rd_desk.proofs.tables.Tables.notices.Goals as goal
 

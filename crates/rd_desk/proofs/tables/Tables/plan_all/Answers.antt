@@ -3,7 +3,7 @@ use Rattle.observers.specs.Watchers.{next_ready}
 use Rattle.rd_desk.specs.Desks.{Seen}
 use Rattle.rd_desk.specs.Planning.{PlannedUpTo}
 use Rattle.rd_desk.proofs.ticking.PlanLaws.{planned_none, planned_full}
-use Rattle.rd_desk.proofs.ticking.PlanCases.{way_kept}
+use Rattle.rd_desk.proofs.ticking.PlanWay.{way_kept}
 use Rattle.rd_desk.proofs.tables.Tables.plan_all.Goals as goal
 
 pub returns-in_default-clause-planned : goal.returns-in_default-clause-planned

@@ -8,7 +8,8 @@ use Rattle.journal_model.specs.UnfinishedRow.{making}
 use Rattle.observers.specs.Watchers.{Watcher}
 use Rattle.rd_desk.specs.Desks.{Seen}
 use Rattle.rd_desk.proofs.ticking.SkipLaws.{planned_skips}
-use Rattle.rd_desk.proofs.ticking.PlanCases.{planned_unchanged, planned_notice, on_ok}
+use Rattle.rd_desk.proofs.ticking.PlanCases.{planned_unchanged, planned_notice}
+use Rattle.rd_desk.proofs.ticking.PlanWay.{on_ok}
 use Rattle.rd_desk.proofs.tables.Tables.plan_one.Goals as goal
 
 pub returns-then-waits_for-clause-planned : goal.returns-then-waits_for-clause-planned
