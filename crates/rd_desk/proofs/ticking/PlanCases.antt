@@ -1,5 +1,5 @@
 -- A plan with one observer more, by what is planned for it: nothing, where its listing is unchanged, and else a notice with its listing.
-use Rattle.std.proofs.Common.{◌≡◌, ℕ, zero, suc, ◌+◌, ◌-◌, ◌*◌, ◌/◌, ◌%◌, ◌^◌, ◌<◌, ◌≤◌, ◌==◌, ◌&&◌, ◌||◌, nat_lt, bytes_eq, Bool, true, false, not, cond, List, [], ◌∷◌, ◌++◌, length, drop, count_by, slice_get, Option, Some, None, Result, Ok, Err, OnOk, is_some, refl, sym, ap, ap₂, subst, ◌∙◌, eq-eqb, arith, append-nil}
+use Rattle.std.proofs.Common.{◌≡◌, ℕ, zero, suc, ◌+◌, ◌-◌, ◌*◌, ◌/◌, ◌%◌, ◌^◌, ◌<◌, ◌≤◌, ◌==◌, ◌&&◌, ◌||◌, nat_lt, bytes_eq, Bool, true, false, not, cond, List, [], ◌∷◌, ◌++◌, length, drop, count_by, slice_get, Option, Some, None, is_some, refl, sym, ap, ap₂, subst, ◌∙◌, eq-eqb, arith, append-nil}
 use Rattle.std.specs.Arc.{arc_value}
 use Rattle.std.specs.declared.alloc.Global.{Global}
 use Rattle.std.specs.declared.sync.Arc.{Arc}
@@ -35,7 +35,7 @@ use Rattle.journal_model.specs.Rows.{row_moment}
 use Rattle.journal_model.specs.Ticks.{ticking, is_confirmable_with, first_block, block_shown, notice_of, noticed, is_unchanged, noticed_unless, noticed_if, listing_for, events_with, notices_again}
 use Rattle.journal_model.specs.UnfinishedRow.{making, drawing}
 use Rattle.journal_model.proofs.EntriesNoted.{entries_in}
-use Rattle.journal_model.proofs.NoteKinds.{of_again, none_of, again_tick, tick-entries_in}
+use Rattle.journal_model.proofs.NoteKinds.{of_again, none_of}
 use Rattle.journal_model.proofs.StepNotes.{notices_again-notes}
 use Rattle.journal_model.proofs.UnfinishedRowLaws.{now-making, events-making_joined}
 use Rattle.journal_model.proofs.notes.LookupNotes.{IsAsking}
@@ -47,9 +47,9 @@ use Rattle.rd_desk.specs.declared.mids.Mids.{Mids}
 use Rattle.rd_desk.specs.declared.planning.Plan.{Plan}
 use Rattle.rd_desk.specs.declared.planning.Planned.{Planned}
 use Rattle.rd_desk.specs.declared.planning.Planned.TheVariants as planned
-use Rattle.rd_desk.specs.Desks.{Seen, StandsFor}
+use Rattle.rd_desk.specs.Desks.{Seen}
 use Rattle.rd_desk.specs.Noticing.{forming}
-use Rattle.rd_desk.specs.Planning.{block_of_notice, block_named, notice_spelled, kept_by, AddsNotice, forming_for, kept_of, keeping_noted, planned_done, planned_kept, MayBeSent, PlannedUpTo}
+use Rattle.rd_desk.specs.Planning.{block_of_notice, block_named, kept_by, AddsNotice, forming_for, kept_of, keeping_noted, planned_done, MayBeSent, PlannedUpTo}
 use Rattle.rd_desk.specs.UnderWay.{UnderWay}
 use Rattle.rd_desk.specs.Watching.{Watching, WatchingStandsFor}
 use Rattle.rd_desk.specs.Writing.{notice_saying}
@@ -60,7 +60,8 @@ use Rattle.rd_desk.proofs.parts.EffectLaws.{joined-assoc}
 use Rattle.rd_desk.proofs.ticking.AgainWalk.{drop-changed}
 use Rattle.rd_desk.proofs.ticking.BoundLaws.{asking_observers}
 use Rattle.rd_desk.proofs.ticking.NoticeWalk.{events-with, drop-drop, got-drop}
-use Rattle.rd_desk.proofs.ticking.PlanSteps.{awaited-seen, Adds, Grows, planned_adds}
+use Rattle.rd_desk.proofs.ticking.PlanSteps.{awaited-seen, planned_adds}
+use Rattle.rd_desk.proofs.ticking.PlanWay.{entries-again}
 use Rattle.rd_desk.proofs.ticking.SkipLaws.{first-least, first-passes}
 use Rattle.rd_desk.proofs.ticking.WholeTick.{again_draws}
 
@@ -145,11 +146,9 @@ IsListed rows index body = (o : Observer) → slice_get (observers (events rows)
 -- its listing is that of the tick
 listed : (rows : List Row) (s : Step) (starved : Bool) (first : Effects) (index : ℕ) (o : Observer) (body : List ℕ) → is_look s.kind ≡ false → first ≡ notices_again rows (row_moment rows s) → IsListed (making rows s starved first) index body
     → slice_get (observers (events (making rows s starved first))) index ≡ Some o → body ≡ (listing_for (ticking rows (row_moment rows s) s) o).body
-unfolding entries
 listed rows s starved first index o body desk begins says at =
     says o at
-    ∙ ap₂ (λ (es : List Entry) (m : ℕ). listing o.query es m) (ap (λ (es : List Entry). entries rows ++ es) (ap (λ (f : Effects). entries_in f.notes) begins ∙ tick-entries_in (notices_again rows (row_moment rows s)).notes (again_tick (notices_again rows (row_moment rows s)).notes (notices_again-notes rows (row_moment rows s))))
-    ∙ append-nil (entries rows)) (now-making rows s starved first desk)
+    ∙ ap₂ (λ (es : List Entry) (m : ℕ). listing o.query es m) (ap (λ (f : Effects). entries (making rows s starved f)) begins ∙ entries-again rows s starved) (now-making rows s starved first desk)
 
 -- whether it is unchanged
 unchanged_as : (rows : List Row) (s : Step) (starved : Bool) (done : Effects) (o : Observer) (x : Watcher) (body : List ℕ) (b : Bool) → IsKeptAs (making rows s starved done) o x → body ≡ (listing_for (ticking rows (row_moment rows s) s) o).body → bytes_eq x.last body ≡ b
@@ -431,24 +430,3 @@ planned_notice rows s starved current whole first ws given p after from index x 
         or_true : (b : Bool) → (b || true) ≡ true
         or_true true = refl
         or_true false = refl
-
--- ---- while a plan is made
-
--- the step is under way as before, where the desk stands for the same
-pub way_kept : (rows : List Row) (s : Step) (starved : Bool) (done : Effects) (d after : Seen) (out : List (Peer × List ℕ)) (mids : Mids) → ((past : List Row) → StandsFor past d → StandsFor past after) → UnderWay rows s starved done d out mids
-    → UnderWay rows s starved done after out mids
-way_kept rows s starved done d after out mids stands way = record {
-  journal = way.journal;
-  no_later_look = way.no_later_look;
-  no_look = way.no_look;
-  stands = stands (making rows s starved done) way.stands;
-  requests = way.requests;
-  sent = way.sent;
-  worker = way.worker;
-  drawn = way.drawn;
-}
-
--- what follows from what came of a call
-pub on_ok : {X E A B : Type 0} (r : Result X E) → OnOk r A → (A → B) → OnOk r B
-on_ok (Ok x) h f = f h
-on_ok (Err e) h f = tt

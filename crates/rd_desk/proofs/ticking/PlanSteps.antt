@@ -1,40 +1,29 @@
 -- A plan with one observer more: its listing is unchanged, or it gets a notice.
-use Rattle.std.proofs.Common.{◌≡◌, ℕ, zero, suc, ◌+◌, ◌-◌, ◌%◌, ◌^◌, ◌<◌, ◌≤◌, ◌&&◌, ◌||◌, nat_le, bytes_eq, Bool, true, false, not, cond, List, [], ◌∷◌, ◌++◌, length, drop, fold, slice_get, Option, Some, None, is_some, refl, sym, ap, ap₂, subst, ◌∙◌, arith, append-nil, append_assoc}
+use Rattle.std.proofs.Common.{◌≡◌, ℕ, zero, suc, ◌+◌, ◌%◌, ◌^◌, ◌<◌, ◌≤◌, ◌&&◌, ◌||◌, nat_le, Bool, true, false, cond, List, [], ◌∷◌, ◌++◌, length, drop, fold, slice_get, Some, is_some, refl, sym, ap, ap₂, subst, ◌∙◌, arith, append_assoc}
 use Rattle.std.specs.List.{list_any, AllByRecursion}
 use Rattle.std.proofs.lemmas.Bool.Decides.{nat_tests}
 use Rattle.rd_base.specs.declared.peers.Peer.{Peer}
 use Rattle.std.proofs.lemmas.List.Folds.{list_any-append}
 use Rattle.rd_base.proofs.lemmas.Each.{each_append, each_weaker}
-use Rattle.history_model.specs.Listing.{listing}
-use Rattle.event_model.specs.declared.notes.Note.{Note}
-use Rattle.event_model.specs.declared.notes.Note.TheVariants as note
 use Rattle.event_model.specs.declared.notes.Observer.{Observer}
-use Rattle.event_model.specs.Events.{Event}
-use Rattle.event_model.specs.Observers.{name_of, observers, observe_values_sent, last_body_formed}
+use Rattle.event_model.specs.Observers.{observers, observe_values_sent}
 use Rattle.event_model.specs.Same.{is_same_peer}
-use Rattle.event_model.proofs.CounterLaws.{observe_values_sent-event}
-use Rattle.event_model.proofs.NotedLaws.{event_at}
 use Rattle.journal_model.specs.declared.steps.Step.{Step}
 use Rattle.journal_model.specs.declared.rows.Row.{Row}
-use Rattle.journal_model.specs.Effects.{Effects, joined, noting}
-use Rattle.journal_model.specs.Journal.{is_look, events, entries, transitions}
+use Rattle.journal_model.specs.Effects.{Effects, joined}
+use Rattle.journal_model.specs.Journal.{is_look, events, transitions}
 use Rattle.journal_model.specs.Rows.{row_moment}
-use Rattle.journal_model.specs.Ticks.{ticking, events_with, is_unchanged, listing_for, noticed_if, noticed_unless, max_notices, notice_next}
+use Rattle.journal_model.specs.Ticks.{ticking, noticed_if, notice_next}
 use Rattle.journal_model.specs.UnfinishedRow.{making}
-use Rattle.journal_model.proofs.UnfinishedRowLaws.{events-making_joined}
 use Rattle.journal_model.proofs.EntriesNoted.{entries_in, none-append}
-use Rattle.event_model.proofs.ObserverEvents.{observers-quiet}
 use Rattle.transfers.specs.Keeping.{NamedAnswer}
-use Rattle.observers.specs.Watchers.{Watcher, is_awaited, seen, changed_at, is_ready, next_ready}
+use Rattle.observers.specs.Watchers.{Watcher, is_awaited, seen, changed_at, next_ready}
 use Rattle.rd_desk.specs.declared.planning.Plan.{Plan}
 use Rattle.rd_desk.specs.declared.planning.Planned.{Planned}
-use Rattle.rd_desk.specs.declared.planning.Planned.TheVariants as planned
 use Rattle.rd_desk.specs.Noticing.{next_noticed}
-use Rattle.rd_desk.specs.Planning.{planned_done, planned_kept, MayBeDone, IsNext, AreDone, PlannedUpTo}
+use Rattle.rd_desk.specs.Planning.{planned_done, planned_kept, MayBeDone, AreDone, PlannedUpTo}
 use Rattle.rd_desk.specs.Watching.{Watching, WatchingStandsFor}
-use Rattle.rd_desk.proofs.observers.TickLaws.{IsKeptAs, kept-StandsFor, length-StandsFor, got_inside, got_within}
-use Rattle.rd_desk.proofs.observers.WatchingNotes.{WatchingStandsFor-unchanged}
-use Rattle.rd_desk.proofs.ticking.AgainWalk.{drop-changed, length-append}
+use Rattle.rd_desk.proofs.ticking.AgainWalk.{length-append}
 use Rattle.rd_desk.proofs.ticking.NoticeWalk.{notices-next}
 use Rattle.rd_desk.proofs.ticking.SkipLaws.{planned_next}
 

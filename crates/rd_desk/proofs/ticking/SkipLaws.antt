@@ -1,7 +1,6 @@
 -- A plan, observer after observer: one to whose peer a notice is planned is passed over, and any other that is due and free comes next.
 use Rattle.std.proofs.Common.{◌≡◌, ℕ, zero, suc, ◌+◌, ◌-◌, ◌<◌, ◌≤◌, ◌&&◌, ◌||◌, nat_le, Bool, true, false, not, cond, List, [], ◌∷◌, length, drop, fold, slice_get, Option, Some, None, refl, sym, ap, ap₂, subst, ◌∙◌, arith}
 use Rattle.std.specs.List.{list_any}
-use Rattle.std.proofs.lemmas.Bool.{false≢true}
 use Rattle.std.proofs.lemmas.Bool.Decides.{nat_tests}
 use Rattle.rd_base.specs.declared.peers.Peer.{Peer}
 use Rattle.rd_base.proofs.lemmas.Options.{some_same}
@@ -24,9 +23,9 @@ use Rattle.rd_desk.specs.declared.planning.Plan.{Plan}
 use Rattle.transfers.specs.Keeping.{NamedAnswer}
 use Rattle.rd_desk.specs.declared.planning.Planned.{Planned}
 use Rattle.rd_desk.specs.Noticing.{first_observer, next_noticed}
-use Rattle.rd_desk.specs.Planning.{IsNext, AreDone, PlannedUpTo}
+use Rattle.rd_desk.specs.Planning.{AreDone, PlannedUpTo}
 use Rattle.rd_desk.specs.Watching.{Watching, WatchingStandsFor}
-use Rattle.rd_desk.proofs.observers.TickLaws.{next-StandsFor, length-StandsFor, got_inside, got_within}
+use Rattle.rd_desk.proofs.observers.TickLaws.{next-StandsFor, got_inside}
 use Rattle.rd_desk.proofs.ticking.NoticeWalk.{notices-next, notices-end, drop-drop, got-drop}
 use Rattle.rd_desk.proofs.ticking.PlanLaws.{free_before}
 

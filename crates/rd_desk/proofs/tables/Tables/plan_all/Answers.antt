@@ -1,10 +1,9 @@
-use Rattle.std.proofs.Common.{◌≡◌, ◌+◌, ◌<◌, ◌≤◌, List, length, None, Some, refl, sym, ap, subst, ◌∙◌, arith}
-use Rattle.observers.specs.Watchers.{Watcher, next_ready}
-use Rattle.journal_model.specs.UnfinishedRow.{making}
+use Rattle.std.proofs.Common.{◌+◌, sym, ap, subst, ◌∙◌, arith}
+use Rattle.observers.specs.Watchers.{next_ready}
 use Rattle.rd_desk.specs.Desks.{Seen}
 use Rattle.rd_desk.specs.Planning.{PlannedUpTo}
 use Rattle.rd_desk.proofs.ticking.PlanLaws.{planned_none, planned_full}
-use Rattle.rd_desk.proofs.ticking.PlanCases.{way_kept}
+use Rattle.rd_desk.proofs.ticking.PlanWay.{way_kept}
 use Rattle.rd_desk.proofs.tables.Tables.plan_all.Goals as goal
 
 pub returns-in_default-clause-planned : goal.returns-in_default-clause-planned

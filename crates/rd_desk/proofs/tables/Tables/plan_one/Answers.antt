@@ -1,4 +1,4 @@
-use Rattle.std.proofs.Common.{◌≡◌, ◌+◌, ◌%◌, ◌^◌, bytes_eq, Some, option_map, List, slice_get, length, refl, sym, ap, ap₂, subst, ◌∙◌}
+use Rattle.std.proofs.Common.{◌+◌, ◌%◌, ◌^◌, bytes_eq, option_map, slice_get, sym, ap, ap₂, ◌∙◌}
 use Rattle.std.specs.List.{list_any}
 use Rattle.rd_base.specs.declared.peers.Peer.{Peer}
 use Rattle.rd_base.proofs.lemmas.Options.{some_same}
@@ -8,7 +8,8 @@ use Rattle.journal_model.specs.UnfinishedRow.{making}
 use Rattle.observers.specs.Watchers.{Watcher}
 use Rattle.rd_desk.specs.Desks.{Seen}
 use Rattle.rd_desk.proofs.ticking.SkipLaws.{planned_skips}
-use Rattle.rd_desk.proofs.ticking.PlanCases.{planned_unchanged, planned_notice, on_ok}
+use Rattle.rd_desk.proofs.ticking.PlanCases.{planned_unchanged, planned_notice}
+use Rattle.rd_desk.proofs.ticking.PlanWay.{on_ok}
 use Rattle.rd_desk.proofs.tables.Tables.plan_one.Goals as goal
 
 pub returns-then-waits_for-clause-planned : goal.returns-then-waits_for-clause-planned
