@@ -10,11 +10,11 @@
 -- Changes of the registrations (changes): what is planned of a write (OutcomeLaws), the entry that a row makes (EntryLaws), how its parts are what settles a write and what that does to
 --   its exchange (SettlingLaws), how long an answer is that is kept (ShortAnswers), and a commit, by its query options, its method, its block and its path (CommitLaws);
 --   for the desk above, that a commit is of an open admission (OpenJobs).
---   The parameters that a registration gives (ParameterLaws), a block of one (UploadLaws), and a simple one, whose fetch starts beside its answer (FetchStartLaws).
--- Changes of the registrations (changes): what is planned of a write (OutcomeLaws), the entry that a row makes (EntryLaws), and how its parts are what settles a write (SettlingLaws).
+--   The parameters that a registration gives (ParameterLaws), a block of one (UploadLaws), and a simple one, whose fetch starts beside its answer (FetchStartLaws); what a
+--   step leaves on a board (StagingLaws). What is shown of an observer is ShownLaws of observers.
 -- Ticks (ticking): how many observe and are fetched from (BoundLaws), how long the octets are that may be sent again (FittingLaws); notices that are sent again (AgainLaws, observer after
 --   observer AgainWalk), requests of fetches that are (RequestWalk); who gets a new notice (NoticeWalk); a plan, from its beginning to its end
---   (PlanLaws), past those to whose peers a notice is planned (SkipLaws) and with one observer more (PlanSteps), and how it is carried out (CarryLaws); what is dropped at the end (EndLaws),
+--   (PlanLaws; what is as before meanwhile, PlanWay), past those to whose peers a notice is planned (SkipLaws) and with one observer more (PlanSteps; by what is planned for it, PlanCases), and how it is carried out (CarryLaws); what is dropped at the end (EndLaws),
 --   and that the parts are all that a tick does (WholeTick).
 pub mod answers
 pub mod parts

@@ -7,6 +7,8 @@ pub mod NoticeWalk
 pub mod WholeTick
 pub mod PlanLaws
 pub mod SkipLaws
+pub mod PlanWay
 pub mod PlanSteps
+pub mod PlanCases
 pub mod CarryLaws
 pub mod EndLaws

@@ -1,5 +1,5 @@
 -- How a write that was admitted is done: it is settled by its answer, or it fails.
-use Rattle.std.specs.Prelude.{◌≡◌, ℕ, ◌≤◌, Bool, true, false, List, [], ◌∷◌, length, None}
+use Rattle.std.specs.Prelude.{◌≡◌, ℕ, ◌≤◌, Bool, true, false, [], ◌∷◌, length, None}
 use Rattle.message_model.specs.Codes as codes_of
 use Rattle.message_model.specs.Message.{Message}
 use Rattle.message_model.specs.Spelling.{spelling}

@@ -113,11 +113,14 @@ AreDone rows s starved current whole done from (p ∷ ps) kept =
     (it : IsNext rows s starved done from p) × (later : List NamedAnswer) × (kept ≡ planned_kept current it.observer p ++ later)
     × AreDone rows s starved current whole (joined done (planned_done current it.observer p)) (it.index + 1) ps later
 
--- A plan is made up to an observer. It would leave the observers so, who stand for the journal with the row so far; the notices are to these peers, and whoever comes next is as before.
+-- A plan is made up to an observer, after notices were sent again. It would leave the observers so, who stand for the journal with the row so far and are those that they were; the notices are to these peers, and whoever
+-- comes next is as before.
 pub record PlannedUpTo (rows : List Row) (s : Step) (starved : Bool) (current : List ℕ) (whole first : Effects) (ws : List Watcher) (given : ℕ) (p : Plan) (from : ℕ) : Type 0 where
+  pub begins : first ≡ notices_again rows (row_moment rows s)
   pub done : Effects
   pub watching : Watching
   pub stands : WatchingStandsFor (making rows s starved done) watching
+  pub standing : observers (events (making rows s starved done)) ≡ observers (events (making rows s starved first))
   pub same : drop from watching.observers ≡ drop from ws
   pub awaited : (peer : Peer) → is_awaited peer watching.observers ≡ (is_awaited peer ws || list_any (λ q. is_same_peer q peer) p.peers.items)
   pub drew : done.drew ≡ length p.peers.items

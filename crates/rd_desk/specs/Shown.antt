@@ -1,6 +1,5 @@
 -- What a desk shows beside what it keeps: its board, and what it leaves there to be published.
-use Rattle.std.specs.Prelude.{◌≡◌, List, Option, Some, IfSome, if◌then◌else◌}
-use Rattle.std.specs.List.{list_any}
+use Rattle.std.specs.Prelude.{List, Option, IfSome}
 use Rattle.history_model.specs.declared.entries.Entry.{Entry}
 use Rattle.history_model.specs.Versions.{Version, VersionStandsFor}
 use Rattle.rd_desk.specs.Desks.{Seen}

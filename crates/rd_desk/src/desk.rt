@@ -1,5 +1,5 @@
 //! The core of the directory: one call is one step, and does what the journal says of its row (RFC 9176, RFC 7252, RFC 7641, RFC 7959).
-ghost use Rattle.std.specs.Prelude.{◌≡◌, ◌≤◌, ◌^◌, ℕ, false, [], List, Some, None, Ok, IfOk, IfErr, IfSome, length, slice_get};
+ghost use Rattle.std.specs.Prelude.{◌≡◌, ◌≤◌, ◌^◌, ℕ, false, [], List, Some, Ok, IfOk, IfErr, IfSome, length, slice_get};
 ghost use Rattle.std.specs.Arc.{arc_value};
 ghost use Rattle.std.specs.Borrow.{Lends, sem};
 ghost use Rattle.message_model.specs.Message.{Message};
@@ -13,14 +13,13 @@ ghost use Rattle.journal_model.specs.declared.rows.Row.{Row};
 ghost use Rattle.journal_model.specs.Journal.{events};
 ghost use Rattle.journal_model.specs.Machine.{is_look_datagram};
 ghost use Rattle.journal_model.specs.Rows.{row, row_moment};
-ghost use Rattle.observers.specs.Watchers.{Watcher as Kept};
 ghost use Rattle.rd_desk.specs.Admitting.{is_starved_admission, takes_memory, IsHeldFor};
 ghost use Rattle.rd_desk.specs.Desks.{StandsFor};
 ghost use Rattle.rd_desk.specs.Shown.{AreToldOf};
 ghost use Rattle.rd_desk.specs.Staging.{LeavesStaged};
 ghost use Rattle.rd_desk.specs.Stepping.{is_starved_step};
 ghost use Rattle.rd_desk.specs.UnderWay.{IsCalled, Made};
-ghost use Rattle.rd_desk.specs.Watchers.{IsShownAs, IsObserverAfter};
+ghost use Rattle.rd_desk.specs.Watchers.{IsShown, IsObserverAfter};
 
 use crate::tables::Tables;
 use crate::{Admitted, KeepJob, Mids, Outbox, Stepped, Watcher, WriteJob};
@@ -213,8 +212,7 @@ impl<B: Board> Desk<B> {
 
     /// The observer with an index, in the order in which they joined; none from their number on.
     pub fn observer(&self, index: usize) -> Option<Watcher>
-        ensures shown { (x : Kept) → slice_get self.now.tables.watching.observers index ≡ Some x → IfSome result (IsShownAs x) }
-        ensures none { slice_get self.now.tables.watching.observers index ≡ None → result ≡ None }
+        ensures shown { IsShown (slice_get self.now.tables.watching.observers index) result }
         ensures observer { (rows : List Row) (o : Observed) → StandsFor rows self.now.tables → slice_get (observers (events rows)) index ≡ Some o → IfSome result (IsObserverAfter rows o) }
     {
         self.tables.observer(index)

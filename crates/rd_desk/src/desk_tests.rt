@@ -192,6 +192,20 @@ impl Station {
         }
     }
 
+    /// Time passes. Afterwards the version is swept up to then.
+    fn tick(&mut self, now: Moment) -> Result<(), Trouble>
+        requires { now.0 ≤ 10 ^ 15 }
+    {
+        self.out.clear();
+        if self.desk.tick(now, 0, &mut self.mids, &mut self.out) == Stepped::Starved {
+            return Err(Trouble::Memory);
+        }
+        if self.desk.version().swept() != self.desk.moment() {
+            return Err(Trouble::Form);
+        }
+        Ok(())
+    }
+
     /// Whether the next datagram that was sent is this one.
     fn is_sent(&mut self, peer: &str, digits: &str) -> Result<bool, Trouble> {
         let Some(gone) = self.gone.get(self.asked) else {
@@ -213,6 +227,7 @@ impl Station {
                 self.hear(now, 0, peer, datagram.as_slice())?;
             }
             "go" => self.go(now)?,
+            "tick" => self.tick(now)?,
             _ => return Err(Trouble::Form),
         }
         self.keep_sent()
@@ -282,6 +297,16 @@ const STORIES: &[&str] = &[
     stories::DISCOVERY,
     stories::CLOCK_THAT_GOES_BACK,
     stories::OBSERVATION_ENDED,
+    stories::BLOCKS_OF_ONE_STATE,
+    stories::BLOCK_NOT_KEPT,
+    stories::BLOCKS_ALREADY_THERE,
+    stories::UPLOADS,
+    stories::OBSERVED,
+    stories::NEVER_ACKNOWLEDGED,
+    stories::NOTICE_RESET,
+    stories::TOLD_ONLY_OF_ITS_PAGE,
+    stories::ONE_NOTICE_A_PEER,
+    stories::FETCH_UNANSWERED,
 ];
 
 #[test]
@@ -292,6 +317,6 @@ fn stories_hold(rt: HostRuntime) -> Result<(), Fail> {
         assert_eq!(rt; failing, None);
         count = u32::saturating_add(count, 1);
     }
-    assert_eq!(rt; count, 16);
+    assert_eq!(rt; count, 26);
     Ok(())
 }

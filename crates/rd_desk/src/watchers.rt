@@ -1,12 +1,11 @@
 //! Observers as a desk shows them (RFC 7641 section 4).
-ghost use Rattle.std.specs.Prelude.{◌≡◌, Some, None, List, IfSome, slice_get};
+ghost use Rattle.std.specs.Prelude.{◌≡◌, Some, List, IfSome, slice_get};
 ghost use Rattle.event_model.specs.declared.notes.Observer.{Observer as Observed};
 ghost use Rattle.event_model.specs.Observers.{observers};
 ghost use Rattle.journal_model.specs.declared.rows.Row.{Row};
 ghost use Rattle.journal_model.specs.Journal.{events};
-ghost use Rattle.observers.specs.Watchers.{Watcher as Kept};
 ghost use Rattle.rd_desk.specs.Desks.{StandsFor};
-ghost use Rattle.rd_desk.specs.Watchers.{IsShownAs, IsObserverAfter};
+ghost use Rattle.rd_desk.specs.Watchers.{IsShown, IsShownAs, IsObserverAfter};
 
 use crate::tables::Tables;
 use exchange_core::Token;
@@ -41,8 +40,7 @@ fn shown(observer: &Observer) -> Watcher
 impl Tables {
     /// The observer with an index, in the order in which they joined; none from their number on.
     pub(crate) fn observer(&self, index: usize) -> Option<Watcher>
-        ensures shown { (x : Kept) → slice_get self.now.watching.observers index ≡ Some x → IfSome result (IsShownAs x) }
-        ensures none { slice_get self.now.watching.observers index ≡ None → result ≡ None }
+        ensures shown { IsShown (slice_get self.now.watching.observers index) result }
         ensures observer { (rows : List Row) (o : Observed) → StandsFor rows self.now → slice_get (observers (events rows)) index ≡ Some o → IfSome result (IsObserverAfter rows o) }
     {
         match self.watching.at(index) {

@@ -1,10 +1,10 @@
 -- The refusals that a request alone decides, one after the other.
-use Rattle.std.proofs.Common.{◌≡◌, Bool, true, false, Option, Some, None, codes, refl, sym, ap, ◌∙◌, cond}
+use Rattle.std.proofs.Common.{◌≡◌, true, false, Some, None, codes, refl}
 use Rattle.message_model.specs.Codes as codes_of
 use Rattle.message_model.specs.Message.{Message}
 use Rattle.message_model.specs.Refusals.{refusal_of}
 use Rattle.journal_model.specs.Effects.{diagnostic}
-use Rattle.journal_model.specs.Requests.{refusal_of_request, refusal_or_next, has_bad_query, has_bad_payload, only_looks, is_look_request}
+use Rattle.journal_model.specs.Requests.{refusal_of_request, has_bad_query, has_bad_payload, only_looks, is_look_request}
 
 -- none before the query, and the query is refused
 pub query_refused : (m : Message) → refusal_of m ≡ None → has_bad_query m ≡ true → refusal_of_request m ≡ Some (diagnostic codes_of.bad_request (codes "query"))

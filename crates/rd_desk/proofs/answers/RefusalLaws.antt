@@ -1,5 +1,5 @@
 -- How a request that is refused for itself is answered.
-use Rattle.std.proofs.Common.{◌≡◌, ℕ, Bool, true, false, not, ◌&&◌, List, [], ◌==◌, Option, Some, None, refl, sym, ap, ◌∙◌, if◌then◌else◌}
+use Rattle.std.proofs.Common.{◌≡◌, ℕ, Bool, true, false, [], Option, Some, None, refl, sym, ◌∙◌, if◌then◌else◌}
 use Rattle.message_model.specs.declared.messages.Kind4.{Kind4}
 use Rattle.message_model.specs.declared.messages.Kind4.TheVariants.{Con, Non, Ack, Rst}
 use Rattle.message_model.specs.declared.requests.Refusal.{Refusal}
@@ -8,7 +8,7 @@ use Rattle.message_model.specs.Message.{Message}
 use Rattle.message_model.specs.OptionTable.{first_bad_option}
 use Rattle.message_model.specs.Refusals.{refusal_of, refusal_after_options, option_refusal_or}
 use Rattle.journal_model.specs.declared.steps.Step.{Step}
-use Rattle.journal_model.specs.Effects.{Effects, Reply, nothing, answering}
+use Rattle.journal_model.specs.Effects.{Reply, nothing, answering}
 use Rattle.journal_model.specs.Rows.{refusal_answered}
 use Rattle.rd_desk.specs.declared.requests.Refused.{Refused}
 use Rattle.rd_desk.specs.declared.requests.Refused.TheVariants as refused

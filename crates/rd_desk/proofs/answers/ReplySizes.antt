@@ -3,7 +3,7 @@ use Rattle.std.proofs.Common.{◌≡◌, ℕ, zero, suc, lit≤, ◌<◌, ◌+�
 use Rattle.std.proofs.lemmas.List.{length-append}
 use Rattle.message_model.specs.Message.{Message, Opt, end_number}
 use Rattle.message_model.specs.declared.messages.Kind4.{Kind4}
-use Rattle.message_model.specs.Spelling.{first_extended, first_long, nibble_of, extension_of, header_spelling, option_spelling, options_spelling, payload_spelling, spelling}
+use Rattle.message_model.specs.Spelling.{first_extended, first_long, extension_of, header_spelling, option_spelling, options_spelling, payload_spelling, spelling}
 use Rattle.coap_message.specs.PartialMessages.{with_last_option, with_payload, bare_message}
 use Rattle.message_model.proofs.OrderLemmas.{end_number-push}
 use Rattle.message_model.specs.Blocks.{block_size}

@@ -33,11 +33,11 @@ use Rattle.journal_model.specs.declared.steps.StepKind.{StepKind}
 use Rattle.journal_model.specs.declared.steps.StepKind.TheVariants as step
 use Rattle.journal_model.specs.declared.rows.Row.{Row}
 use Rattle.journal_model.specs.Changes.{Outcome, BodyRead, bad_body, good_body, body_read, entry_of_step, entered_unless, change_made, number_after, created_at, registered_links, registration}
-use Rattle.journal_model.specs.Commits.{settling, updating, removing, on_location, registering_simply, write_done, commit_effects}
-use Rattle.journal_model.specs.Effects.{Effects, Reply, nothing, joined, noting, bare}
+use Rattle.journal_model.specs.Commits.{settling, updating, removing, on_location, write_done, commit_effects}
+use Rattle.journal_model.specs.Effects.{Effects, nothing, joined, noting, bare}
 use Rattle.journal_model.specs.Journal.{events, entries}
 use Rattle.journal_model.specs.Registrations.{registration_outcome, registering}
-use Rattle.journal_model.specs.Requests.{sent_block, Method, get, post, put, delete, other_method, method_of, reading_of, refusal_of_request}
+use Rattle.journal_model.specs.Requests.{sent_block, get, post, put, delete, other_method, method_of, reading_of, refusal_of_request}
 use Rattle.journal_model.specs.Rows.{row_moment, effects, done, row}
 use Rattle.rd_desk.specs.declared.mids.Mids.{Mids}
 use Rattle.rd_desk.specs.declared.outcomes.Entering.{Entering}
@@ -47,7 +47,7 @@ use Rattle.rd_desk.specs.Desks.{Seen}
 use Rattle.rd_desk.specs.Outcomes.{IsEntering, AreNotes, IsPlanned, IsMadeAt}
 use Rattle.rd_desk.specs.Replies.{reply_said}
 use Rattle.rd_desk.specs.UnderWay.{UnderWay, IsCalled, Made}
-use Rattle.rd_desk.specs.WriteJobs.{Write, is_write_path}
+use Rattle.rd_desk.specs.WriteJobs.{Write}
 use Rattle.rd_desk.proofs.answers.LookLaws.{good_request}
 use Rattle.rd_desk.proofs.changes.SettlingLaws.{settling-refused, settling-entered}
 use Rattle.rd_desk.proofs.parts.MakingLaws.{entries-making_nothing}

@@ -1,5 +1,5 @@
 -- A simple registration that is done: its answer settles it, and a fetch starts after the answer (RFC 9176 section 5.1).
-use Rattle.std.proofs.Common.{◌≡◌, ◌≢◌, ℕ, ◌+◌, ◌%◌, ◌^◌, ◌≤◌, ◌&&◌, Bool, true, false, List, [], ◌∷◌, length, codes, Option, Some, None, refl, sym, ap, subst, ◌∙◌, arith}
+use Rattle.std.proofs.Common.{◌≡◌, ◌≢◌, ℕ, ◌+◌, ◌%◌, ◌^◌, ◌≤◌, Bool, true, false, List, [], ◌∷◌, length, codes, Some, None, refl, sym, ap, subst, ◌∙◌, arith}
 use Rattle.std.specs.Int.{bytes_high_first}
 use Rattle.std.proofs.lemmas.List.{length-append}
 use Rattle.rd_base.specs.declared.peers.Peer.{Peer}
@@ -23,7 +23,7 @@ use Rattle.event_model.proofs.SameLaws.{is_same_peer-refl}
 use Rattle.journal_model.specs.declared.steps.Step.{Step}
 use Rattle.journal_model.specs.declared.steps.StepKind.TheVariants as step
 use Rattle.journal_model.specs.declared.rows.Row.{Row}
-use Rattle.journal_model.specs.Changes.{Outcome, refused}
+use Rattle.journal_model.specs.Changes.{refused}
 use Rattle.journal_model.specs.Commits.{settling, fetch_request, asking, registering_simply}
 use Rattle.journal_model.specs.Effects.{Effects, Reply, nothing, joined, bare, mid_of, answer_kind, answer, answering, drawn_for}
 use Rattle.journal_model.specs.Journal.{events}

@@ -1,18 +1,18 @@
 -- What is planned of a write is what comes of it: bodies and how they are read, the number in a location, and the notes of a change.
-use Rattle.std.proofs.Common.{◌≡◌, ℕ, ◌<◌, Bool, true, false, codes, List, [], ◌∷◌, ◌++◌, Option, Some, None, is_none, is_some, option_map, unwrap_or, Result, IfOk, refl, sym, ap, subst, ◌∙◌}
-use Rattle.std.proofs.lemmas.Bool.{false≢true, true≢false}
+use Rattle.std.proofs.Common.{◌≡◌, ℕ, ◌<◌, true, false, codes, List, [], ◌∷◌, ◌++◌, Option, Some, None, is_none, option_map, unwrap_or, Result, IfOk, refl, sym, ap, subst, ◌∙◌}
+use Rattle.std.proofs.lemmas.Bool.{false≢true}
 use Rattle.rd_base.specs.declared.moments.Moment.{Moment}
 use Rattle.rd_base.specs.declared.out_of_memory.Starved.{Starved}
 use Rattle.rd_base.specs.declared.parameters.RegParams.{RegParams}
 use Rattle.rd_base.specs.declared.submitted_links.SubmittedLink.{SubmittedLink}
 use Rattle.record_model.specs.Bodies.{linked_references}
 use Rattle.record_model.specs.BodyFaults.{body_fault, is_of_links, is_of_limits}
-use Rattle.record_model.specs.Refusals.{first_unlimited, is_unlimited, is_refused_as_links, is_refused_as_limited}
+use Rattle.record_model.specs.Refusals.{is_unlimited, is_refused_as_links, is_refused_as_limited}
 use Rattle.record_model.proofs.BodyLaws.{body_fault-links, body_fault-limited}
 use Rattle.history_model.specs.declared.entries.Change.TheVariants as change
 use Rattle.history_model.specs.declared.entries.Entry.{Entry}
 use Rattle.history_model.specs.declared.refusals.Refusal.{Refusal}
-use Rattle.history_model.specs.Replay.{State, replay, apply, number_named, number_for, number_about}
+use Rattle.history_model.specs.Replay.{State, replay, number_named, number_for, number_about}
 use Rattle.history_model.specs.Versions.{Version, VersionStandsFor}
 use Rattle.history_model.specs.Refusals.{change_refusal}
 use Rattle.history_model.proofs.ReplayLaws.{replay_push}
@@ -21,10 +21,9 @@ use Rattle.history_model.proofs.LocationLaws.{number_named-apply}
 use Rattle.event_model.specs.declared.notes.Note.{Note}
 use Rattle.message_model.specs.Message.{Opt}
 use Rattle.rd_base.specs.declared.peers.Peer.{Peer}
-use Rattle.record_model.specs.AllowedParameters.{AreAllowed}
 use Rattle.registration.specs.declared.drafts.Draft.{Draft}
 use Rattle.registration.specs.Drafts.{drafted}
-use Rattle.directory_core.specs.Changes.{IsRegistrationOf, IsUpdateOf, IsRemovalOf}
+use Rattle.directory_core.specs.Changes.{IsRegistrationOf}
 use Rattle.journal_model.specs.declared.steps.Step.{Step}
 use Rattle.journal_model.specs.Changes as changes
 use Rattle.journal_model.specs.Changes.{BodyRead, bad_body, good_body, limited_links, links_or_bad, body_read, number_after, entry_of_step, entered_unless, change_made, created_at, registered_links, registration}

@@ -6,14 +6,14 @@ use Rattle.std.proofs.lemmas.Fmt.{length-decimal-le}
 use Rattle.rd_base.specs.declared.peers.Peer.{Peer}
 use Rattle.message_model.specs.declared.blocks.Block.{Block}
 use Rattle.message_model.specs.Blocks.{block_value}
-use Rattle.message_model.specs.Message.{Message, Opt, longest_token, end_number}
+use Rattle.message_model.specs.Message.{Message, longest_token, end_number}
 use Rattle.message_model.specs.Numbers.{uint_bytes}
 use Rattle.message_model.specs.Refusals.{link_format}
 use Rattle.message_model.specs.Spelling.{first_extended, first_long, spelling}
 use Rattle.journal_model.specs.declared.steps.Step.{Step}
 use Rattle.journal_model.specs.declared.steps.StepKind.TheVariants as step
 use Rattle.journal_model.specs.Effects.{answer}
-use Rattle.journal_model.specs.MessageSizes.{extension_size, options_size, payload_size, message_size}
+use Rattle.journal_model.specs.MessageSizes.{extension_size, options_size, payload_size}
 use Rattle.journal_model.proofs.MessageSizeLaws.{message_size-spelling, options_size-append}
 use Rattle.journal_model.proofs.sends.BodyAnswers.{uint_bytes-length, block_value-length}
 use Rattle.rd_desk.specs.declared.replies.Reply.{Reply}

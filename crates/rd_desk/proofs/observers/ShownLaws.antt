@@ -1,7 +1,7 @@
 -- What is shown of an observer is what the journal says of it.
 use Rattle.std.proofs.Common.{◌≡◌, ℕ, List, Option, Some, None, is_some, option_map, slice_get, refl, sym, ap, ◌∙◌}
 use Rattle.event_model.specs.declared.notes.Observer.{Observer}
-use Rattle.event_model.specs.Flights.{Sent, OctetsSent, waiting_notice, flight, notice_sent}
+use Rattle.event_model.specs.Flights.{OctetsSent, waiting_notice, flight, notice_sent}
 use Rattle.event_model.specs.Events.{Event}
 use Rattle.event_model.specs.Observers.{observers}
 use Rattle.journal_model.specs.declared.rows.Row.{Row}

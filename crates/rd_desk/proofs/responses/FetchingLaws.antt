@@ -1,5 +1,5 @@
 -- The fetches that a desk keeps stay sound: each is for a registration that is allowed, and each of its requests can be sent.
-use Rattle.std.proofs.Common.{◌≡◌, ℕ, zero, suc, ◌+◌, ◌<◌, ◌≤◌, ◌==◌, ◌&&◌, Bool, true, false, cond, List, [], ◌∷◌, ◌++◌, length, filter_map, find, Option, Some, None, option_map, option_and_then, Result, Ok, Err, refl, sym, ap, ap₂, subst, ◌∙◌, arith}
+use Rattle.std.proofs.Common.{◌≡◌, ℕ, zero, suc, ◌+◌, ◌<◌, ◌≤◌, ◌==◌, ◌&&◌, Bool, true, false, cond, List, [], ◌∷◌, ◌++◌, length, filter_map, Option, Some, None, option_map, option_and_then, Result, Ok, Err, refl, sym, ap, ap₂, subst, ◌∙◌, arith}
 use Rattle.std.specs.Prelude.{◌≢◌, is_none, OnErr, IfOk, slice_get}
 use Rattle.std.specs.List.{AllByRecursion, count_by, cons_option}
 use Rattle.std.specs.Int.{bytes_high_first}
@@ -18,7 +18,7 @@ use Rattle.coap_message.specs.PartialMessages.{longest_datagram}
 use Rattle.record_model.specs.AllowedParameters.{AreAllowed}
 use Rattle.event_model.specs.declared.notes.Note.{Note}
 use Rattle.event_model.specs.declared.notes.Note.TheVariants as note
-use Rattle.event_model.specs.Events.{Event, last_event}
+use Rattle.event_model.specs.Events.{Event}
 use Rattle.event_model.specs.Flights.{OctetsSent}
 use Rattle.event_model.specs.Fetches.{Request, is_fetching, is_start, is_request_to, last_request, request_noted, next_token, gathered, collected, Fetch, fetches, fetch_asked, fetch_of, fetches_running}
 use Rattle.event_model.proofs.NotedLaws.{event_at}

@@ -1,7 +1,7 @@
 -- What a response to a fetch does, part after part: it is acknowledged, and then the next block is asked for, or the body is registered, or the fetch ends (RFC 9176 section 5.1).
 use Rattle.std.proofs.Common.{◌≡◌, ℕ, ◌+◌, ◌&&◌, ◌||◌, Bool, true, false, List, [], ◌∷◌, ◌++◌, length, Option, Some, None, refl, sym, ap, ap₂, subst, ◌∙◌, append_assoc, arith}
-use Rattle.std.specs.Prelude.{◌≢◌, ◌≤◌}
-use Rattle.std.specs.List.{AllByRecursion, list_any}
+use Rattle.std.specs.Prelude.{◌≢◌}
+use Rattle.std.specs.List.{AllByRecursion}
 use Rattle.std.proofs.lemmas.Bool.{false≢true, and_parts}
 use Rattle.rd_base.specs.declared.parameters.RegParams.{RegParams}
 use Rattle.rd_base.specs.declared.peers.Peer.{Peer}
@@ -58,7 +58,7 @@ use Rattle.rd_desk.proofs.parts.EmptyMessageLaws.{fetch_more}
 use Rattle.rd_desk.proofs.parts.MakingLaws.{entries-making_nothing}
 use Rattle.rd_desk.proofs.parts.PartLaws.{more_fetches, only_silent}
 use Rattle.rd_desk.proofs.parts.WayLaws.{noting_more, way_moment}
-use Rattle.rd_desk.proofs.responses.FetchingLaws.{Next, next_of, whole_of}
+use Rattle.rd_desk.proofs.responses.FetchingLaws.{Next, next_of}
 
 -- ---- what is sent
 

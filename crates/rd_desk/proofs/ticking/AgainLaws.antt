@@ -1,17 +1,15 @@
 -- The first part of a tick: what it does with each notice in flight is what is due of it by the table.
-use Rattle.std.proofs.Common.{◌≡◌, ℕ, zero, suc, ◌+◌, ◌*◌, ◌^◌, ◌<◌, ◌≤◌, ◌==◌, ◌&&◌, nat_lt, nat_le, Bool, true, false, not, cond, List, [], ◌∷◌, ◌++◌, length, map, drop, slice_get, Option, Some, None, is_some, option_map, option_and_then, refl, sym, ap, ap₂, subst, ◌∙◌, arith}
-use Rattle.std.specs.List.{AllByRecursion, remove}
+use Rattle.std.proofs.Common.{◌≡◌, ℕ, ◌+◌, ◌<◌, nat_lt, nat_le, Bool, true, false, not, cond, List, [], ◌∷◌, length, map, Option, Some, None, option_map, refl, sym, ap, ap₂, subst, ◌∙◌, arith}
+use Rattle.std.specs.List.{AllByRecursion}
 use Rattle.std.proofs.lemmas.Bool.{false≢true}
 use Rattle.std.proofs.lemmas.Bool.Decides.{nat_tests}
 use Rattle.rd_base.specs.declared.peers.Peer.{Peer}
-use Rattle.rd_base.specs.declared.queries.Query.{Query}
-use Rattle.event_model.specs.declared.notes.Note.{Note}
 use Rattle.event_model.specs.declared.notes.Note.TheVariants as note
 use Rattle.event_model.specs.declared.notes.Observer.{Observer}
-use Rattle.event_model.specs.Events.{Event, last_event}
-use Rattle.event_model.specs.Observers.{name_of, observers}
-use Rattle.event_model.specs.Flights.{Sent, Flight, OctetsSent, max_again, deadline, flight, flight_after, is_forming_for, notice_mid, notice_sent, waiting_notice, retransmission}
-use Rattle.event_model.specs.Due.{Watching as Shown, Transition, watching, observers_standing}
+use Rattle.event_model.specs.Events.{Event}
+use Rattle.event_model.specs.Observers.{observers}
+use Rattle.event_model.specs.Flights.{Sent, Flight, max_again, deadline, flight, notice_sent, waiting_notice, retransmission}
+use Rattle.event_model.specs.Due.{Watching as Shown, watching, observers_standing}
 use Rattle.journal_model.specs.declared.steps.Step.{Step}
 use Rattle.journal_model.specs.declared.rows.Row.{Row}
 use Rattle.journal_model.specs.Effects.{Effects, nothing, joined, noting}
@@ -25,7 +23,7 @@ use Rattle.exchange_core.specs.declared.resends.Again.{Again}
 use Rattle.exchange_core.specs.declared.resends.Again.TheVariants as again
 use Rattle.exchange_core.specs.Retransmissions.{kept_due}
 use Rattle.simple_registration.proofs.StepLaws.{repeating-octets}
-use Rattle.observers.specs.Watchers.{Watcher, due_of, kept_of, timed, changed_at}
+use Rattle.observers.specs.Watchers.{Watcher, due_of}
 use Rattle.observers.specs.ObserverEvents.{shown}
 use Rattle.rd_desk.specs.Noticing.{sending_again, again_as, again_done}
 use Rattle.rd_desk.specs.Watching.{Watching, IsConfirmable, WatchingStandsFor}

@@ -1,11 +1,10 @@
 -- The first part of a tick, observer after observer: each notice by what is due of it, and then the next.
-use Rattle.std.proofs.Common.{◌≡◌, ◌≢◌, ℕ, zero, suc, ◌+◌, ◌<◌, ◌≤◌, Bool, true, false, List, [], ◌∷◌, ◌++◌, length, map, drop, slice_get, Option, Some, None, option_map, refl, sym, ap, ap₂, subst, ◌∙◌, arith}
-use Rattle.std.specs.List.{AllByRecursion, remove}
+use Rattle.std.proofs.Common.{◌≡◌, ℕ, zero, suc, ◌+◌, ◌<◌, ◌≤◌, Bool, List, [], ◌∷◌, ◌++◌, length, map, drop, slice_get, Option, Some, None, option_map, refl, sym, ap, subst, ◌∙◌, arith}
+use Rattle.std.specs.List.{AllByRecursion}
 use Rattle.rd_base.specs.declared.peers.Peer.{Peer}
 use Rattle.rd_base.proofs.lemmas.Options.{some_same}
 use Rattle.event_model.specs.declared.notes.Note.TheVariants as note
 use Rattle.event_model.specs.declared.notes.Observer.{Observer}
-use Rattle.event_model.specs.Events.{Event}
 use Rattle.event_model.specs.Observers.{observers}
 use Rattle.event_model.specs.Flights.{Sent, Flight, flight, notice_sent, waiting_notice}
 use Rattle.event_model.specs.Due.{Watching as Shown, watching, observers_standing}
@@ -21,16 +20,16 @@ use Rattle.journal_model.proofs.UnfinishedRowLaws.{events-making_nothing}
 use Rattle.journal_model.proofs.observers.SentOctets.{waiting_notice-row}
 use Rattle.exchange_core.specs.declared.resends.Again.{Again}
 use Rattle.exchange_core.specs.declared.resends.Again.TheVariants as again
-use Rattle.observers.specs.Watchers.{Watcher, due_of, kept_of, timed, changed_at}
+use Rattle.observers.specs.Watchers.{Watcher, due_of, changed_at}
 use Rattle.observers.specs.ObserverEvents.{shown}
 use Rattle.rd_desk.specs.declared.mids.Mids.{Mids}
 use Rattle.rd_desk.specs.Desks.{Seen}
-use Rattle.rd_desk.specs.Noticing.{sending_again, again_as, again_done, index_after}
+use Rattle.rd_desk.specs.Noticing.{sending_again, again_as, again_done}
 use Rattle.rd_desk.specs.Sendings.{Sends}
 use Rattle.rd_desk.specs.UnderWay.{UnderWay}
 use Rattle.rd_desk.specs.Watching.{Watching, WatchingStandsFor}
 use Rattle.rd_desk.proofs.answers.SendingLaws.{sends_notes}
-use Rattle.rd_desk.proofs.observers.TickLaws.{length-StandsFor, got_within}
+use Rattle.rd_desk.proofs.observers.TickLaws.{length-StandsFor}
 use Rattle.rd_desk.proofs.parts.EffectLaws.{joined-nothing, joined-nothing_first, joined-assoc}
 use Rattle.rd_desk.proofs.parts.PartLaws.{more_unformed}
 use Rattle.rd_desk.proofs.parts.WayLaws.{way_moment}

@@ -1,7 +1,7 @@
 -- How many observe and are fetched from after each journal of a desk: no more than may; and whoever observes asks with a token and a block size that a message may have.
-use Rattle.std.proofs.Common.{◌≡◌, ℕ, suc, ◌+◌, ◌≤◌, ◌<◌, ◌==◌, ◌&&◌, ◌||◌, nat_lt, nat_le, Bool, true, false, not, cond, List, [], ◌∷◌, ◌++◌, length, filter, Option, Some, None, Ok, refl, sym, ap, subst, ◌∙◌, arith, append-nil, codes}
+use Rattle.std.proofs.Common.{◌≡◌, ℕ, ◌+◌, ◌≤◌, ◌<◌, ◌==◌, ◌&&◌, ◌||◌, nat_lt, nat_le, Bool, true, false, not, cond, List, [], ◌∷◌, ◌++◌, length, filter, Option, Some, None, Ok, refl, sym, ap, subst, ◌∙◌, arith, append-nil, codes}
 use Rattle.std.specs.List.{list_any, AllByRecursion}
-use Rattle.std.proofs.lemmas.Bool.{false≢true, and_parts, and_from, ne_eqb}
+use Rattle.std.proofs.lemmas.Bool.{false≢true, and_parts, ne_eqb}
 use Rattle.std.proofs.lemmas.Bool.Decides.{nat_tests}
 use Rattle.rd_base.specs.declared.peers.Peer.{Peer}
 use Rattle.rd_base.specs.declared.parameters.RegParams.{RegParams}
@@ -22,14 +22,13 @@ use Rattle.message_model.proofs.ReadingLaws.{header_read}
 use Rattle.record_model.specs.Parameters.{registration_values}
 use Rattle.history_model.specs.declared.entries.Change.TheVariants as change
 use Rattle.history_model.specs.declared.entries.Entry.{Entry}
-use Rattle.history_model.specs.Listing.{tag}
 use Rattle.event_model.specs.declared.notes.Note.{Note}
 use Rattle.event_model.specs.declared.notes.Note.TheVariants as note
 use Rattle.event_model.specs.declared.notes.Observer.{Observer}
 use Rattle.event_model.specs.Same.{RequestName, is_same_request}
 use Rattle.event_model.specs.Events.{Event, noted}
 use Rattle.event_model.specs.KeptAnswers.{Answer, kept_answer}
-use Rattle.event_model.specs.Observers.{name_of, observers, is_observer, has_room_for, is_watched, number_watched, max_watched, max_observers}
+use Rattle.event_model.specs.Observers.{name_of, observers, is_observer, has_room_for}
 use Rattle.event_model.specs.Fetches.{Request, max_fetches, fetches, is_fetching, is_start, starts_or_ends_fetch, started_by, next_token, gathered, collected}
 use Rattle.event_model.proofs.NotedLaws.{event_at, is_watching}
 use Rattle.event_model.proofs.ObserverEvents.{without_named, observers_left, observers-Watched, observers-Unwatched, observers-quiet}
@@ -51,7 +50,7 @@ use Rattle.journal_model.specs.Responses.{fetch_of, strange, acknowledgement, mo
 use Rattle.journal_model.proofs.NoteKinds.{of_lookup, of_write, of_empty, of_tick, of_commit, of_response, are, are-append, none_of}
 use Rattle.journal_model.proofs.StepNotes.{look_effects-notes, lookup_effects-notes, keep_effects-notes, write_effects-notes, tick_effects-notes}
 use Rattle.journal_model.proofs.notes.ChangeNotes.{change_made-notes, registering-notes, commit_effects-notes, response_effects-notes}
-use Rattle.journal_model.proofs.notes.LookupNotes.{IsAsking, NoteAsAsked, NotesAsAsked, lookup_notes_as_asked, OfWatched, observers_all}
+use Rattle.journal_model.proofs.notes.LookupNotes.{IsAsking, NoteAsAsked, lookup_notes_as_asked, OfWatched, observers_all}
 use Rattle.journal_model.proofs.notes.StepTable.{StepNoted, nothing, write, lookup, empty, response, commit, failed, keep, tick, effects-StepNoted}
 use Rattle.rd_desk.proofs.observers.FoundObservers.{request_turned}
 

@@ -1,5 +1,5 @@
 -- A plan that is carried out: what is done for each observer is what the desk then stands for, with the kept answers that become those that are ready.
-use Rattle.std.proofs.Common.{◌≡◌, ℕ, ◌+◌, ◌%◌, ◌^◌, ◌<◌, ◌≤◌, ◌&&◌, Bool, true, false, cond, List, [], ◌∷◌, ◌++◌, length, map, slice_get, Option, Some, None, refl, sym, ap, ap₂, subst, ◌∙◌, arith}
+use Rattle.std.proofs.Common.{◌≡◌, ℕ, ◌+◌, ◌%◌, ◌^◌, ◌<◌, ◌≤◌, ◌&&◌, Bool, true, false, cond, List, [], ◌∷◌, ◌++◌, length, map, slice_get, Some, None, refl, sym, ap, ap₂, subst, ◌∙◌, arith}
 use Rattle.std.specs.Arc.{arc_value}
 use Rattle.std.specs.declared.alloc.Global.{Global}
 use Rattle.std.specs.declared.sync.Arc.{Arc}
@@ -12,7 +12,7 @@ use Rattle.event_model.specs.declared.notes.Observer.{Observer}
 use Rattle.event_model.specs.Events.{Event, noted}
 use Rattle.event_model.specs.Flights.{Sent}
 use Rattle.event_model.specs.KeptAnswers.{KeptAnswer}
-use Rattle.event_model.specs.Observers.{observers, observe_values_sent}
+use Rattle.event_model.specs.Observers.{observers}
 use Rattle.event_model.specs.Same.{is_same_peer}
 use Rattle.event_model.proofs.CounterLaws.{observe_values_sent-event}
 use Rattle.event_model.proofs.NotedLaws.{event_at}
@@ -26,7 +26,7 @@ use Rattle.journal_model.specs.Ticks.{first_block, is_confirmable_with}
 use Rattle.journal_model.specs.UnfinishedRow.{making, drawing}
 use Rattle.exchange_core.specs.Retransmissions.{Resends}
 use Rattle.transfers.specs.Keeping.{NamedAnswer, kept_at, used, kept_each}
-use Rattle.transfers.specs.TransferEvents.{Table, UploadsStandFor, AnswersStandFor, TransfersStandFor, kept_note}
+use Rattle.transfers.specs.TransferEvents.{Table, AnswersStandFor, kept_note}
 use Rattle.transfers.proofs.KeptEvents.{AnswersStandFor-kept, AnswersStandFor-kept_each}
 use Rattle.transfers.proofs.TransferLaws.{UploadsStandFor-noted}
 use Rattle.observers.specs.Watchers.{Watcher}
@@ -35,7 +35,7 @@ use Rattle.rd_desk.specs.declared.planning.Planned.{Planned}
 use Rattle.rd_desk.specs.declared.planning.Planned.TheVariants as planned
 use Rattle.rd_desk.specs.Desks.{Seen}
 use Rattle.rd_desk.specs.Noticing.{forming, next_noticed}
-use Rattle.rd_desk.specs.Planning.{forming_for, kept_of, keeping_noted, planned_done, planned_kept, MayBeSent, IsNext, AreDone, with_answers, CarryingOut}
+use Rattle.rd_desk.specs.Planning.{forming_for, kept_of, keeping_noted, planned_done, MayBeSent, IsNext, AreDone, with_answers, CarryingOut}
 use Rattle.rd_desk.specs.Sendings.{Sends}
 use Rattle.rd_desk.specs.UnderWay.{UnderWay}
 use Rattle.rd_desk.specs.Watching.{Watching, WatchingStandsFor}

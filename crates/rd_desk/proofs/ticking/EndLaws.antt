@@ -1,5 +1,5 @@
 -- What leaves what the desk stands for: bodies that are kept, and the end of a tick, where old exchanges are dropped and the version is swept.
-use Rattle.std.proofs.Common.{◌≡◌, ℕ, ◌≤◌, Bool, List, sym, ap, subst, ◌∙◌, arith}
+use Rattle.std.proofs.Common.{◌≡◌, ℕ, ◌≤◌, List, sym, subst, arith}
 use Rattle.history_model.specs.declared.entries.Entry.{Entry}
 use Rattle.history_model.specs.Versions.{Version, VersionStandsFor}
 use Rattle.event_model.specs.Events.{Event}

@@ -1,5 +1,5 @@
 -- The octets that a tick may send again are no longer than a datagram may be, after each journal of a desk: they are a request of a fetch, or a notice of an earlier tick.
-use Rattle.std.proofs.Common.{◌≡◌, ℕ, ◌+◌, ◌≤◌, ◌<◌, ◌==◌, Bool, true, false, cond, List, [], ◌∷◌, ◌++◌, length, nat_le, Option, Some, None, option_map, unwrap_or, Result, Ok, Err, refl, sym, ap, subst, ◌∙◌, arith, codes}
+use Rattle.std.proofs.Common.{◌≡◌, ℕ, ◌+◌, ◌≤◌, ◌==◌, Bool, true, false, cond, List, [], ◌∷◌, length, nat_le, Option, Some, None, option_map, unwrap_or, Result, Ok, Err, refl, sym, ap, subst, ◌∙◌, arith, codes}
 use Rattle.std.specs.List.{AllByRecursion}
 use Rattle.std.proofs.lemmas.Bool.{false≢true, and_parts}
 use Rattle.std.proofs.lemmas.Option.{same_Some}
@@ -28,7 +28,7 @@ use Rattle.message_model.proofs.ReadingLaws.{header_read}
 use Rattle.history_model.specs.declared.entries.Entry.{Entry}
 use Rattle.event_model.specs.declared.notes.Note.{Note}
 use Rattle.event_model.specs.declared.notes.Note.TheVariants as note
-use Rattle.event_model.specs.Events.{Event, noted, last_said, or_else}
+use Rattle.event_model.specs.Events.{Event, last_said, or_else}
 use Rattle.event_model.specs.KeptAnswers.{Answer, kept_answer}
 use Rattle.event_model.specs.Observers.{observers, has_room_for}
 use Rattle.event_model.specs.Repeats.{repeated, settled, answer_noted, is_full_of_exchanges}
@@ -39,7 +39,7 @@ use Rattle.journal_model.specs.declared.steps.StepKind.{StepKind}
 use Rattle.journal_model.specs.declared.steps.StepKind.TheVariants as step
 use Rattle.journal_model.specs.declared.rows.Row.{Row}
 use Rattle.journal_model.specs.DeskJournal.{IsDeskJournal, begun, made}
-use Rattle.journal_model.specs.Effects.{Reply, bare, answer, answering, empty_message, resetting, acknowledging, mid_of, drawn_for}
+use Rattle.journal_model.specs.Effects.{Reply, bare, answer, answering, resetting, acknowledging, mid_of, drawn_for}
 use Rattle.journal_model.specs.Journal.{events, entries, row_at}
 use Rattle.journal_model.specs.Rows.{served, refusal_answered, unread_answered, request_answered, message_effects, heard, done, kept_body, row_moment, effects, row}
 use Rattle.journal_model.specs.Requests.{refusal_of_request, asked_block, number_of, szx_of, query_of, register, deregister, is_later_block, Method, get, post, put, delete, other_method, method_of}
@@ -50,8 +50,8 @@ use Rattle.journal_model.specs.EmptyMessages.{acknowledged, reset}
 use Rattle.journal_model.specs.Looks.{Look, answered, held, look, look_sent, look_effects, looked, keep_effects}
 use Rattle.journal_model.specs.Lookups.{listing_now, block_now, block_of_kept, later_block, without, observed_if, observed, unobserved, observation_effects, first_block_effects, block_effects, lookup_effects}
 use Rattle.journal_model.specs.Responses.{is_response_to, answered_request, request_of, fetch_of, strange, acknowledgement, more_follow, block_in, is_elsewhere, ends_fetch, gathering, response_taken, response_to, response_to_request, response_effects}
-use Rattle.journal_model.specs.SentDatagrams.{IsFitting, is_response}
-use Rattle.journal_model.specs.Ticks.{is_confirmable_with, confirmable_sent, octets_sent, tick_effects}
+use Rattle.journal_model.specs.SentDatagrams.{is_response}
+use Rattle.journal_model.specs.Ticks.{confirmable_sent, octets_sent, tick_effects}
 use Rattle.journal_model.specs.Writes.{again_answered, admitted_unless, write_unless, write_effects}
 use Rattle.journal_model.proofs.MessageSizeLaws.{spelling-most}
 use Rattle.journal_model.proofs.NoteKinds.{of_lookup, of_write, of_empty, of_tick, of_response, are, are-weaker}

@@ -1,23 +1,21 @@
 -- The second part of a tick, observer after observer: who is not looked at is passed over, up to the next that is due and free.
-use Rattle.std.proofs.Common.{◌≡◌, ℕ, zero, suc, ◌+◌, ◌-◌, ◌<◌, ◌≤◌, ◌&&◌, ◌||◌, nat_le, Bool, true, false, not, cond, List, [], ◌∷◌, ◌++◌, length, drop, fold, slice_get, Option, Some, None, refl, sym, ap, ap₂, subst, ◌∙◌, arith, append-nil}
-use Rattle.std.specs.List.{AllByRecursion}
-use Rattle.std.proofs.lemmas.Bool.{false≢true}
+use Rattle.std.proofs.Common.{◌≡◌, ℕ, zero, suc, ◌+◌, ◌-◌, ◌≤◌, ◌&&◌, nat_le, Bool, true, false, not, cond, List, [], ◌∷◌, ◌++◌, length, drop, fold, slice_get, Some, None, refl, sym, ap, ap₂, ◌∙◌, arith, append-nil}
 use Rattle.rd_base.proofs.lemmas.Options.{some_same}
 use Rattle.history_model.specs.declared.entries.Entry.{Entry}
 use Rattle.event_model.specs.declared.notes.Observer.{Observer}
-use Rattle.event_model.specs.Events.{Event, noted}
+use Rattle.event_model.specs.Events.{Event}
 use Rattle.event_model.specs.Observers.{observers}
 use Rattle.event_model.specs.Flights.{is_waited_for}
 use Rattle.event_model.specs.Due.{Transition, is_due}
 use Rattle.journal_model.specs.declared.steps.Step.{Step}
 use Rattle.journal_model.specs.declared.rows.Row.{Row}
-use Rattle.journal_model.specs.Effects.{Effects, nothing, joined}
+use Rattle.journal_model.specs.Effects.{Effects, joined}
 use Rattle.journal_model.specs.Journal.{is_look, is_desk_row, transition_of, events, entries, now, transitions}
 use Rattle.journal_model.specs.Rows.{row_with, row_moment}
 use Rattle.journal_model.specs.Ticks.{Ticking, ticking, transition_of_tick, events_with, max_notices, is_looked_at, noticed_if, notice_next}
 use Rattle.journal_model.specs.UnfinishedRow.{making}
 use Rattle.journal_model.proofs.EntriesNoted.{entries_in}
-use Rattle.journal_model.proofs.RowEquations.{events-row, transitions-row}
+use Rattle.journal_model.proofs.RowEquations.{transitions-row}
 use Rattle.rd_desk.specs.Noticing.{first_observer, next_noticed}
 use Rattle.rd_desk.proofs.parts.EffectLaws.{joined-nothing}
 

@@ -1,20 +1,19 @@
 -- A plan, from its beginning to its end: it begins where notices were sent again, and ends where nobody is looked at any more.
-use Rattle.std.proofs.Common.{◌≡◌, ℕ, zero, suc, ◌+◌, ◌%◌, ◌^◌, ◌<◌, ◌≤◌, ◌&&◌, ◌||◌, nat_le, Bool, true, false, not, cond, List, [], ◌∷◌, ◌++◌, length, drop, fold, Option, Some, None, refl, sym, ap, ap₂, subst, ◌∙◌, arith, append-nil}
+use Rattle.std.proofs.Common.{◌≡◌, ℕ, ◌+◌, ◌<◌, ◌≤◌, ◌&&◌, ◌||◌, nat_le, Bool, true, false, not, cond, List, [], ◌∷◌, ◌++◌, length, drop, Some, None, refl, sym, ap, subst, ◌∙◌, arith, append-nil}
 use Rattle.std.specs.List.{list_any, AllByRecursion}
 use Rattle.std.proofs.lemmas.Bool.{false≢true}
 use Rattle.std.proofs.lemmas.Bool.Decides.{nat_tests}
 use Rattle.rd_base.specs.declared.peers.Peer.{Peer}
 use Rattle.rd_base.proofs.lemmas.Each.{each_weaker}
-use Rattle.event_model.specs.Events.{Event}
 use Rattle.event_model.specs.Flights.{is_waited_for}
-use Rattle.event_model.specs.Observers.{observers, observe_values_sent, is_forming}
+use Rattle.event_model.specs.Observers.{observers, observe_values_sent}
 use Rattle.event_model.specs.Same.{is_same_peer}
 use Rattle.journal_model.specs.declared.steps.Step.{Step}
 use Rattle.journal_model.specs.declared.rows.Row.{Row}
 use Rattle.journal_model.specs.Effects.{Effects}
-use Rattle.journal_model.specs.Journal.{is_look, events, transitions}
+use Rattle.journal_model.specs.Journal.{is_look, events}
 use Rattle.journal_model.specs.Rows.{row_moment}
-use Rattle.journal_model.specs.Ticks.{ticking, max_notices, notices_again, notices, notice_next}
+use Rattle.journal_model.specs.Ticks.{ticking, max_notices, notices_again, notices}
 use Rattle.journal_model.specs.UnfinishedRow.{making}
 use Rattle.journal_model.proofs.NoteKinds.{again_tick, tick-entries_in}
 use Rattle.journal_model.proofs.StepNotes.{notices_again-notes}
@@ -62,9 +61,11 @@ planned_begins rows s starved current d p out mids items peers kept way =
     let few = few_observers rows way.journal in
     let given = way.stands.observed in
     record {
+      begins = refl;
       done = first;
       watching = d.watching;
       stands = way.stands.watching;
+      standing = refl;
       same = refl;
       awaited = λ peer. sym (ap (λ (ps : List Peer). is_awaited peer d.watching.observers || list_any (λ (q : Peer). is_same_peer q peer) ps) peers ∙ or_false (is_awaited peer d.watching.observers));
       drew = drew ∙ sym none;

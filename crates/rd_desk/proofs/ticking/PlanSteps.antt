@@ -1,44 +1,34 @@
 -- A plan with one observer more: its listing is unchanged, or it gets a notice.
-use Rattle.std.proofs.Common.{◌≡◌, ℕ, zero, suc, ◌+◌, ◌-◌, ◌%◌, ◌^◌, ◌<◌, ◌≤◌, ◌&&◌, ◌||◌, nat_le, bytes_eq, Bool, true, false, not, cond, List, [], ◌∷◌, ◌++◌, length, drop, fold, slice_get, Option, Some, None, is_some, refl, sym, ap, ap₂, subst, ◌∙◌, arith, append-nil, append_assoc}
+use Rattle.std.proofs.Common.{◌≡◌, ℕ, zero, suc, ◌+◌, ◌%◌, ◌^◌, ◌<◌, ◌≤◌, ◌&&◌, ◌||◌, nat_le, Bool, true, false, cond, List, [], ◌∷◌, ◌++◌, length, drop, fold, slice_get, Some, is_some, refl, sym, ap, ap₂, subst, ◌∙◌, arith, append_assoc}
 use Rattle.std.specs.List.{list_any, AllByRecursion}
 use Rattle.std.proofs.lemmas.Bool.Decides.{nat_tests}
 use Rattle.rd_base.specs.declared.peers.Peer.{Peer}
-use Rattle.rd_base.proofs.lemmas.Each.{each_weaker}
-use Rattle.history_model.specs.Listing.{listing}
-use Rattle.event_model.specs.declared.notes.Note.{Note}
-use Rattle.event_model.specs.declared.notes.Note.TheVariants as note
+use Rattle.std.proofs.lemmas.List.Folds.{list_any-append}
+use Rattle.rd_base.proofs.lemmas.Each.{each_append, each_weaker}
 use Rattle.event_model.specs.declared.notes.Observer.{Observer}
-use Rattle.event_model.specs.Events.{Event}
-use Rattle.event_model.specs.Observers.{name_of, observers, observe_values_sent, last_body_formed}
+use Rattle.event_model.specs.Observers.{observers, observe_values_sent}
 use Rattle.event_model.specs.Same.{is_same_peer}
-use Rattle.event_model.proofs.CounterLaws.{observe_values_sent-event}
-use Rattle.event_model.proofs.NotedLaws.{event_at}
 use Rattle.journal_model.specs.declared.steps.Step.{Step}
 use Rattle.journal_model.specs.declared.rows.Row.{Row}
-use Rattle.journal_model.specs.Effects.{Effects, joined, noting}
-use Rattle.journal_model.specs.Journal.{is_look, events, entries, transitions}
+use Rattle.journal_model.specs.Effects.{Effects, joined}
+use Rattle.journal_model.specs.Journal.{is_look, events, transitions}
 use Rattle.journal_model.specs.Rows.{row_moment}
-use Rattle.journal_model.specs.Ticks.{ticking, events_with, is_unchanged, listing_for, noticed_if, noticed_unless, max_notices, notice_next}
+use Rattle.journal_model.specs.Ticks.{ticking, noticed_if, notice_next}
 use Rattle.journal_model.specs.UnfinishedRow.{making}
-use Rattle.journal_model.proofs.UnfinishedRowLaws.{events-making_joined}
-use Rattle.journal_model.proofs.EntriesNoted.{entries_in-append}
-use Rattle.event_model.proofs.ObserverEvents.{observers-quiet}
+use Rattle.journal_model.proofs.EntriesNoted.{entries_in, none-append}
 use Rattle.transfers.specs.Keeping.{NamedAnswer}
-use Rattle.observers.specs.Watchers.{Watcher, is_awaited, seen, changed_at, is_ready, next_ready}
+use Rattle.observers.specs.Watchers.{Watcher, is_awaited, seen, changed_at, next_ready}
 use Rattle.rd_desk.specs.declared.planning.Plan.{Plan}
 use Rattle.rd_desk.specs.declared.planning.Planned.{Planned}
-use Rattle.rd_desk.specs.declared.planning.Planned.TheVariants as planned
 use Rattle.rd_desk.specs.Noticing.{next_noticed}
-use Rattle.rd_desk.specs.Planning.{planned_done, planned_kept, MayBeDone, IsNext, AreDone, PlannedUpTo}
+use Rattle.rd_desk.specs.Planning.{planned_done, planned_kept, MayBeDone, AreDone, PlannedUpTo}
 use Rattle.rd_desk.specs.Watching.{Watching, WatchingStandsFor}
-use Rattle.rd_desk.proofs.observers.TickLaws.{IsKeptAs, kept-StandsFor, length-StandsFor, got_inside, got_within}
-use Rattle.rd_desk.proofs.observers.WatchingNotes.{WatchingStandsFor-unchanged}
-use Rattle.rd_desk.proofs.ticking.AgainWalk.{drop-changed}
+use Rattle.rd_desk.proofs.ticking.AgainWalk.{length-append}
 use Rattle.rd_desk.proofs.ticking.NoticeWalk.{notices-next}
 use Rattle.rd_desk.proofs.ticking.SkipLaws.{planned_next}
 
 -- an unchanged listing leaves whom notices are in flight to
-awaited-seen : (peer : Peer) (i : ℕ) (ws : List Watcher) → is_awaited peer (changed_at seen i ws) ≡ is_awaited peer ws
+pub awaited-seen : (peer : Peer) (i : ℕ) (ws : List Watcher) → is_awaited peer (changed_at seen i ws) ≡ is_awaited peer ws
 awaited-seen peer i [] = refl
 awaited-seen peer zero (w ∷ ws) = refl
 awaited-seen peer (suc i) (w ∷ ws) = ap (λ (b : Bool). (is_same_peer w.peer peer && is_some w.flight) || b) (awaited-seen peer i ws)
@@ -101,3 +91,50 @@ planned_left rows s starved current whole first ws given p after from index x o 
   where
     below : (n : ℕ) → n < 64 → nat_le 64 n ≡ false
     below n k = grind (arith, nat_tests, k)
+
+-- how much it grows: it may have one peer more, which then is waited for
+pub record Grows (rows : List Row) (s : Step) (starved : Bool) (p after : Plan) (done e : Effects) (w now : Watching) (added : List Peer) : Type 0 where
+  pub peers : after.peers.items ≡ p.peers.items ++ added
+  pub one : length added ≤ 1
+  pub drew : e.drew ≡ length added
+  pub size : length e.sent ≤ length added
+  pub awaited : (peer : Peer) → is_awaited peer now.observers ≡ (is_awaited peer w.observers || list_any (λ q. is_same_peer q peer) added)
+  pub sent : AllByRecursion (λ d. is_awaited d.0 now.observers ≡ true) e.sent
+  pub silent : entries_in e.notes ≡ []
+  pub observed : observe_values_sent (events (making rows s starved (joined done e))) ≡ (observe_values_sent (events (making rows s starved done)) + length added) % 2 ^ 64
+
+-- so it is a plan up to the one after it
+pub planned_adds : (rows : List Row) (s : Step) (starved : Bool) (current : List ℕ) (whole first : Effects) (ws : List Watcher) (given : ℕ) (p after : Plan) (from index : ℕ) (x : Watcher) (o : Observer) (item : Planned) (now : Watching) (added : List Peer) → is_look s.kind ≡ false
+    → next_ready from ws ≡ Some index → slice_get ws index ≡ Some x → list_any (λ q. is_same_peer q x.peer) p.peers.items ≡ false → length p.peers.items < 64 → (h : PlannedUpTo rows s starved current whole first ws given p from)
+    → drop (index + 1) h.watching.observers ≡ drop (index + 1) ws → Adds rows s starved current p after h.done h.watching now index o item → Grows rows s starved p after h.done (planned_done current o item) h.watching now added
+    → PlannedUpTo rows s starved current whole first ws given after (index + 1)
+planned_adds rows s starved current whole first ws given p after from index x o item now added desk is got free few h later it g = record {
+  begins = h.begins;
+  done = joined h.done e;
+  watching = now;
+  stands = it.stands;
+  standing = it.standing ∙ h.standing;
+  same = it.same ∙ later;
+  awaited = λ peer. g.awaited peer ∙ (ap (λ (b : Bool). b || list_any (λ (q : Peer). is_same_peer q peer) added) (h.awaited peer) ∙ (or_or (is_awaited peer ws) (list_any (λ (q : Peer). is_same_peer q peer) p.peers.items) (list_any (λ (q : Peer). is_same_peer q peer) added)
+      ∙ ap (λ (b : Bool). is_awaited peer ws || b) (sym (ap (list_any (λ (q : Peer). is_same_peer q peer)) g.peers ∙ list_any-append (λ (q : Peer). is_same_peer q peer) p.peers.items added))));
+  drew = let before = h.drew in let more = g.drew in let l = len in omega (arith, before, more, l);
+  few = let one = g.one in let l = len in omega (arith, few, one, l);
+  sent = each_append (λ (d : Peer × List ℕ). is_awaited d.0 now.observers ≡ true) h.done.sent e.sent
+      (each_weaker (λ (d : Peer × List ℕ). is_awaited d.0 h.watching.observers ≡ true) (λ (d : Peer × List ℕ). is_awaited d.0 now.observers ≡ true)
+      (λ d waits. g.awaited d.0 ∙ ap (λ (b : Bool). b || list_any (λ (q : Peer). is_same_peer q d.0) added) waits) h.done.sent h.sent) g.sent;
+  size = let before = h.size in let more = g.size in let l = len in let both = length-append h.done.sent e.sent in omega (arith, before, more, l, both);
+  silent = none-append h.done.notes e.notes h.silent g.silent;
+  observed = let before = h.observed in let more = g.observed in let l = len in omega (arith, before, more, l);
+  left = planned_left rows s starved current whole first ws given p after from index x o item now desk is got free few h it;
+  plan = planned_plan rows s starved current whole first ws given p after from index x o item now is got free few h it;
+}
+  where
+    e : Effects
+    e = planned_done current o item
+
+    len : length after.peers.items ≡ length p.peers.items + length added
+    len = ap (λ (qs : List Peer). length qs) g.peers ∙ length-append p.peers.items added
+
+    or_or : (a b c : Bool) → ((a || b) || c) ≡ (a || (b || c))
+    or_or true b c = refl
+    or_or false b c = refl

@@ -1,5 +1,5 @@
 -- The third part of a tick, fetch after fetch: each request by what is due of it, and then the next.
-use Rattle.std.proofs.Common.{◌≡◌, ◌≢◌, ℕ, zero, suc, ◌+◌, ◌<◌, ◌≤◌, ◌||◌, nat_le, Bool, true, false, cond, List, [], ◌∷◌, ◌++◌, length, map, drop, slice_get, Option, Some, None, is_some, option_map, option_and_then, refl, sym, ap, ap₂, subst, ◌∙◌, arith}
+use Rattle.std.proofs.Common.{◌≡◌, ℕ, zero, suc, ◌+◌, ◌<◌, ◌≤◌, ◌||◌, nat_le, Bool, true, false, cond, List, [], ◌∷◌, ◌++◌, length, map, drop, slice_get, Option, Some, None, is_some, option_map, option_and_then, refl, sym, ap, subst, ◌∙◌, arith}
 use Rattle.std.specs.List.{AllByRecursion}
 use Rattle.std.proofs.lemmas.Bool.{false≢true}
 use Rattle.rd_base.specs.declared.peers.Peer.{Peer}
@@ -7,7 +7,7 @@ use Rattle.rd_base.proofs.lemmas.Each.{each_one}
 use Rattle.event_model.specs.declared.notes.Note.{Note}
 use Rattle.event_model.specs.declared.notes.Note.TheVariants as note
 use Rattle.event_model.specs.Same.{is_same_peer}
-use Rattle.event_model.specs.Events.{Event, last_event, noted}
+use Rattle.event_model.specs.Events.{Event, noted}
 use Rattle.event_model.specs.Flights.{OctetsSent, max_again}
 use Rattle.event_model.specs.Fetches.{Request, Fetch, request_noted, is_request_to, last_request, fetches, fetch_asked, fetch_of, fetches_running, is_waiting, resendings, fetch_deadline}
 use Rattle.event_model.proofs.NotedLaws.{event_at}
@@ -34,11 +34,10 @@ use Rattle.simple_registration.proofs.TableLaws.{running_length}
 use Rattle.rd_desk.specs.declared.mids.Mids.{Mids}
 use Rattle.rd_desk.specs.Desks.{Seen}
 use Rattle.rd_desk.specs.Resending.{IsAsBefore, LeavesFetches, fetches_left, request_done, Resending}
-use Rattle.rd_desk.specs.Sendings.{Sends}
 use Rattle.rd_desk.specs.UnderWay.{UnderWay}
 use Rattle.rd_desk.proofs.answers.SendingLaws.{sends_notes}
 use Rattle.rd_desk.proofs.observers.TickLaws.{each_at, got_inside}
-use Rattle.rd_desk.proofs.parts.EffectLaws.{joined-nothing, joined-nothing_first, joined-assoc}
+use Rattle.rd_desk.proofs.parts.EffectLaws.{joined-nothing, joined-assoc}
 use Rattle.rd_desk.proofs.parts.PartLaws.{more_fetches}
 use Rattle.rd_desk.proofs.parts.WayLaws.{way_moment}
 use Rattle.rd_desk.proofs.ticking.AgainWalk.{drop-got, drop-end, length-append}

@@ -1,7 +1,6 @@
 -- A plan, observer after observer: one to whose peer a notice is planned is passed over, and any other that is due and free comes next.
 use Rattle.std.proofs.Common.{◌≡◌, ℕ, zero, suc, ◌+◌, ◌-◌, ◌<◌, ◌≤◌, ◌&&◌, ◌||◌, nat_le, Bool, true, false, not, cond, List, [], ◌∷◌, length, drop, fold, slice_get, Option, Some, None, refl, sym, ap, ap₂, subst, ◌∙◌, arith}
 use Rattle.std.specs.List.{list_any}
-use Rattle.std.proofs.lemmas.Bool.{false≢true}
 use Rattle.std.proofs.lemmas.Bool.Decides.{nat_tests}
 use Rattle.rd_base.specs.declared.peers.Peer.{Peer}
 use Rattle.rd_base.proofs.lemmas.Options.{some_same}
@@ -24,15 +23,15 @@ use Rattle.rd_desk.specs.declared.planning.Plan.{Plan}
 use Rattle.transfers.specs.Keeping.{NamedAnswer}
 use Rattle.rd_desk.specs.declared.planning.Planned.{Planned}
 use Rattle.rd_desk.specs.Noticing.{first_observer, next_noticed}
-use Rattle.rd_desk.specs.Planning.{IsNext, AreDone, PlannedUpTo}
+use Rattle.rd_desk.specs.Planning.{AreDone, PlannedUpTo}
 use Rattle.rd_desk.specs.Watching.{Watching, WatchingStandsFor}
-use Rattle.rd_desk.proofs.observers.TickLaws.{next-StandsFor, length-StandsFor, got_inside, got_within}
+use Rattle.rd_desk.proofs.observers.TickLaws.{next-StandsFor, got_inside}
 use Rattle.rd_desk.proofs.ticking.NoticeWalk.{notices-next, notices-end, drop-drop, got-drop}
 use Rattle.rd_desk.proofs.ticking.PlanLaws.{free_before}
 
 -- ---- the first that passes one test, and the first that passes a stronger one
 
-first-least : (test : Watcher → Bool) (i j : ℕ) (xs : List Watcher) → first_from test i xs ≡ Some j → i ≤ j
+pub first-least : (test : Watcher → Bool) (i j : ℕ) (xs : List Watcher) → first_from test i xs ≡ Some j → i ≤ j
 first-least test i j [] h = absurd (let none_is : None ≡ Some j = h in cc)
 first-least test i j (x ∷ xs) h = by (test x) h (λ g. first-least test (i + 1) j xs g)
   where
@@ -60,7 +59,7 @@ first-either weak strong stronger i j k (y ∷ ys) x b h at got is = by (weak y)
         ∙ more g n (omega (arith, here)) there
 
 -- the first passes
-first-passes : (test : Watcher → Bool) (i j k : ℕ) (xs : List Watcher) (x : Watcher) → first_from test i xs ≡ Some j → j ≡ i + k → slice_get xs k ≡ Some x → test x ≡ true
+pub first-passes : (test : Watcher → Bool) (i j k : ℕ) (xs : List Watcher) (x : Watcher) → first_from test i xs ≡ Some j → j ≡ i + k → slice_get xs k ≡ Some x → test x ≡ true
 first-passes test i j k [] x h at got = absurd (let none_is : None ≡ Some j = h in cc)
 first-passes test i j k (y ∷ ys) x h at got = by (test y) refl h k at got (λ g n here there. first-passes test (i + 1) j n ys x g here there)
   where
@@ -183,9 +182,11 @@ pub planned_skips : (rows : List Row) (s : Step) (starved : Bool) (current : Lis
     → PlannedUpTo rows s starved current whole first ws given p from → PlannedUpTo rows s starved current whole first ws given p (index + 1)
 unfolding next_ready
 planned_skips rows s starved current whole first ws given p from index x desk few is got planned h = record {
+  begins = h.begins;
   done = h.done;
   watching = h.watching;
   stands = h.stands;
+  standing = h.standing;
   same = after;
   awaited = h.awaited;
   drew = h.drew;

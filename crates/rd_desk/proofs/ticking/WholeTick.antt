@@ -1,5 +1,5 @@
 -- A tick, part after part: what the notices leave for the requests of fetches, how many datagrams go out, and that the parts are all that a tick does.
-use Rattle.std.proofs.Common.{◌≡◌, ℕ, ◌+◌, ◌<◌, ◌≤◌, ◌&&◌, ◌||◌, nat_le, Bool, true, false, not, cond, List, [], ◌∷◌, ◌++◌, length, fold, Option, Some, None, refl, sym, ap, subst, ◌∙◌, arith}
+use Rattle.std.proofs.Common.{◌≡◌, ℕ, ◌+◌, ◌<◌, ◌≤◌, ◌&&◌, nat_le, Bool, true, false, not, cond, List, [], ◌∷◌, length, fold, Option, Some, None, refl, sym, ap, ◌∙◌, arith}
 use Rattle.std.specs.List.{list_any}
 use Rattle.std.proofs.lemmas.Bool.{false≢true, and_parts}
 use Rattle.std.proofs.lemmas.Bool.Decides.{nat_tests}
@@ -9,7 +9,6 @@ use Rattle.rd_base.specs.declared.peers.Peer.{Peer}
 use Rattle.event_model.specs.declared.notes.Note.{Note}
 use Rattle.event_model.specs.declared.notes.Note.TheVariants as note
 use Rattle.event_model.specs.declared.notes.Observer.{Observer}
-use Rattle.event_model.specs.Events.{Event, noted}
 use Rattle.event_model.specs.Due.{is_due}
 use Rattle.event_model.specs.Flights.{Flight, max_again, deadline, flight, is_waited_for}
 use Rattle.event_model.specs.KeptAnswers.{Answer}
@@ -28,7 +27,6 @@ use Rattle.journal_model.specs.Journal.{events}
 use Rattle.journal_model.specs.Rows.{row_moment, effects, row}
 use Rattle.journal_model.specs.Ticks.{confirmable_sent, sent_again, each_of, notice_again, flight_again, notices_again, Ticking, ticking, events_with, first_block, is_unchanged, noticed_unless, listing_for, noticed_if, is_looked_at, notice_next, notices, requests_again, tick_effects}
 use Rattle.journal_model.specs.Journal.{row_at}
-use Rattle.journal_model.specs.UnfinishedRow.{making}
 use Rattle.journal_model.proofs.NoteKinds.{of_again, none_of}
 use Rattle.journal_model.proofs.StepNotes.{notices_again-notes}
 use Rattle.simple_registration.specs.FetchEvents.{fetch_due}
@@ -38,7 +36,7 @@ use Rattle.simple_registration.proofs.PeerLaws.{fetches-aside}
 use Rattle.rd_desk.specs.declared.mids.Mids.{Mids}
 use Rattle.rd_desk.specs.Desks.{Seen}
 use Rattle.rd_desk.specs.Planning.{notices_done}
-use Rattle.rd_desk.specs.Resending.{IsAsBefore, LeavesFetches}
+use Rattle.rd_desk.specs.Resending.{LeavesFetches}
 use Rattle.rd_desk.specs.UnderWay.{UnderWay, IsCalled, Made}
 use Rattle.rd_desk.proofs.parts.WayLaws.{ended}
 use Rattle.rd_desk.proofs.ticking.AgainWalk.{length-append}

@@ -1,5 +1,4 @@
-use Rattle.std.proofs.Common.{◌≡◌, refl, arith}
-use Rattle.message_model.specs.Blocks.{block_size}
+use Rattle.std.proofs.Common.{refl, arith}
 use Rattle.rd_desk.proofs.answers.ReplySizes.{block_short}
 use Rattle.rd_desk.proofs.bodies.body_reply.Goals as goal
 

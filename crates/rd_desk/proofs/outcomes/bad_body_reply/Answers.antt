@@ -1,4 +1,4 @@
-use Rattle.std.proofs.Common.{◌≡◌, sym, ap, subst}
+use Rattle.std.proofs.Common.{sym, ap, subst}
 use Rattle.record_model.specs.BodyFaults.{is_of_links, is_of_limits}
 use Rattle.registration.specs.Drafts.{IsFaultOf}
 use Rattle.journal_model.specs.Changes.{BodyRead}

@@ -1,6 +1,6 @@
-use Rattle.std.proofs.Common.{◌≡◌, [], sym, ap, subst, ◌∙◌}
+use Rattle.std.proofs.Common.{[], sym, subst, ◌∙◌}
 use Rattle.coap_message.specs.Views.{message_in}
-use Rattle.journal_model.specs.Effects.{Effects, Reply, nothing, answering}
+use Rattle.journal_model.specs.Effects.{Effects, Reply, answering}
 use Rattle.rd_desk.specs.Asking.{refused_with}
 use Rattle.rd_desk.specs.Sendings.{Sends}
 use Rattle.rd_desk.proofs.answers.RefusalLaws.{passed_over, answered}

@@ -1,4 +1,4 @@
-use Rattle.std.proofs.Common.{◌≡◌, length, ap, ◌∙◌, arith}
+use Rattle.std.proofs.Common.{length, ap, ◌∙◌, arith}
 use Rattle.message_model.specs.Spelling.{spelling}
 use Rattle.rd_desk.proofs.answers.ReplySizes.{begun_size}
 use Rattle.rd_desk.proofs.replies.begin_answer.Goals as goal

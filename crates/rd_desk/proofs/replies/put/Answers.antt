@@ -1,7 +1,5 @@
-use Rattle.std.proofs.Common.{◌≡◌, ℕ, length, ap, ◌∙◌, arith}
-use Rattle.message_model.specs.Message.{Message, end_number}
+use Rattle.std.proofs.Common.{length, ap, arith}
 use Rattle.message_model.specs.Spelling.{spelling}
-use Rattle.message_model.proofs.OrderLemmas.{end_number-push}
 use Rattle.rd_desk.proofs.answers.ReplySizes.{with_option_size, ready_after}
 use Rattle.rd_desk.proofs.replies.put.Goals as goal
 

@@ -1,4 +1,4 @@
-use Rattle.std.proofs.Common.{◌≡◌, sym, ◌∙◌}
+use Rattle.std.proofs.Common.{sym, ◌∙◌}
 use Rattle.coap_message.specs.Views.{message_in}
 use Rattle.rd_desk.proofs.answers.AskedLaws.{query_refused, payload_refused, none_refused}
 use Rattle.rd_desk.proofs.requests.asked.Goals as goal

@@ -1,4 +1,4 @@
-use Rattle.std.proofs.Common.{◌≡◌, sym, ◌∙◌}
+use Rattle.std.proofs.Common.{sym, ◌∙◌}
 use Rattle.coap_message.specs.Views.{message_in}
 use Rattle.rd_desk.proofs.answers.AskedLaws.{looks_by}
 use Rattle.rd_desk.proofs.requests.is_look_request.Goals as goal

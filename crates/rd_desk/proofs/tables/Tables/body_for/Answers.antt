@@ -1,5 +1,4 @@
-use Rattle.std.proofs.Common.{◌≡◌, ◌<◌, length, sym, ap, subst, ◌∙◌, arith}
-use Rattle.std.specs.Arc.{arc_value}
+use Rattle.std.proofs.Common.{length, sym, ap, subst, ◌∙◌, arith}
 use Rattle.history_model.specs.Versions.{Version, VersionStandsFor}
 use Rattle.event_model.specs.Observers.{observers}
 use Rattle.journal_model.specs.Journal.{events, entries}

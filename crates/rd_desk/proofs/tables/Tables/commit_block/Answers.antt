@@ -1,10 +1,7 @@
 use Rattle.std.proofs.Common.{◌≡◌, ◌≢◌, true, false, [], ◌∷◌, refl, sym, subst, ◌∙◌}
-use Rattle.rd_base.specs.declared.peers.Peer.{Peer}
 use Rattle.coap_message.specs.Views.{message_in}
-use Rattle.event_model.specs.AdmissionOrder.{IsOpen}
 use Rattle.event_model.specs.declared.notes.Note.TheVariants as note
 use Rattle.journal_model.specs.Effects.{nothing, joined, noting}
-use Rattle.journal_model.specs.Journal.{events}
 use Rattle.transfers.specs.declared.collecting.Upload.{Upload}
 use Rattle.transfers.specs.declared.collecting.Upload.TheVariants as answer
 use Rattle.rd_desk.specs.Replies.{reply_said}

@@ -1,5 +1,4 @@
-use Rattle.std.proofs.Common.{◌≡◌, Some, None, Option, sym, ap, subst, ◌∙◌}
-use Rattle.message_model.specs.declared.blocks.Block.{Block}
+use Rattle.std.proofs.Common.{Some, None, sym, ◌∙◌}
 use Rattle.coap_message.specs.Views.{message_in}
 use Rattle.rd_desk.specs.Stepping.{is_starved_step}
 use Rattle.rd_desk.proofs.changes.CommitLaws.{way_registered}

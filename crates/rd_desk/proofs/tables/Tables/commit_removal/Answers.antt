@@ -1,7 +1,6 @@
-use Rattle.std.proofs.Common.{[], None, ap, ◌∙◌}
+use Rattle.std.proofs.Common.{ap, ◌∙◌}
 use Rattle.coap_message.specs.Views.{message_in}
-use Rattle.journal_model.specs.Commits.{updating, removing}
-use Rattle.journal_model.specs.Registrations.{registration_outcome}
+use Rattle.journal_model.specs.Commits.{removing}
 use Rattle.journal_model.specs.Journal.{entries}
 use Rattle.journal_model.specs.Rows.{row_moment}
 use Rattle.rd_desk.specs.Desks.{Seen}

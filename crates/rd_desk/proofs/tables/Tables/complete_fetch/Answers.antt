@@ -1,4 +1,4 @@
-use Rattle.std.proofs.Common.{[], false, refl, sym, ap, subst, ◌∙◌}
+use Rattle.std.proofs.Common.{false, refl, sym, ap, subst, ◌∙◌}
 use Rattle.coap_message.specs.Views.{message_in}
 use Rattle.history_model.specs.Versions.{VersionStandsFor}
 use Rattle.rd_desk.specs.Desks.{Seen}

@@ -1,4 +1,4 @@
-use Rattle.std.proofs.Common.{[], true, false, subst, ap}
+use Rattle.std.proofs.Common.{[], true, false, subst}
 use Rattle.rd_desk.specs.Committing.{IsShort}
 use Rattle.rd_desk.specs.Outcomes.{IsTimely}
 use Rattle.rd_desk.specs.Replies.{IsReply}

@@ -1,9 +1,8 @@
-use Rattle.std.proofs.Common.{◌≡◌, ◌+◌, ◌≤◌, true, false, Some, None, List, length, slice_get, drop, refl, sym, ap, subst, ◌∙◌, arith}
-use Rattle.observers.specs.Watchers.{Watcher}
+use Rattle.std.proofs.Common.{◌+◌, length, drop, sym, ap, ◌∙◌, arith}
 use Rattle.rd_desk.specs.Desks.{Seen}
 use Rattle.rd_desk.specs.Noticing.{index_after}
 use Rattle.rd_desk.proofs.observers.TickLaws.{got_inside}
-use Rattle.rd_desk.proofs.ticking.AgainWalk.{drop-got, again_begins, again_goes, again_ends}
+use Rattle.rd_desk.proofs.ticking.AgainWalk.{again_begins, again_goes, again_ends}
 use Rattle.rd_desk.proofs.tables.Tables.notices_again.Goals as goal
 
 pub observers-init : goal.observers-init

@@ -1,4 +1,4 @@
-use Rattle.std.proofs.Common.{◌≡◌, Some, option_map, slice_get, sym, subst, ap, ◌∙◌}
+use Rattle.std.proofs.Common.{option_map, sym, subst, ap, ◌∙◌}
 use Rattle.rd_desk.specs.Desks.{Seen, StandsFor}
 use Rattle.rd_desk.proofs.observers.ShownLaws.{shown-IsObserverAfter}
 use Rattle.rd_desk.proofs.tables.Tables.observer.Goals as goal

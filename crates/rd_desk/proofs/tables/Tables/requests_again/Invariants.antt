@@ -1,4 +1,4 @@
-use Rattle.std.proofs.Common.{◌≡◌, ◌+◌, ◌-◌, ◌≤◌, Bool, List, length}
+use Rattle.std.proofs.Common.{◌+◌, ◌-◌, ◌≤◌, Bool, List, length}
 use Rattle.event_model.specs.Fetches.{fetches}
 use Rattle.journal_model.specs.declared.steps.Step.{Step}
 use Rattle.journal_model.specs.declared.rows.Row.{Row}

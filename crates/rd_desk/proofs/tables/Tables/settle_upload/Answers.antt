@@ -5,7 +5,7 @@ use Rattle.journal_model.specs.Effects.{Effects, nothing, joined, noting}
 use Rattle.journal_model.specs.Journal.{entries}
 use Rattle.rd_desk.specs.Replies.{reply_said}
 use Rattle.rd_desk.proofs.changes.SettlingLaws.{open_more}
-use Rattle.rd_desk.proofs.changes.UploadLaws.{IsAccepted, refused_notes, accepted_notes, settled_refusal, settled_upload}
+use Rattle.rd_desk.proofs.changes.UploadLaws.{refused_notes, accepted_notes, settled_refusal, settled_upload}
 use Rattle.rd_desk.proofs.tables.Tables.settle_upload.Goals as goal
 
 pub returns-in_default-clause-way : goal.returns-in_default-clause-way
