@@ -4,7 +4,7 @@ ghost use Rattle.std.specs.Prelude.{◌≡◌, ◌<◌, ◌≤◌, ◌^◌, IfOk
 ghost use Rattle.record_model.specs.AllowedParameters.{AreAllowed, IsAllowedChange};
 ghost use Rattle.registration.specs.Drafts.{IsDraft};
 
-use crate::tables::{Costs, ROUNDS, Rounds, Trouble, begin};
+use crate::tables::{Costs, ROUNDS, Rounds, Trouble, begin, time_since};
 use directory_core::Directory;
 use query_text::{reg_params, update_params};
 use rd_base::{
@@ -15,7 +15,7 @@ use registration::{Draft, build};
 use std::alloc::Global;
 use std::marker::Brand;
 use std::sync::ledger::{Blank, Ledger};
-use std::time::{Duration, Instant};
+use std::time::Duration;
 
 /// How many registrations are live.
 const SIZES: [u64; 2] = [64, 4_096];
@@ -163,12 +163,6 @@ fn filled(alloc: Global, size: u64) -> Result<Directory, Trouble> {
         version = registered(alloc, &version, number, lt)?;
     }
     Ok(version)
-}
-
-/// How many nanoseconds have passed.
-fn time_since(rt: &HostRuntime, start: Instant) -> Result<u64, Trouble> {
-    let time = start.elapsed(rt)?;
-    Ok(u64::try_from(time.as_nanos()).unwrap_or(u64::MAX))
 }
 
 /// How long a registration takes.

@@ -8,6 +8,8 @@
 mod attributes;
 mod blocks;
 mod datagrams;
+mod desk_requests;
+mod desks;
 mod directories;
 mod exchanges;
 mod leases;
@@ -16,6 +18,7 @@ mod looks;
 mod maps;
 mod registrations;
 mod sample_boards;
+mod sample_desks;
 mod tables;
 mod turns;
 
@@ -34,6 +37,7 @@ fn measured<R: Threads + Wait + Net + Sync>(rt: &HostRuntime, threads: &R) -> Re
     registrations::measured(rt)?;
     listings::measured(rt)?;
     directories::measured(rt)?;
+    desks::measured(rt)?;
     turns::measured(rt, threads)?;
     datagrams::measured(rt, threads)?;
     looks::measured(rt, threads)

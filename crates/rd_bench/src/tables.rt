@@ -56,6 +56,12 @@ pub fn begin(rt: &HostRuntime) -> Result<Instant, Trouble> {
     Ok(Instant::now(rt)?)
 }
 
+/// How many nanoseconds have passed since a moment.
+pub fn time_since(rt: &HostRuntime, start: Instant) -> Result<u64, Trouble> {
+    let time = start.elapsed(rt)?;
+    Ok(u64::try_from(time.as_nanos()).unwrap_or(u64::MAX))
+}
+
 /// The times of the rounds of one call at one size, in nanoseconds.
 #[derive(Drop)]
 pub struct Rounds {
