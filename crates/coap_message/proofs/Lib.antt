@@ -1,3 +1,4 @@
 pub mod OptionsAtLemmas
 pub mod ViewLemmas
 pub mod WriterLemmas
+pub mod MessageSizes

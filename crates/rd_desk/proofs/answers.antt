@@ -1,5 +1,5 @@
 pub mod OutboxLaws
-pub mod ReplySizes
+pub mod ReplyWriting
 pub mod AskedLaws
 pub mod SendingLaws
 pub mod RefusalLaws

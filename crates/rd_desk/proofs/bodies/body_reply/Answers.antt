@@ -1,5 +1,5 @@
 use Rattle.std.proofs.Common.{refl, arith}
-use Rattle.rd_desk.proofs.answers.ReplySizes.{block_short}
+use Rattle.rd_desk.proofs.answers.ReplyWriting.{block_short}
 use Rattle.rd_desk.proofs.bodies.body_reply.Goals as goal
 
 pub returns-clause-reply : goal.returns-clause-reply

@@ -2,7 +2,7 @@ use Rattle.std.proofs.Common.{ap, ◌∙◌, arith}
 use Rattle.message_model.specs.Spelling.{spelling}
 use Rattle.coap_message.specs.Views.{message_in}
 use Rattle.rd_desk.specs.Replies.{reply_said}
-use Rattle.rd_desk.proofs.answers.ReplySizes.{with_payload_size}
+use Rattle.coap_message.proofs.MessageSizes.{with_payload_size}
 use Rattle.rd_desk.proofs.answers.SendingLaws.{sends_answer}
 use Rattle.rd_desk.proofs.replies.answer.Goals as goal
 

@@ -1,6 +1,6 @@
 use Rattle.std.proofs.Common.{length, ap, ◌∙◌, arith}
 use Rattle.message_model.specs.Spelling.{spelling}
-use Rattle.rd_desk.proofs.answers.ReplySizes.{begun_size}
+use Rattle.coap_message.proofs.MessageSizes.{begun_size}
 use Rattle.rd_desk.proofs.replies.begin_answer.Goals as goal
 
 pub put_options-requires-clause-room : goal.put_options-requires-clause-room

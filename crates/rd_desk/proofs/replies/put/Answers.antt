@@ -1,6 +1,7 @@
 use Rattle.std.proofs.Common.{length, ap, arith}
 use Rattle.message_model.specs.Spelling.{spelling}
-use Rattle.rd_desk.proofs.answers.ReplySizes.{with_option_size, ready_after}
+use Rattle.coap_message.proofs.MessageSizes.{with_option_size}
+use Rattle.rd_desk.proofs.answers.ReplyWriting.{ready_after}
 use Rattle.rd_desk.proofs.replies.put.Goals as goal
 
 pub unreachable-requires : goal.unreachable-requires

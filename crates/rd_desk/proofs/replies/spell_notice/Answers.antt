@@ -2,7 +2,7 @@ use Rattle.std.proofs.Common.{length, ap, ◌∙◌, arith}
 use Rattle.message_model.specs.declared.messages.Kind4.TheVariants.{Con}
 use Rattle.message_model.specs.Message.{Message}
 use Rattle.message_model.specs.Spelling.{spelling}
-use Rattle.rd_desk.proofs.answers.ReplySizes.{begun_size, with_payload_size}
+use Rattle.coap_message.proofs.MessageSizes.{begun_size, with_payload_size}
 use Rattle.rd_desk.proofs.replies.spell_notice.Goals as goal
 
 pub put_options-requires-clause-room : goal.put_options-requires-clause-room

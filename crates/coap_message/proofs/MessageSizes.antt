@@ -1,13 +1,10 @@
 -- How long messages are that are written option by option.
-use Rattle.std.proofs.Common.{◌≡◌, ℕ, zero, suc, lit≤, ◌<◌, ◌+◌, ◌-◌, ◌/◌, ◌%◌, ◌≤◌, Bool, true, false, List, [], ◌∷◌, ◌++◌, length, sym, ap, subst, ◌∙◌, arith, append-nil, if◌then◌else◌, nat_lt}
+use Rattle.std.proofs.Common.{◌≡◌, ℕ, lit≤, ◌<◌, ◌+◌, ◌-◌, ◌/◌, ◌%◌, ◌≤◌, Bool, true, false, List, [], ◌∷◌, ◌++◌, length, ap, ◌∙◌, arith, append-nil, if◌then◌else◌, nat_lt}
 use Rattle.std.proofs.lemmas.List.{length-append}
 use Rattle.message_model.specs.Message.{Message, Opt, end_number}
 use Rattle.message_model.specs.declared.messages.Kind4.{Kind4}
 use Rattle.message_model.specs.Spelling.{first_extended, first_long, extension_of, header_spelling, option_spelling, options_spelling, payload_spelling, spelling}
 use Rattle.coap_message.specs.PartialMessages.{with_last_option, with_payload, bare_message}
-use Rattle.message_model.proofs.OrderLemmas.{end_number-push}
-use Rattle.message_model.specs.Blocks.{block_size}
-use Rattle.rd_desk.specs.Writing.{IsReadyFor}
 use Rattle.coap_message.proofs.WriterLemmas.{spelled_option, spelled_payload}
 
 -- at most two octets extend a nibble
@@ -37,7 +34,7 @@ with_option_size m option none =
     omega (arith, whole, short)
 
 -- a payload takes at most one octet beside its own
-payload_short : (payload : List ℕ) → length (payload_spelling payload) ≤ 1 + length payload
+pub payload_short : (payload : List ℕ) → length (payload_spelling payload) ≤ 1 + length payload
 unfolding payload_spelling
 payload_short [] = omega arith
 payload_short (b ∷ bytes) = omega arith
@@ -55,26 +52,3 @@ unfolding spelling header_spelling options_spelling payload_spelling
 begun_size kind code mid token =
     let e : length (token ++ []) ≡ length token = ap (λ (xs : List ℕ). length xs) (append-nil token) in
     omega (arith, e)
-
--- after an option of a number others of that number may follow
-pub ready_after : (number : ℕ) (value : List ℕ) (m after : Message) → IsReadyFor number m → after ≡ with_last_option m (number, value) → IsReadyFor number after
-ready_after number value m after ready is = subst (IsReadyFor number) (sym is) (record {
-  filled = ready.filled;
-  open_end = ready.open_end;
-  ascends = let last = end_number-push 0 m.options (number, value) in omega (arith, last);
-})
-
--- and of any later one
-pub ready_later : (number later : ℕ) (m : Message) → IsReadyFor number m → number ≤ later → IsReadyFor later m
-ready_later number later m ready most = record { filled = ready.filled; open_end = ready.open_end; ascends = let a = ready.ascends in omega (arith, a, most) }
-
--- no block is longer than 1,024 octets (RFC 7959 section 2.2)
-pub block_short : (szx : ℕ) → szx < 7 → block_size szx ≤ 1_024
-block_short zero h = lit≤ tt
-block_short (suc zero) h = lit≤ tt
-block_short (suc (suc zero)) h = lit≤ tt
-block_short (suc (suc (suc zero))) h = lit≤ tt
-block_short (suc (suc (suc (suc zero)))) h = lit≤ tt
-block_short (suc (suc (suc (suc (suc zero))))) h = lit≤ tt
-block_short (suc (suc (suc (suc (suc (suc zero)))))) h = lit≤ tt
-block_short (suc (suc (suc (suc (suc (suc (suc n))))))) h = absurd (omega (arith, h))
