@@ -1,16 +1,14 @@
--- A change of the value at a key: in a pair, in the part where the key stands, and in the whole.
-use Rattle.std.proofs.Common.{◌≡◌, ℕ, ◌+◌, ◌<◌, List, [], ◌∷◌, ◌++◌, length, take, drop, slice_index_or, Option, Some, None, IsSome, refl, sym, ap, ◌∙◌, subst, arith, append_assoc}
+-- A change of the value at a key: in the part where the key stands, and in the whole.
+use Rattle.std.proofs.Common.{◌≡◌, ℕ, ◌+◌, ◌<◌, List, ◌++◌, length, take, drop, slice_index_or, Option, Some, None, sym, ap, ◌∙◌, subst, arith, append_assoc}
 use Rattle.std.specs.declared.cmp.Ordering.{Ordering}
-use Rattle.std.specs.declared.cmp.Ordering.TheVariants.{Less, Equal, Greater}
 use Rattle.std.specs.List.{flat_map}
 use Rattle.std.specs.Cmp.{IsTotalOrder}
-use Rattle.std.specs.BTreeMap.{insert_entry, is_at}
-use Rattle.std.specs.Map.{lookup, remove_entry}
+use Rattle.std.specs.BTreeMap.{is_at}
 use Rattle.std.proofs.lemmas.List.{length-append}
 use Rattle.chunk_map.specs.declared.change.Tally.{Tally}
 use Rattle.chunk_map.specs.declared.change.Tally.TheVariants.{Same, More, Fewer}
 use Rattle.chunk_map.specs.Changes.{IsChanged, IsCounted, with_value}
-use Rattle.chunk_map.specs.Sorted.{IsAscending, AllGreater, AllLess, option_flat}
+use Rattle.chunk_map.specs.Sorted.{IsAscending, AllGreater, AllLess}
 use Rattle.chunk_map.proofs.SortedLaws.{ascends_insert, ascends_remove}
 use Rattle.chunk_map.proofs.PartLaws.{cut_is, insert_at, remove_at, lookup_at}
 
@@ -21,39 +19,6 @@ ascends_changed {K} {V} {R} o gives es key es' up h = subst (λ xs. IsAscending 
     by : (new : Option V) → IsAscending R (with_value R es key new)
     by None = ascends_remove R (is_at (R key)) es up
     by (Some v) = ascends_insert o key v es up
-
--- ---- a change of a pair
-
-module _ {K V : Type 0} (R : K → K → Ordering) (key : K) (p : K × V) (gives : Option V → Option V → Type 0) where
-  pub changed_before : R key p.0 ≡ Less → (es' : List (K × V)) → (new : Option V) × gives None new × (es' ≡ option_flat (λ v. (key, v) ∷ []) new ++ (p ∷ [])) → IsChanged R gives (p ∷ []) key es'
-  changed_before less es' h = rw less (h.0, h.1, h.2 ∙ by h.0)
-    where
-      by : (new : Option V) → option_flat (λ v. (key, v) ∷ []) new ++ (p ∷ []) ≡ with_value R (p ∷ []) key new
-      by None = rw less refl
-      by (Some v) = rw less refl
-
-  pub changed_behind : R key p.0 ≡ Greater → (es' : List (K × V)) → (new : Option V) × gives None new × (es' ≡ p ∷ option_flat (λ v. (key, v) ∷ []) new) → IsChanged R gives (p ∷ []) key es'
-  changed_behind greater es' h = rw greater (h.0, h.1, h.2 ∙ by h.0)
-    where
-      by : (new : Option V) → p ∷ option_flat (λ v. (key, v) ∷ []) new ≡ with_value R (p ∷ []) key new
-      by None = rw greater refl
-      by (Some v) = rw greater refl
-
-  pub changed_at : R key p.0 ≡ Equal → (es' : List (K × V)) → (new : Option V) × gives (Some p.1) new × (es' ≡ option_flat (λ v. (p.0, v) ∷ []) new) → IsChanged R gives (p ∷ []) key es'
-  changed_at equal es' h = rw equal (h.0, h.1, h.2 ∙ by h.0)
-    where
-      by : (new : Option V) → option_flat (λ v. (p.0, v) ∷ []) new ≡ with_value R (p ∷ []) key new
-      by None = rw equal refl
-      by (Some v) = rw equal refl
-
--- ---- a put and a take
-
-module _ {K V : Type 0} (R : K → K → Ordering) (es : List (K × V)) (key : K) (es' : List (K × V)) where
-  pub put_is : (v : V) → IsChanged R (λ _ new. new ≡ Some v) es key es' → es' ≡ insert_entry R es key v
-  put_is v h = h.2 ∙ ap (λ new. with_value R es key new) h.1
-
-  pub take_is : IsChanged R (λ _ new. new ≡ None) es key es' → es' ≡ remove_entry (is_at (R key)) es
-  take_is h = h.2 ∙ ap (λ new. with_value R es key new) h.1
 
 -- ---- how many there are
 

@@ -151,6 +151,7 @@ fn as_a_plain_map(rt: HostRuntime) -> Result<(), Fail> {
 
 /// How many pairs are put, and how many of them are taken again.
 const PUTS: u64 = 10_000;
+
 const TAKES: u64 = 9_900;
 
 /// How many chunks groups have.

@@ -1,7 +1,6 @@
-use Rattle.std.proofs.Common.{◌≡◌, ◌+◌, ◌-◌, ◌++◌, length, take, drop, ap, sym, ◌∙◌, subst}
+use Rattle.std.proofs.Common.{◌+◌, ◌++◌, length, take, ap, sym, ◌∙◌, subst}
 use Rattle.std.specs.List.{flat_map}
 use Rattle.std.proofs.lemmas.List.{take_rest}
-use Rattle.std.proofs.lemmas.List.Elements.{All-take, All-drop}
 use Rattle.chunk_map.specs.Changes.{IsChanged, IsCounted}
 use Rattle.chunk_map.specs.Sorted.{option_flat}
 use Rattle.chunk_map.proofs.PartLaws.{ascends_at}

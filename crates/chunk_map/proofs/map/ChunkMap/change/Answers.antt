@@ -1,5 +1,4 @@
 use Rattle.std.proofs.Common.{length}
-use Rattle.chunk_map.specs.Sorted.{IsAscending}
 use Rattle.chunk_map.specs.Levels.{pairs_in}
 use Rattle.chunk_map.proofs.ChangeLaws.{ascends_changed, counted_alike}
 use Rattle.chunk_map.proofs.map.ChunkMap.change.Goals as goal
