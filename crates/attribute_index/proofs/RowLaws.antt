@@ -11,6 +11,7 @@ use Rattle.std.specs.BTreeMap.{insert_entry, is_at}
 use Rattle.std.proofs.lemmas.Cmp.{nat_list_cmp_total, then_total, on_total}
 use Rattle.std.proofs.lemmas.List.Folds.{list_any-append, list_any_more}
 use Rattle.std.proofs.lemmas.Map.{lookup-none}
+use Rattle.std.proofs.Math.Bool.{or-false, or_assoc}
 use Rattle.std.proofs.lemmas.Map.Text.{is_eq-slice_cmp}
 use Rattle.std.proofs.lemmas.Bool.{false≢true}
 use Rattle.rd_base.proofs.lemmas.Each.{each_weaker, each_append}
@@ -157,13 +158,23 @@ any_map : {X Y : Type 0} (test : Y → Bool) (f : X → Y) (xs : List X) → lis
 any_map test f [] = refl
 any_map test f (x ∷ xs) = ap (λ t. test (f x) || t) (any_map test f xs)
 
-pub under_next : (values : List (List ℕ × List ℕ)) (i : ℕ) (value : List ℕ × List ℕ) (number : ℕ) (e : Entry) → i < length values → value ≡ slice_index_or values i value
+under_next : (values : List (List ℕ × List ℕ)) (i : ℕ) (value : List ℕ × List ℕ) (number : ℕ) (e : Entry) → i < length values → value ≡ slice_index_or values i value
     → has_entry (entries_under (take (i + 1) values) number) e ≡ (has_entry (entries_under (take i values) number) e || is_same e (entry_at value number))
 under_next values i value number e lt is =
     any_map (is_same e) (λ v. entry_at v number) (take (i + 1) values)
     ∙ list_any_more (λ v. is_same e (entry_at v number)) values i value lt
     ∙ ap (λ t. t || is_same e (entry_at (slice_index_or values i value) number)) (sym (any_map (is_same e) (λ v. entry_at v number) (take i values)))
     ∙ ap (λ v. has_entry (entries_under (take i values) number) e || is_same e (entry_at v number)) (sym is)
+
+-- the first value, and those after it
+pub under_first : (first : List ℕ × List ℕ) (number : ℕ) (e : Entry) → is_same e (entry_at first number) ≡ has_entry (entries_under (first ∷ []) number) e
+under_first first number e = sym (or-false (is_same e (entry_at first number)))
+
+pub under_rest : (first : List ℕ × List ℕ) (rest : List (List ℕ × List ℕ)) (i : ℕ) (value : List ℕ × List ℕ) (number : ℕ) (e : Entry) → i < length rest → value ≡ slice_index_or rest i value
+    → has_entry (entries_under (first ∷ take (i + 1) rest) number) e ≡ (has_entry (entries_under (first ∷ take i rest) number) e || is_same e (entry_at value number))
+under_rest first rest i value number e lt is =
+    ap (λ t. is_same e (entry_at first number) || t) (under_next rest i value number e lt is)
+    ∙ sym (or_assoc (is_same e (entry_at first number)) (has_entry (entries_under (take i rest) number) e) (is_same e (entry_at value number)))
 
 -- a loop that puts values: with one more, and that takes values: with one less
 pub put_next : (all before here next one : Bool) → next ≡ (before || one) → here ≡ (all || before) → (here || one) ≡ (all || next)
