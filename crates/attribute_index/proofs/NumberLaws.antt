@@ -14,7 +14,7 @@ use Rattle.rd_base.proofs.lemmas.Each.{each_one}
 use Rattle.rd_base.proofs.lemmas.Filters.{filter_all}
 use Rattle.chunk_map.specs.Sorted.{IsAscending}
 use Rattle.attribute_index.specs.Entries.{has_number}
-use Rattle.attribute_index.specs.Rows.{NumbersAscend, HasNumber, IsRow, IsWith, number_in}
+use Rattle.attribute_index.specs.Rows.{NumbersAscend, HasNumber, IsRow, IsWith}
 use Rattle.attribute_index.proofs.Lookups.{lookup-insert_entry, lookup-remove_entry}
 
 any_alike : (p q : ℕ → Bool) → ((m : ℕ) → p m ≡ q m) → (ns : List ℕ) → list_any p ns ≡ list_any q ns
