@@ -1,19 +1,20 @@
 -- What rows say of entries: which there are, that they ascend, and whom a pattern finds.
-use Rattle.std.proofs.Common.{◌≡◌, ℕ, ◌+◌, ◌<◌, length, take, slice_index_or, Bool, true, false, cond, ◌&&◌, ◌||◌, List, [], ◌∷◌, ◌++◌, Option, Some, None, IfSome, map, filter, nat_eq, nat_cmp, bytes_eq, refl, sym, ap, ◌∙◌, subst, not}
+use Rattle.std.proofs.Common.{◌≡◌, ℕ, ◌+◌, ◌<◌, suc, arith, length, take, slice_index_or, Bool, true, false, cond, ◌&&◌, ◌||◌, List, [], ◌∷◌, ◌++◌, Option, Some, None, IfSome, map, filter, nat_eq, nat_cmp, bytes_eq, refl, sym, ap, ◌∙◌, subst, not}
 use Rattle.std.specs.declared.cmp.Ordering.{Ordering}
 use Rattle.std.specs.declared.cmp.Ordering.TheVariants.{Less, Equal, Greater}
 use Rattle.std.specs.Ordering.{is_eq, is_lt, ordering_then, match_ordering}
 use Rattle.std.specs.Cmp.Lexicographic.{slice_cmp}
-use Rattle.std.specs.Cmp.{IsTotalOrder, tied_then, tied_itself, Equal-is}
+use Rattle.std.specs.Cmp.{IsTotalOrder, tied_then, tied_itself}
 use Rattle.std.specs.List.{list_any, flat_map, AllByRecursion}
 use Rattle.std.specs.Map.{lookup, remove_entry}
 use Rattle.std.specs.BTreeMap.{insert_entry, is_at}
 use Rattle.std.proofs.lemmas.Cmp.{nat_list_cmp_total, then_total, on_total}
 use Rattle.std.proofs.lemmas.List.Folds.{list_any-append, list_any_more}
 use Rattle.std.proofs.lemmas.Map.{lookup-none}
+use Rattle.std.proofs.Math.Bool.{or-false, or_assoc}
 use Rattle.std.proofs.lemmas.Map.Text.{is_eq-slice_cmp}
 use Rattle.std.proofs.lemmas.Bool.{false≢true}
-use Rattle.rd_base.proofs.lemmas.Each.{each_weaker, each_append}
+use Rattle.rd_base.proofs.lemmas.Each.{each_append}
 use Rattle.rd_base.specs.declared.attributes.Pair.{Pair}
 use Rattle.chunk_map.specs.Changes.{IsChanged, with_value}
 use Rattle.chunk_map.specs.Sorted as sorted
@@ -157,13 +158,34 @@ any_map : {X Y : Type 0} (test : Y → Bool) (f : X → Y) (xs : List X) → lis
 any_map test f [] = refl
 any_map test f (x ∷ xs) = ap (λ t. test (f x) || t) (any_map test f xs)
 
-pub under_next : (values : List (List ℕ × List ℕ)) (i : ℕ) (value : List ℕ × List ℕ) (number : ℕ) (e : Entry) → i < length values → value ≡ slice_index_or values i value
+under_next : (values : List (List ℕ × List ℕ)) (i : ℕ) (value : List ℕ × List ℕ) (number : ℕ) (e : Entry) → i < length values → value ≡ slice_index_or values i value
     → has_entry (entries_under (take (i + 1) values) number) e ≡ (has_entry (entries_under (take i values) number) e || is_same e (entry_at value number))
 under_next values i value number e lt is =
     any_map (is_same e) (λ v. entry_at v number) (take (i + 1) values)
     ∙ list_any_more (λ v. is_same e (entry_at v number)) values i value lt
     ∙ ap (λ t. t || is_same e (entry_at (slice_index_or values i value) number)) (sym (any_map (is_same e) (λ v. entry_at v number) (take i values)))
     ∙ ap (λ v. has_entry (entries_under (take i values) number) e || is_same e (entry_at v number)) (sym is)
+
+-- the first value, and those after it
+module _ (values : List (List ℕ × List ℕ)) (first : List ℕ × List ℕ) (rest : List (List ℕ × List ℕ)) (whole : values ≡ first ∷ rest) where
+  take_behind : (i : ℕ) → take (i + 1) values ≡ first ∷ take i rest
+  take_behind i =
+      let next : i + 1 ≡ suc i = omega arith in
+      ap (λ vs. take (i + 1) vs) whole ∙ ap (λ n. take n (first ∷ rest)) next
+
+  pub take_whole : (i : ℕ) → take i rest ≡ rest → take (i + 1) values ≡ values
+  take_whole i all = take_behind i ∙ ap (λ vs. first ∷ vs) all ∙ sym whole
+
+  pub under_first : (number : ℕ) (e : Entry) → is_same e (entry_at first number) ≡ has_entry (entries_under (take 1 values) number) e
+  under_first number e = sym (or-false (is_same e (entry_at first number))) ∙ ap (λ vs. has_entry (entries_under (take 1 vs) number) e) (sym whole)
+
+  pub under_rest : (i : ℕ) (value : List ℕ × List ℕ) (number : ℕ) (e : Entry) → i < length rest → value ≡ slice_index_or rest i value
+      → has_entry (entries_under (take (i + 1 + 1) values) number) e ≡ (has_entry (entries_under (take (i + 1) values) number) e || is_same e (entry_at value number))
+  under_rest i value number e lt is =
+      ap (λ vs. has_entry (entries_under vs number) e) (take_behind (i + 1))
+      ∙ ap (λ t. is_same e (entry_at first number) || t) (under_next rest i value number e lt is)
+      ∙ sym (or_assoc (is_same e (entry_at first number)) (has_entry (entries_under (take i rest) number) e) (is_same e (entry_at value number)))
+      ∙ ap (λ vs. has_entry (entries_under vs number) e || is_same e (entry_at value number)) (sym (take_behind i))
 
 -- a loop that puts values: with one more, and that takes values: with one less
 pub put_next : (all before here next one : Bool) → next ≡ (before || one) → here ≡ (all || before) → (here || one) ≡ (all || next)

@@ -1,4 +1,3 @@
-use Rattle.std.proofs.Common.{rules}
 use Rattle.attribute_index.specs.Rows.{IsWith}
 use Rattle.attribute_index.proofs.RowLaws.{has_put, rows_changed, with_leaves}
 use Rattle.attribute_index.proofs.rows.with_value.Goals as goal
