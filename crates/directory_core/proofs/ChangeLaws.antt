@@ -58,7 +58,7 @@ known_of P number r (x ∷ xs) all found = by (is_numbered number x) found (know
 pub none_numbered : (number : ℕ) (rs : List Record) → AllByRecursion (λ x. is_numbered number x ≡ false) rs → without number rs ≡ rs
 none_numbered number rs all = filter_all (λ r. not (is_numbered number r)) rs (each_weaker (λ x. is_numbered number x ≡ false) (λ x. not (is_numbered number x) ≡ true) (λ x e. ap not e) rs all)
 
-unchanged : (number : ℕ) (new : Record → Record) (rs : List Record) → AllByRecursion (λ x. is_numbered number x ≡ false) rs → with_changed number new rs ≡ rs
+pub unchanged : (number : ℕ) (new : Record → Record) (rs : List Record) → AllByRecursion (λ x. is_numbered number x ≡ false) rs → with_changed number new rs ≡ rs
 unchanged number new [] all = refl
 unchanged number new (x ∷ xs) all = let here = all.0 in let more = unchanged number new xs all.1 in rw (here, more) refl
 
