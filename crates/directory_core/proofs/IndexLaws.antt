@@ -1,5 +1,5 @@
 -- The index of records: what it has of a record, and what it has after a change.
-use Rattle.std.proofs.Common.{◌≡◌, ℕ, ◌<◌, ◌==◌, ◌||◌, ◌&&◌, Bool, true, false, not, cond, List, [], ◌∷◌, ◌++◌, map, filter, bytes_eq, codes, Option, Some, None, Result, Ok, Err, refl, sym, ap, ap₂, ◌∙◌, subst, append_assoc, arith, eqb-true, ne_eqb}
+use Rattle.std.proofs.Common.{◌≡◌, ℕ, ◌==◌, ◌||◌, ◌&&◌, Bool, true, false, not, cond, List, [], ◌∷◌, ◌++◌, map, bytes_eq, codes, Some, Result, Ok, Err, refl, sym, ap, ap₂, ◌∙◌, subst, append_assoc, arith, eqb-true}
 use Rattle.std.specs.Prelude.{IfOk}
 use Rattle.std.specs.List.{AllByRecursion, list_any, flat_map}
 use Rattle.std.proofs.lemmas.Bool.{true≢false, and_parts}
@@ -17,13 +17,13 @@ use Rattle.rd_base.specs.declared.attributes.Pair.{Pair}
 use Rattle.rd_base.specs.declared.records.Item.{Item}
 use Rattle.rd_base.specs.declared.records.Name.{Name}
 use Rattle.rd_base.specs.declared.records.Record.{Record}
-use Rattle.rd_base.proofs.lemmas.Each.{each_weaker, each_append, each_one, each_passes}
+use Rattle.rd_base.proofs.lemmas.Each.{each_append}
 use Rattle.rd_base.proofs.lemmas.Pairs.{PairsByRecursion}
 use Rattle.record_model.specs.ListingLines.{own_pairs}
 use Rattle.record_model.specs.Matching.{endpoint_type, sector_pairs, endpoint_pairs}
 use Rattle.attribute_index.specs.Entries.{Entry, IsAscending, is_same, has_entry, values_of, entries_of, entries_of_all}
-use Rattle.attribute_index.proofs.EntryLaws.{has_entry-all, has_entry-all_append}
-use Rattle.history_model.specs.Replay.{is_numbered, numbered, with_changed}
+use Rattle.attribute_index.proofs.EntryLaws.{has_entry-all_append}
+use Rattle.history_model.specs.Replay.{is_numbered, numbered}
 use Rattle.history_model.proofs.NumberLaws.{IsBelow}
 use Rattle.directory_core.specs.AfterEntries.{renewed, without}
 use Rattle.directory_core.specs.Bounds.{pairs_of, record_entries, AreEntriesOf}

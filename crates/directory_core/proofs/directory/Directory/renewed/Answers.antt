@@ -1,20 +1,15 @@
-use Rattle.std.proofs.Common.{refl, ◌≡◌, ℕ, ◌+◌, ◌-◌, ◌<◌, ◌≤◌, ◌^◌, List, Ok, Err, Result, sym, ap, ap₂, ◌∙◌, subst, arith, Some, ◌||◌, ◌&&◌, not}
+use Rattle.std.proofs.Common.{refl, ◌≡◌, ◌≤◌, ◌^◌, Err, sym, ap, ap₂, ◌∙◌, subst, arith, Some}
 use Rattle.rd_base.specs.declared.moments.Moment.{Moment}
 use Rattle.rd_base.specs.declared.records.Record.{Record}
-use Rattle.rd_base.proofs.lemmas.Pairs.{PairsByRecursion}
 use Rattle.record_model.specs.ListingLines.{weight}
 use Rattle.registration.specs.Drafts.{recorded}
 use Rattle.registration.specs.Weights.{capped}
 use Rattle.history_model.specs.Versions.{Version}
 use Rattle.history_model.specs.Leases.{lapse, live_among}
-use Rattle.history_model.specs.Refusals.{max_text, text_of}
-use Rattle.history_model.proofs.NumberLaws.{IsBelow}
+use Rattle.history_model.specs.Refusals.{text_of}
 use Rattle.lease_queue.specs.Leases.{with_lease, without_lease}
-use Rattle.lease_queue.specs.declared.leases.Lease.{Lease}
 use Rattle.directory_core.specs.declared.counts.Counts.{Counts}
-use Rattle.directory_core.specs.declared.names.NameSlot.{NameSlot}
-use Rattle.directory_core.specs.declared.refusals.Refusal.{Refusal}
-use Rattle.directory_core.specs.AfterEntries.{renewed, after_entry, HasRoom, IsMadeWithRoom}
+use Rattle.directory_core.specs.AfterEntries.{renewed, after_entry, HasRoom}
 use Rattle.directory_core.specs.NumberOrder.{with_record}
 use Rattle.directory_core.specs.Shown.{IsKept, lease_of}
 use Rattle.directory_core.proofs.KeptLaws.{live_light}
@@ -100,7 +95,7 @@ invariant_of-result c =
     let found : numbered new.number v.records ≡ Some old = ap (λ n. numbered n v.records) (record_number old.number now draft) ∙ r.stored in
     let placed : AreEntriesOf (renewed new v.records) c.in_ok-index.index
     = subst (λ x. AreEntriesOf (renewed x v.records) c.in_ok-index.index) (c.as_record-3.ensures ∙ made)
-        (c.in_ok-index.ensures v.records kept.rising (ap (λ (x : Record). numbered x.number v.records) c.as_record-2.ensures ∙ r.stored ∙ ap Some (sym c.as_record-2.ensures)) indexed) in (
+    (c.in_ok-index.ensures v.records kept.rising (ap (λ (x : Record). numbered x.number v.records) c.as_record-2.ensures ∙ r.stored ∙ ap Some (sym c.as_record-2.ensures)) indexed) in (
       subst (λ (w : Version). IsKept (after_entry w now.0 c.in_ok-records.records w.last_number) c.in_ok-names.names c.in_ok-leases-2.leases c.args.counts.live c.in-Ok.text) (sym c.self.view_is)
           (subst (λ n. IsKept (after_entry v now.0 c.in_ok-records.records v.last_number) n c.in_ok-leases-2.leases c.args.counts.live c.in-Ok.text) (sym c.in_ok-names.ensures) whole),
       subst (λ rs. AreEntriesOf rs c.in_ok-index.index) (sym (records ∙ with_record-renewed new old v.records kept.rising found)) placed,
