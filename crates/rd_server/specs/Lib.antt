@@ -1,8 +1,7 @@
 pub mod Fields
-pub mod Forms
-pub mod Views
+pub mod Words
 pub mod Journal
-pub mod Desks
+pub mod Machines
 pub mod Endings
 pub mod Sessions
 pub mod Faults

@@ -1,13 +1,14 @@
 //! What the programs of the directory do: a trace replayed to its output.
 #![tactic(auto)]
 
-mod desk;
 mod endings;
 mod fields;
-mod forms;
-mod registry;
+mod machine;
 mod replays;
 mod sessions;
+mod troubles;
+mod words;
+mod workers;
 
 pub use endings::Status;
 pub use replays::{replay, report};
