@@ -62,7 +62,7 @@ row_at-more : (rows : List Row) (r admission : Row) (place : ℕ) → row_at pla
 unfolding row_at
 row_at-more rows r admission place found = rw (ne_eqb place (length rows) (λ same. let low = row_at-below place rows admission found in absurd (omega (arith, same, low)))) found
 
-row_at-own : (rows : List Row) (r : Row) → row_at (length rows) (r ∷ rows) ≡ Some r
+pub row_at-own : (rows : List Row) (r : Row) → row_at (length rows) (r ∷ rows) ≡ Some r
 unfolding row_at
 row_at-own rows r = rw (eqb-refl (length rows)) refl
 

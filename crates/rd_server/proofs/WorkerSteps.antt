@@ -132,16 +132,17 @@ open_write rows s moment desk worker write has holds word it =
     let opens : IsOpenFor s mine.0 rows = subst (CommitsOpen rows s) kind may.commits in
     let at : AtPlace rows mine.0 opens.admission = at_place mine.0 rows opens.admission opens.found in
     let own : OwnAdmission opens.admission = own_of rows at.before opens.admission (desk-AreRows rows it.desk_journal) at.within opens.admits in
-    let read : reading s.datagram ≡ Ok own.message = ap reading (sym opens.datagram) ∙ own.read in
+    let read : reading s.datagram ≡ Ok own.message = subst (λ (octets : List ℕ). reading octets ≡ Ok own.message) opens.datagram own.read in
     let same : opens.admission ≡ mine.1 = same_row (row_at mine.0 rows) opens.admission mine.1 opens.found mine.3 in
+    let since : opens.admission.moment.0 ≡ write.admitted = ap (λ (r : Row). r.moment.0) same ∙ mine.4 in
     record {
       place = mine.0;
       kind = kind;
       peer = from;
       datagram = datagram;
       message = own.message;
-      read = ap reading (sym datagram) ∙ read;
-      stands = job-IsOpen rows s mine.0 own.message write.admitted it.desk_journal opens (ap (λ (r : Row). r.moment.0) same ∙ mine.4) read;
+      read = subst (λ (octets : List ℕ). reading octets ≡ Ok own.message) datagram read;
+      stands = job-IsOpen rows s mine.0 own.message write.admitted it.desk_journal opens since read;
     }
   where
     same_row : (found : Option Row) (one other : Row) → found ≡ Some one → found ≡ Some other → one ≡ other
@@ -200,6 +201,12 @@ held_nothing : (rows : List Row) (r : Row) (notes : List Note) → list_any is_a
 held_nothing rows r (note.Admitted from mid ∷ notes) none = absurd (false≢true (sym none))
 held_nothing rows r _ none = refl
 
+-- a write of a step is one of its row
+own_write : (rows : List Row) (s : Step)
+    → ◌≡◌ {A = Write} (record { peer = s.peer; datagram = s.datagram; admitted = row_moment rows s }) (record { peer = (row rows s false).step.peer; datagram = (row rows s false).step.datagram; admitted = (row rows s false).moment.0 })
+unfolding row
+own_write rows s = refl
+
 pub admitted_write : (rows : List Row) (s : Step) (moment : Moment) (desk after : Seen) (worker later : Worker) (write : Write) (out : List (Peer × List ℕ)) → s.kind ≡ step.Admit → later.job ≡ Some (job.Write write)
     → MayStep rows s moment desk worker
     → (mid : ℕ) × ((row rows s false).notes ≡ note.Admitted s.peer mid ∷ []) × (write ≡ record { peer = s.peer; datagram = s.datagram; admitted = row_moment rows s })
@@ -208,10 +215,7 @@ admitted_write rows s moment desk after worker later write out kind has it holds
     made-Steps rows s moment desk after worker later out it made
     (subst (λ (k : StepKind). HoldsJob (row rows s false ∷ rows) (job_after k (row rows s false) rows (job_of s.worker rows)) later.job) (sym kind)
     (subst (λ (mine : Option Job). HoldsJob (row rows s false ∷ rows) (write_job (row rows s false).notes (row rows s false) rows) mine) (sym has)
-    (held_write rows (row rows s false) (note.Admitted s.peer holds.0 ∷ []) s.peer holds.0 write holds.1 refl (holds.2 ∙ own))))
-  where
-    own : record { peer = s.peer; datagram = s.datagram; admitted = row_moment rows s } ≡ {A = Write} record { peer = (row rows s false).step.peer; datagram = (row rows s false).step.datagram; admitted = (row rows s false).moment.0 }
-    own = refl
+    (held_write rows (row rows s false) (note.Admitted s.peer holds.0 ∷ []) s.peer holds.0 write holds.1 refl (holds.2 ∙ own_write rows s))))
 
 pub admitted_nothing : (rows : List Row) (s : Step) (moment : Moment) (desk after : Seen) (worker later : Worker) (out : List (Peer × List ℕ)) → s.kind ≡ step.Admit → later.job ≡ worker.job
     → MayStep rows s moment desk worker → list_any is_admitting (row rows s false).notes ≡ false → Made rows (row rows s false) after out worker.mids later.mids → Steps rows s after later out
@@ -266,7 +270,11 @@ looked_done rows s moment desk worker later datagram before out kind of empty sa
     (sym (look_leaves rows s moment desk worker datagram kind of it ∙ ap (λ (held : Option Answer). keep_job held (row rows s false)) none))
     (subst (λ (mine : Option Job). HoldsJob (row rows s false ∷ rows) None mine) (sym (same ∙ idle rows s moment desk worker (ap is_heard kind) it)) tt))
 
--- what is held is to be kept
+-- an answer that a peer asked for by a datagram is to be kept
+abbrev kept_by : Answer → Peer → List ℕ → Option machine.Job
+kept_by answer from datagram = Some (record { kind = step.Keep answer.body answer.tag; peer = from; datagram = datagram })
+
+-- so is what is held
 pub looked_held : (rows : List Row) (s : Step) (moment : Moment) (desk : Seen) (worker later : Worker) (from : Peer) (datagram : List ℕ) (answer : Answer) (keep : Keep) (before out : List (Peer × List ℕ)) → s.kind ≡ step.Look
     → s.peer ≡ from → s.datagram ≡ datagram → before ≡ [] → later.job ≡ Some (job.Keep keep) → keep ≡ record { peer = from; datagram = datagram; answer = answer } → MayStep rows s moment desk worker
     → Sends (looked false (entries rows) moment.0 s (reading datagram)) before out worker.mids later.mids → held_after false (entries rows) moment.0 (reading datagram) ≡ Some answer → Steps rows s desk later out
@@ -277,5 +285,5 @@ looked_held rows s moment desk worker later from datagram answer keep before out
     (subst (λ (own : Option Job). HoldsJob (row rows s false ∷ rows) (Some (record { kind = step.Keep keep.answer.body keep.answer.tag; peer = keep.peer; datagram = keep.datagram })) own) (sym has) refl))
   where
     mine : keep_job (Some answer) (row rows s false) ≡ Some (record { kind = step.Keep keep.answer.body keep.answer.tag; peer = keep.peer; datagram = keep.datagram })
-    mine = rw is (ap₂ (λ (p : Peer) (octets : List ℕ). Some {A = machine.Job} (record { kind = step.Keep answer.body answer.tag; peer = p; datagram = octets }))
+    mine = rw is (ap₂ (kept_by answer)
         (ap (λ (t : Step). t.peer) (row-step rows s false) ∙ by) (ap (λ (t : Step). t.datagram) (row-step rows s false) ∙ of))
