@@ -48,7 +48,7 @@ fn workers_of(alloc: Global, number: u8) -> Result<Vec<Worker>, Starved>
     ensures each { IfOk result (λ workers. (worker : ℕ) → IfSome (slice_get workers.items worker) (IsWorkerAt [] worker)) }
 {
     let mut workers = Vec::with_capacity(alloc, usize::from(number))?;
-    for worker in 0..number {
+    'numbers: for worker in 0..number {
         workers.push(Worker::of(worker))?;
     }
     Ok(workers)
