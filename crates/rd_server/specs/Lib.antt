@@ -1,5 +1,6 @@
 pub mod Fields
 pub mod Words
+pub mod CommandLines
 pub mod Journal
 pub mod Machines
 pub mod Endings

@@ -1,6 +1,7 @@
 //! What the programs of the directory do: a trace replayed to its output.
 #![tactic(auto)]
 
+mod command_line;
 mod endings;
 mod fields;
 mod machine;
