@@ -205,7 +205,8 @@ pub end_is : (workers : ℕ) (rows : List Row) (machine : Machine) (entered live
     → codes "end " ++ (decimal entered ++ (codes " " ++ (decimal lives ++ (codes " " ++ (decimal watchers ++ codes "\n"))))) ≡ last_line rows
 unfolding last_line
 end_is workers rows machine entered lives watchers at enters lives_are watch =
-    let entries_are : entered ≡ length (entries rows) = enters ∙ (at.desk.directory.history.entries ∙ zero-add (length (entries rows))) in
+    let counted = at.desk.directory.history.entries in
+    let entries_are : entered ≡ length (entries rows) = omega (arith, enters, counted) in
     let live_are : lives ≡ length (live (entries rows) (latest rows)) = lives_are 0 (entries rows) at.desk.directory.history ∙ ap (λ n. length (live (entries rows) n)) at.moment in
     let observers_are : watchers ≡ length (observers (events rows)) = watch ∙ sym (length-StandsFor rows machine.desk.tables.watching at.desk.watching) in
     end_text (decimal entered) (decimal lives) (decimal watchers)
