@@ -86,10 +86,11 @@ made-Steps rows s moment desk after worker later out it made holds = record {
 -- ---- ticks
 
 -- the worker keeps its job
-pub ticked : (rows : List Row) (s : Step) (moment : Moment) (desk after : Seen) (worker later : Worker) (out : List (Peer × List ℕ)) → s.kind ≡ step.Tick → later.job ≡ worker.job → MayStep rows s moment desk worker
-    → Made rows (row rows s false) after out worker.mids later.mids → Steps rows s after later out
-ticked rows s moment desk after worker later out kind same it made =
-    made-Steps rows s moment desk after worker later out it made
+pub ticked : (rows : List Row) (s : Step) (moment : Moment) (desk after : Seen) (worker later : Worker) (out : List (Peer × List ℕ)) (starved : Bool) → starved ≡ false → later.job ≡ worker.job → s.kind ≡ step.Tick
+    → MayStep rows s moment desk worker → (IsCalled rows s moment worker.mids desk → Made rows (row rows s starved) after out worker.mids later.mids) → Steps rows s after later out
+ticked rows s moment desk after worker later out starved fed same kind it made =
+    made-Steps rows s moment desk after worker later out it
+    (subst (λ (b : Bool). Made rows (row rows s b) after out worker.mids later.mids) fed (made (called rows s moment desk worker (ap is_look kind) it)))
     (subst (λ (k : StepKind). HoldsJob (row rows s false ∷ rows) (job_after k (row rows s false) rows (job_of s.worker rows)) later.job) (sym kind)
     (subst (λ (mine : Option Job). HoldsJob (row rows s false ∷ rows) (job_of s.worker rows) mine) (sym same)
     (held-more rows (row rows s false) (job_of s.worker rows) worker.job it.worker_at.holds)))
