@@ -59,6 +59,7 @@ after_joined asked word words said l = go (cut 61 word) refl l
     named parts c (Some m) n h =
         let whole : word ≡ text_of m ++ 61 ∷ parts.1 = (cut_pieces 61 word parts.0 parts.1 c).whole ∙ ap (λ (t : Text). t ++ 61 ∷ parts.1) (name_of-text parts.0 m (sym n)) in
         after_given asked (word ∷ words) said m true parts.1 words (ap (λ (t : Text). t ∷ words) whole) h
+
     go : (o : Option (Text × Text)) → cut 61 word ≡ o → words_after (joined o asked) words ≡ Some said → Uses asked (word ∷ words) said
     go None c h = absurd (dead words said h)
     go (Some parts) c h = named parts c (name_of parts.0) refl h
@@ -136,6 +137,7 @@ both_given asked said words n d e h = go (goes asked words said h)
     again u name.Make m =
         let w = devices_given asked u.more u.value (ap (λ (x : Name). given x u.value asked) (sym m) ∙ u.given_is) in
         absurd (none-some d (sym w.first ∙ ap (λ (a : Words). a.devices) e))
+
     go : Goes asked words said → (words ≡ []) × (asked ≡ said)
     go (inl h) = h
     go (inr u) = again u u.used refl
@@ -154,6 +156,7 @@ then_make said asked words one value n v e h = go (goes asked words said h)
       workers_said = v.count ∙ ap (λ (a : Words). a.workers) (sym e ∙ s);
       devices_said = ap (λ (a : Words). a.devices) (sym e ∙ s);
     }
+
     second : (u : Uses asked words said) (m : Name) → u.used ≡ m → ReadsAs (spelled one (codes "--workers") value ++ words) said
     second u name.Workers m =
         let w = workers_given asked u.more u.value (ap (λ (x : Name). given x u.value asked) (sym m) ∙ u.given_is) in
@@ -172,6 +175,7 @@ then_make said asked words one value n v e h = go (goes asked words said h)
           workers_said = v.count ∙ ap (λ (a : Words). a.workers) (sym more ∙ end.1);
           devices_said = w.is.count ∙ ap (λ (a : Words). a.devices) (sym more ∙ end.1);
         }
+
     go : Goes asked words said → ReadsAs (spelled one (codes "--workers") value ++ words) said
     go (inl h) = alone h.0 h.1
     go (inr u) = second u u.used refl
@@ -190,6 +194,7 @@ then_workers said asked words one value n v e h = go (goes asked words said h)
       workers_said = ap (λ (a : Words). a.workers) (sym e ∙ s);
       devices_said = v.count ∙ ap (λ (a : Words). a.devices) (sym e ∙ s);
     }
+
     second : (u : Uses asked words said) (m : Name) → u.used ≡ m → ReadsAs (spelled one (codes "--make") value ++ words) said
     second u name.Make m =
         let w = devices_given asked u.more u.value (ap (λ (x : Name). given x u.value asked) (sym m) ∙ u.given_is) in
@@ -208,6 +213,7 @@ then_workers said asked words one value n v e h = go (goes asked words said h)
           workers_said = w.is.count ∙ ap (λ (a : Words). a.workers) (sym more ∙ end.1);
           devices_said = v.count ∙ ap (λ (a : Words). a.devices) (sym more ∙ end.1);
         }
+
     go : Goes asked words said → ReadsAs (spelled one (codes "--make") value ++ words) said
     go (inl h) = alone h.0 h.1
     go (inr u) = second u u.used refl
@@ -224,6 +230,7 @@ reads_words words said h = go (goes no_words words said h)
         let w = devices_given no_words u.more u.value (ap (λ (x : Name). given x u.value no_words) (sym m) ∙ u.given_is) in
         subst (λ (ws : List Text). ReadsAs ws said) (ap (λ (x : Name). spelled u.one (text_of x) u.value ++ u.rest) (sym m) ∙ sym u.words_are)
         (then_workers said u.more u.rest u.one u.value w.number w.is w.more_is u.leads)
+
     go : Goes no_words words said → ReadsAs words said
     go (inl h) = subst (λ (ws : List Text). ReadsAs ws said) (sym h.0) (record {
       workers = None;

@@ -5,4 +5,5 @@ pub mod Journal
 pub mod Machines
 pub mod Endings
 pub mod Sessions
+pub mod MadeRuns
 pub mod Faults

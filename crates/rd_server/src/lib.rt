@@ -5,6 +5,7 @@ mod command_line;
 mod endings;
 mod fields;
 mod machine;
+mod made;
 mod replays;
 mod sessions;
 mod troubles;

@@ -3,7 +3,7 @@ ghost use Rattle.std.specs.Prelude.{◌≡◌, ◌≤◌, ◌∷◌, ℕ, IfSome
 ghost use Rattle.std.specs.String.{string_bytes};
 ghost use Rattle.rd_server.specs.Fields as fields;
 ghost use Rattle.rd_server.specs.Words as spec;
-ghost use Rattle.rd_server.specs.Words.{AreNamed, AreRead, GoesOn, IsNamed, IsWorkers, words_said};
+ghost use Rattle.rd_server.specs.Words.{AreDevices, AreNamed, AreRead, GoesOn, IsNamed, IsWorkers, words_said};
 
 use crate::command_line::matches_of;
 use crate::fields::cut;
@@ -167,6 +167,8 @@ impl Words {
 /// `Usage`: they are others.
 pub fn words_read(alloc: Global, words: &[String]) -> Result<Words, WordsFault>
     ensures read { AreRead (words_said (map string_bytes words.now)) result }
+    ensures workers { IfOk result (λ asked. IsWorkers (spec.workers_of asked)) }
+    ensures devices { IfOk result (λ asked. IfSome asked.devices AreDevices) }
 {
     if !are_words(words) {
         return Err(WordsFault::Usage);
