@@ -19,3 +19,5 @@ pub mod DeskSteps
 pub mod LookRows
 pub mod JobRows
 pub mod WorkerSteps
+pub mod OtherWorkers
+pub mod MachineLaws
