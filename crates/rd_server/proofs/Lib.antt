@@ -1,9 +1,7 @@
 -- Texts: Cuts (by a separator), SentLines (of what is sent), LineFeeds (lines), Fronts (the beginnings of a text), WrittenPieces.
--- Steps: DeskSteps (the journal with the row of a step is one of a desk), LookRows (a row of a look leaves what a desk stands for), JobRows (what a worker holds and drew after its own row), WorkerSteps (what the desk made of a call is the step).
+-- Steps: DeskSteps (the journal with the row of a step is one of a desk), LookRows (a row of a look leaves what a desk stands for), JobRows (what a worker holds and drew after its own row),
+--   OtherWorkers (what it leaves of the others), WorkerSteps (what the desk made of a call is the step), MachineLaws (the machine after a line), EachWorker (lists by index).
 -- A replay: JournalRuns (its journal is that of its steps), LineDone (one line), Journeys (pieces of a trace), LastLines (its end), ReportLaws (status), ReplayLaws (the whole).
-pub mod OtherWorkers
-pub mod EachWorker
-pub mod MachineLaws
 pub mod Cuts
 pub mod WrittenPieces
 pub mod LineDone
@@ -20,4 +18,5 @@ pub mod LookRows
 pub mod JobRows
 pub mod WorkerSteps
 pub mod OtherWorkers
+pub mod EachWorker
 pub mod MachineLaws
