@@ -1,5 +1,6 @@
 -- Texts: Cuts (by a separator), SentLines (of what is sent), LineFeeds (lines), Fronts (the beginnings of a text), WrittenPieces.
--- Steps: DeskSteps (the journal with the row of a step is one of a desk), LookRows (a row of a look leaves what a desk stands for), JobRows (what a worker holds and drew after its own row), WorkerSteps (what the desk made of a call is the step).
+-- Steps: DeskSteps (the journal with the row of a step is one of a desk), LookRows (a row of a look leaves what a desk stands for), JobRows (what a worker holds and drew after its own row),
+--   OtherWorkers (what it leaves of the others), WorkerSteps (what the desk made of a call is the step), MachineLaws (the machine after a line), EachWorker (lists by index).
 -- A replay: JournalRuns (its journal is that of its steps), LineDone (one line), Journeys (pieces of a trace), LastLines (its end), ReportLaws (status), ReplayLaws (the whole).
 -- A made trace: MadeCounts (what is counted of its lines).
 -- Words: ClapReads (what clap reads in words of each shape), WordSteps (a word after the other), WordValues (a value begins with a digit), WordShapes (what clap reads is what the words ask for).

@@ -17,6 +17,7 @@ use Rattle.rd_server.specs.declared.endings.Stop.TheVariants as stop
 use Rattle.rd_server.specs.declared.machine.Machine.{Machine}
 use Rattle.rd_server.specs.declared.sessions.Session.{Session}
 use Rattle.rd_server.specs.declared.troubles.Trouble.{Trouble}
+use Rattle.rd_server.specs.declared.troubles.Trouble.TheVariants as trouble
 use Rattle.rd_server.specs.Journal.{rows_after}
 use Rattle.rd_server.specs.Machines.{IsMachineAt, IsBy, Performs, PerformsFor, lines_sent}
 use Rattle.rd_server.specs.Sessions.{DoesLine, Writes, WritesMore}
@@ -56,8 +57,10 @@ performs_for workers rows (Err why) machine worker done h names = absurd h
 -- what was not done was not done of any worker
 pub not_performed : (workers : ℕ) (rows : List Row) (said : Result (Option Step) Reason) (machine : Machine) (why : Trouble) → Performs workers rows said machine (Err why)
     → PerformsFor workers rows said machine (Err why)
-not_performed workers rows (Ok made) machine why h = h
-not_performed workers rows (Err said) machine why h = h
+not_performed workers rows (Ok made) machine (trouble.Bad why) h = h
+not_performed workers rows (Ok made) machine trouble.Starved h = tt
+not_performed workers rows (Err said) machine (trouble.Bad why) h = h.0
+not_performed workers rows (Err said) machine trouble.Starved h = tt
 
 -- the rows that a line that was done led to
 performed : (workers : ℕ) (rows : List Row) (said : Result (Option Step) Reason) (machine : Machine) (worker : ℕ) → PerformsFor workers rows said machine (Ok worker)

@@ -6,6 +6,8 @@ use Rattle.rd_base.specs.declared.moments.Moment.{Moment}
 use Rattle.rd_base.specs.declared.peers.Peer.{Peer}
 use Rattle.message_model.specs.Message.{Message}
 use Rattle.message_model.specs.Reading.{reading}
+use Rattle.history_model.specs.declared.entries.Entry.{Entry}
+use Rattle.history_model.specs.Versions.{Version, VersionStandsFor}
 use Rattle.event_model.specs.declared.notes.Note.{Note}
 use Rattle.event_model.specs.declared.notes.Note.TheVariants as note
 use Rattle.event_model.specs.AdmissionOrder.{IsOpen}
@@ -30,10 +32,12 @@ use Rattle.journal_model.proofs.entries.JournalLaws.{desk-AreRows}
 use Rattle.journal_model.proofs.notes.SilentSteps.{looked_notes}
 use Rattle.rd_desk.specs.declared.jobs.Job.{Job}
 use Rattle.rd_desk.specs.declared.jobs.Job.TheVariants as job
+use Rattle.rd_desk.specs.declared.looks.Looked.TheVariants as looked_as
 use Rattle.rd_desk.specs.declared.mids.Mids.{Mids}
 use Rattle.rd_desk.specs.Desks.{Seen, StandsFor}
 use Rattle.rd_desk.specs.KeepJobs.{Keep}
-use Rattle.rd_desk.specs.Sendings.{Sends}
+use Rattle.rd_desk.specs.Looking.{IsHeld}
+use Rattle.rd_desk.specs.Sendings.{IsStepOf, Sends}
 use Rattle.rd_desk.specs.UnderWay.{IsCalled, Made}
 use Rattle.rd_desk.specs.WriteJobs.{Write}
 use Rattle.rd_desk.proofs.changes.OpenJobs.{job-IsOpen}
@@ -261,12 +265,38 @@ look_leaves rows s moment desk worker datagram kind of it =
     max_is : max s.handed.0 (latest rows) ≡ moment.0
     max_is = let in_time = it.in_time in let at = it.handed in omega (arith, in_time, at)
 
+-- how a look ended says what it left
+done_left : (from : Peer) (datagram : List ℕ) (left : Option Answer) → IsHeld from datagram left looked_as.Done → left ≡ None
+done_left from datagram None h = refl
+done_left from datagram (Some answer) h = absurd h
+
+held_left : (from : Peer) (datagram : List ℕ) (left : Option Answer) (keep : Keep) → IsHeld from datagram left (looked_as.Held keep)
+    → (answer : Answer) × (left ≡ Some answer) × (keep ≡ record { peer = from; datagram = datagram; answer = answer })
+held_left from datagram None keep h = absurd h
+held_left from datagram (Some answer) keep h = (answer, refl, h)
+
+-- what a look tells of whatever history the version stands for, it tells of the entries of the journal
+record Look (rows : List Row) (s : Step) (moment : Moment) (version : Version) (mids : Mids) (from : Peer) : Type 0 where
+  history : VersionStandsFor 0 (entries rows) version
+  step_of : IsStepOf s from mids
+
+look_of : (rows : List Row) (s : Step) (moment : Moment) (desk : Seen) (worker : Worker) (version : Version) (from : Peer) → version ≡ desk.version → s.peer ≡ from → MayStep rows s moment desk worker
+    → Look rows s moment version worker.mids from
+look_of rows s moment desk worker version from seen by it = record {
+  history = subst (λ (v : Version). VersionStandsFor 0 (entries rows) v) (sym seen) it.stands.directory.history;
+  step_of = record { peer_is = by; worker = sym it.worker_at.worker_is; drawn = it.may.drawn ∙ sym it.worker_at.drawn };
+}
+
 -- where nothing is held, the worker has no job
-pub looked_done : (rows : List Row) (s : Step) (moment : Moment) (desk : Seen) (worker later : Worker) (datagram : List ℕ) (before out : List (Peer × List ℕ)) → s.kind ≡ step.Look → s.datagram ≡ datagram → before ≡ []
-    → later.job ≡ worker.job → MayStep rows s moment desk worker → Sends (looked false (entries rows) moment.0 s (reading datagram)) before out worker.mids later.mids
-    → held_after false (entries rows) moment.0 (reading datagram) ≡ None → Steps rows s desk later out
-looked_done rows s moment desk worker later datagram before out kind of empty same it sends none =
-    made-Steps rows s moment desk desk worker later out it (look-Made rows s moment desk worker later.mids datagram before out kind of empty it sends)
+pub looked_done : (rows : List Row) (s : Step) (moment : Moment) (desk : Seen) (worker later : Worker) (version : Version) (from : Peer) (datagram : List ℕ) (before out : List (Peer × List ℕ)) → version ≡ desk.version
+    → s.kind ≡ step.Look → s.peer ≡ from → s.datagram ≡ datagram → before ≡ [] → later.job ≡ worker.job → MayStep rows s moment desk worker
+    → ((history : List Entry) → VersionStandsFor 0 history version → IsStepOf s from worker.mids → Sends (looked false history moment.0 s (reading datagram)) before out worker.mids later.mids)
+    → ((history : List Entry) → VersionStandsFor 0 history version → IsHeld from datagram (held_after false history moment.0 (reading datagram)) looked_as.Done)
+    → Steps rows s desk later out
+looked_done rows s moment desk worker later version from datagram before out seen kind by of empty same it sends holds =
+    let look = look_of rows s moment desk worker version from seen by it in
+    let none = done_left from datagram (held_after false (entries rows) moment.0 (reading datagram)) (holds (entries rows) look.history) in
+    made-Steps rows s moment desk desk worker later out it (look-Made rows s moment desk worker later.mids datagram before out kind of empty it (sends (entries rows) look.history look.step_of))
     (subst (λ (held : Option machine.Job). HoldsJob (row rows s false ∷ rows) held later.job)
     (sym (look_leaves rows s moment desk worker datagram kind of it ∙ ap (λ (held : Option Answer). keep_job held (row rows s false)) none))
     (subst (λ (mine : Option Job). HoldsJob (row rows s false ∷ rows) None mine) (sym (same ∙ idle rows s moment desk worker (ap is_heard kind) it)) tt))
@@ -276,15 +306,18 @@ abbrev kept_by : Answer → Peer → List ℕ → Option machine.Job
 kept_by answer from datagram = Some (record { kind = step.Keep answer.body answer.tag; peer = from; datagram = datagram })
 
 -- so is what is held
-pub looked_held : (rows : List Row) (s : Step) (moment : Moment) (desk : Seen) (worker later : Worker) (from : Peer) (datagram : List ℕ) (answer : Answer) (keep : Keep) (before out : List (Peer × List ℕ)) → s.kind ≡ step.Look
-    → s.peer ≡ from → s.datagram ≡ datagram → before ≡ [] → later.job ≡ Some (job.Keep keep) → keep ≡ record { peer = from; datagram = datagram; answer = answer } → MayStep rows s moment desk worker
-    → Sends (looked false (entries rows) moment.0 s (reading datagram)) before out worker.mids later.mids → held_after false (entries rows) moment.0 (reading datagram) ≡ Some answer → Steps rows s desk later out
-looked_held rows s moment desk worker later from datagram answer keep before out kind by of empty has is it sends holds =
-    made-Steps rows s moment desk desk worker later out it (look-Made rows s moment desk worker later.mids datagram before out kind of empty it sends)
+pub looked_held : (rows : List Row) (s : Step) (moment : Moment) (desk : Seen) (worker later : Worker) (version : Version) (from : Peer) (datagram : List ℕ) (keep : Keep) (before out : List (Peer × List ℕ)) → version ≡ desk.version
+    → s.kind ≡ step.Look → s.peer ≡ from → s.datagram ≡ datagram → before ≡ [] → later.job ≡ Some (job.Keep keep) → MayStep rows s moment desk worker
+    → ((history : List Entry) → VersionStandsFor 0 history version → IsStepOf s from worker.mids → Sends (looked false history moment.0 s (reading datagram)) before out worker.mids later.mids)
+    → ((history : List Entry) → VersionStandsFor 0 history version → IsHeld from datagram (held_after false history moment.0 (reading datagram)) (looked_as.Held keep))
+    → Steps rows s desk later out
+looked_held rows s moment desk worker later version from datagram keep before out seen kind by of empty has it sends holds =
+    let look = look_of rows s moment desk worker version from seen by it in
+    let left = held_left from datagram (held_after false (entries rows) moment.0 (reading datagram)) keep (holds (entries rows) look.history) in
+    made-Steps rows s moment desk desk worker later out it (look-Made rows s moment desk worker later.mids datagram before out kind of empty it (sends (entries rows) look.history look.step_of))
     (subst (λ (held : Option machine.Job). HoldsJob (row rows s false ∷ rows) held later.job)
-    (sym (look_leaves rows s moment desk worker datagram kind of it ∙ (ap (λ (held : Option Answer). keep_job held (row rows s false)) holds ∙ mine)))
-    (subst (λ (own : Option Job). HoldsJob (row rows s false ∷ rows) (Some (record { kind = step.Keep keep.answer.body keep.answer.tag; peer = keep.peer; datagram = keep.datagram })) own) (sym has) refl))
+    (sym (look_leaves rows s moment desk worker datagram kind of it ∙ (ap (λ (held : Option Answer). keep_job held (row rows s false)) left.1 ∙ mine left.0 left.2)))
+    (subst (λ (own : Option Job). HoldsJob (row rows s false ∷ rows) (kept_by keep.answer keep.peer keep.datagram) own) (sym has) refl))
   where
-    mine : keep_job (Some answer) (row rows s false) ≡ Some (record { kind = step.Keep keep.answer.body keep.answer.tag; peer = keep.peer; datagram = keep.datagram })
-    mine = rw is (ap₂ (kept_by answer)
-        (ap (λ (t : Step). t.peer) (row-step rows s false) ∙ by) (ap (λ (t : Step). t.datagram) (row-step rows s false) ∙ of))
+    mine : (answer : Answer) → keep ≡ record { peer = from; datagram = datagram; answer = answer } → keep_job (Some answer) (row rows s false) ≡ kept_by keep.answer keep.peer keep.datagram
+    mine answer is = rw is (ap₂ (kept_by answer) (ap (λ (t : Step). t.peer) (row-step rows s false) ∙ by) (ap (λ (t : Step). t.datagram) (row-step rows s false) ∙ of))

@@ -72,6 +72,10 @@ pub record Steps (rows : List Row) (s : Step) (desk : Seen) (worker : Worker) (s
   pub worker_at : IsWorkerAt (row rows s false ∷ rows) s.worker worker
   pub sent_is : sent ≡ (row rows s false).sent
 
+-- what its last step sent
+abbrev pub sent_of : Machine → List (Peer × List ℕ)
+sent_of machine = machine.sent
+
 -- the lines of datagrams that a worker sent, in order
 abbrev pub lines_sent : ℕ → List (Peer × List ℕ) → List ℕ
 lines_sent worker sent = flat_map (λ d. ended (out_text worker d.0 d.1)) sent
@@ -86,12 +90,12 @@ abbrev pub rows_with : List Row → Option Step → List Row
 rows_with rows None = rows
 rows_with rows (Some s) = row rows s false ∷ rows
 
--- a line was done by a machine, or is bad
+-- a line was done by a machine, or is bad; then the machine is as before, and sent nothing
 abbrev pub Performs : ℕ → List Row → Result (Option Step) Reason → Machine → Result Unit Trouble → Type 0
-Performs workers rows (Ok made) machine (Ok done) = IsMachineAt workers (rows_with rows made) machine × HasSent rows made machine.sent
+Performs workers rows (Ok made) machine (Ok done) = IsMachineAt workers (rows_with rows made) machine × HasSent rows made (sent_of machine)
 Performs workers rows (Err why) machine (Ok done) = ⊥
 Performs workers rows (Ok made) machine (Err (trouble.Bad said)) = ⊥
-Performs workers rows (Err why) machine (Err (trouble.Bad said)) = said ≡ why
+Performs workers rows (Err why) machine (Err (trouble.Bad said)) = (said ≡ why) × IsMachineAt workers rows machine × (sent_of machine ≡ [])
 Performs workers rows _ machine (Err trouble.Starved) = ⊤
 
 -- the worker of the step that a line made is the one that it names
@@ -101,7 +105,7 @@ IsBy (Some s) worker = s.worker ≡ worker
 
 -- the same of a line by its text, and of the worker that it names
 abbrev pub PerformsFor : ℕ → List Row → Result (Option Step) Reason → Machine → Result ℕ Trouble → Type 0
-PerformsFor workers rows (Ok made) machine (Ok worker) = IsMachineAt workers (rows_with rows made) machine × HasSent rows made machine.sent × IsBy made worker
+PerformsFor workers rows (Ok made) machine (Ok worker) = IsMachineAt workers (rows_with rows made) machine × HasSent rows made (sent_of machine) × IsBy made worker
 PerformsFor workers rows (Err why) machine (Ok worker) = ⊥
 PerformsFor workers rows (Ok made) machine (Err (trouble.Bad said)) = ⊥
 PerformsFor workers rows (Err why) machine (Err (trouble.Bad said)) = said ≡ why

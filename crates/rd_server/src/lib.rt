@@ -13,8 +13,10 @@ mod words;
 mod workers;
 
 pub use endings::Status;
+pub use machine::Machine;
 pub use replays::{replay, report};
 pub use trace_text::{LineBad, Reason};
+pub use troubles::Trouble;
 
 #[cfg(test)]
 mod tests;

@@ -1,12 +1,13 @@
 //! The machine of a replay: the desk, its workers, and the greatest moment that was handed in.
-ghost use Rattle.std.specs.Prelude.{◌≡◌, ◌≤◌, ◌^◌, ℕ, [], List, Ok, IfOk, IfSome, length, max, slice_get};
+ghost use Rattle.std.specs.Prelude.{◌≡◌, ◌≤◌, ◌<◌, ◌^◌, ℕ, [], List, Ok, IfOk, IfSome, is_some, length, max, slice_get};
 ghost use Rattle.line_model.specs.declared.lines.Line.TheVariants as kind;
 ghost use Rattle.line_model.specs.Lines.{IsLine};
 ghost use Rattle.journal_model.specs.declared.rows.Row.{Row};
 ghost use Rattle.journal_model.specs.DeskJournal.{max_workers};
+ghost use Rattle.journal_model.specs.Machine.{job_of};
 ghost use Rattle.trace_model.specs.Output.{last_line};
 ghost use Rattle.trace_model.specs.Steps as steps;
-ghost use Rattle.rd_server.specs.Machines.{IsMachine, IsMachineAt, IsWorkerAt, Performs, lines_sent};
+ghost use Rattle.rd_server.specs.Machines.{IsMachine, IsMachineAt, IsWorkerAt, Performs, lines_sent, sent_of};
 
 use crate::troubles::Trouble;
 use crate::workers::Worker;
@@ -16,7 +17,8 @@ use rd_desk::{Desk, Outbox};
 use std::alloc::Global;
 use trace_text::{Line, Reason, out_print};
 
-/// A desk, the workers that drive it, and what the last step sent.
+/// A directory that lines of a trace drive, without any socket: one desk, from 1 to 16 workers that hear datagrams, do the jobs that these leave them, and let time pass (RFC 9176, RFC 7252,
+/// RFC 7641, RFC 7959); and what the last step sent. Contracts say after which journal it stands (`IsMachineAt`).
 #[derive(Drop)]
 pub struct Machine {
     /// Where its memory comes from.
@@ -55,7 +57,7 @@ fn workers_of(alloc: Global, number: u8) -> Result<Vec<Worker>, Starved>
 }
 
 impl Machine {
-    /// A machine of so many workers, which made no step yet. `Starved`: out of memory.
+    /// A machine of so many workers, at most 16 and numbered from 0, which made no step yet. `Starved`: out of memory.
     pub fn make(alloc: Global, workers: u8) -> Result<Machine, Starved>
         requires { workers ≤ max_workers }
         ensures { IfOk result (IsMachineAt workers []) }
@@ -133,7 +135,9 @@ impl Machine {
         Ok(ticker.tick(&mut self.desk, self.latest, word, &mut self.sent)?)
     }
 
-    /// Does what a line says, and has what its step sent. Where the line is bad the machine is as before; after memory ran out it is not to be used any more.
+    /// Does what a line says, as one step of the worker that it names, and has what that step sent. A moment, in milliseconds and at most 10^15, is lifted to the greatest that came
+    /// before. `Bad`: there is no such worker, or a datagram comes to one that holds a job; then the machine is as before, and has sent nothing. `Starved`: out of memory; then it is
+    /// not to be used any more.
     pub fn perform(&mut self, line: Line) -> Result<(), Trouble>
         requires stands { IsMachine self.old }
         requires line { IsLine line }
@@ -157,17 +161,27 @@ impl Machine {
         }
     }
 
-    /// What the last step sent.
+    /// What the last step sent, in order, each datagram with the peer that it goes to.
     pub fn sent(&self) -> &Outbox
-        ensures { result.now ≡ self.now.sent }
+        ensures { result.now ≡ sent_of self.now }
     {
         &self.sent
+    }
+
+    /// Whether a worker holds a job: then no datagram comes to it. One that there is not holds none.
+    pub fn is_busy(&self, worker: u8) -> bool
+        ensures { (workers : ℕ) (rows : List Row) → IsMachineAt workers rows self.now → worker < workers → result ≡ is_some (job_of worker rows) }
+    {
+        let Some(holder) = self.workers.get(usize::from(worker)) else {
+            return false;
+        };
+        holder.is_busy()
     }
 
     /// The lines of the output for what the last step sent, which is one of this worker. `Starved`: out of memory.
     #[tactic(auto, using(crate::proofs::SentLines::lines_after))]
     pub fn sent_text(&self, worker: u8) -> Result<Bytes, Starved>
-        ensures { IfOk result (λ text. text ≡ lines_sent worker self.now.sent) }
+        ensures { IfOk result (λ text. text ≡ lines_sent worker (sent_of self.now)) }
     {
         let mut text = Bytes::new(self.alloc);
         let mut index = 0;
