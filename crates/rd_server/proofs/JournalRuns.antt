@@ -32,3 +32,12 @@ runs_from workers number rows (text ∷ texts) = by (step_of_line workers rows (
 pub output_is : (workers : ℕ) (bytes : List ℕ) → whole_output (journal workers [] 1 (lines_of bytes)) ≡ output workers bytes
 unfolding output run
 output_is workers bytes = ap whole_output (runs_from workers 1 [] (lines_of bytes))
+
+-- its rows are those of the journal of the trace
+pub rows_are : (workers : ℕ) (bytes : List ℕ) → (journal workers [] 1 (lines_of bytes)).rows ≡ journal_of workers bytes
+unfolding run
+rows_are workers bytes = ap (λ (j : Journal). j.rows) (runs_from workers 1 [] (lines_of bytes))
+
+-- its bad line is the first of the trace
+pub bad_is_first : (workers : ℕ) (bytes : List ℕ) → (journal workers [] 1 (lines_of bytes)).bad ≡ first_bad workers bytes
+bad_is_first workers bytes = ap (λ (j : Journal). j.bad) (runs_from workers 1 [] (lines_of bytes))

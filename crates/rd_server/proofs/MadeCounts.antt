@@ -1,5 +1,5 @@
 -- What is counted of lines that are done one after the other.
-use Rattle.std.proofs.Common.{◌≡◌, ℕ, zero, suc, ◌+◌, ◌≤◌, false, List, [], ◌∷◌, ◌++◌, drop, length, map, Option, Some, None, Result, Ok, Err, refl, sym, ap, ap₂, ◌∙◌, subst, arith}
+use Rattle.std.proofs.Common.{◌≡◌, ℕ, zero, suc, ◌+◌, ◌≤◌, false, List, [], ◌∷◌, ◌++◌, drop, length, map, Option, Some, None, Result, Ok, Err, append_assoc, codes, decimal, refl, sym, ap, ap₂, ◌∙◌, subst, arith}
 use Rattle.std.specs.Prelude.{slice_get}
 use Rattle.std.proofs.lemmas.List.{drop_all, length-append}
 use Rattle.std.proofs.lemmas.Option.{none-some, same_Some}
@@ -12,6 +12,7 @@ use Rattle.journal_model.specs.declared.rows.Row.{Row}
 use Rattle.journal_model.specs.declared.steps.Step.{Step}
 use Rattle.journal_model.specs.Rows.{row}
 use Rattle.trace_model.specs.Made.{datagrams, octets_sent}
+use Rattle.trace_model.specs.Output.{last_line}
 use Rattle.trace_model.specs.Steps.{step_of_line}
 use Rattle.rd_server.specs.declared.machine.Machine.{Machine}
 use Rattle.rd_server.specs.declared.made.Count.{Count}
@@ -20,7 +21,7 @@ use Rattle.rd_server.specs.declared.troubles.Trouble.TheVariants as trouble
 use Rattle.rd_server.specs.Fields.{cut}
 use Rattle.rd_server.specs.Journal.{Journal, after_line, goes_on, journal, rows_after}
 use Rattle.rd_server.specs.Machines.{PerformsFor}
-use Rattle.rd_server.specs.MadeRuns.{CountsLine, CountsLines, IsCountedAt}
+use Rattle.rd_server.specs.MadeRuns.{CountsLine, CountsLines, IsCountedAt, summary}
 use Rattle.rd_server.proofs.LineFeeds.{cut_pieces, lines_first, lines_last, one_line}
 
 abbrev octets_in : Peer × List ℕ → ℕ
@@ -38,6 +39,14 @@ pub octets_more : (index : ℕ) (sent : List (Peer × List ℕ)) (d : Peer × Li
 octets_more index [] d e = cc
 octets_more zero (x ∷ xs) d e = octets_cons x xs ∙ ap (λ (p : Peer × List ℕ). length p.1 + octets_sent xs) (same_Some x d e)
 octets_more (suc n) (x ∷ xs) d e = octets_more n xs d e
+
+-- with the octets counted so far
+pub octets_next : (index : ℕ) (sent : List (Peer × List ℕ)) (d : Peer × List ℕ) (before octets : ℕ) → slice_get sent index ≡ Some d → octets ≡ before + length d.1
+    → octets + octets_sent (drop (index + 1) sent) ≡ before + octets_sent (drop index sent)
+octets_next index sent d before octets found added =
+    let next : octets_sent (drop (suc index) sent) ≡ octets_sent (drop (index + 1) sent) = let one : suc index ≡ index + 1 = omega arith in ap (λ (n : ℕ). octets_sent (drop n sent)) one in
+    let more = octets_more index sent d found in
+    omega (arith, added, next, more)
 
 -- no octet is left
 pub octets_none : (index : ℕ) (sent : List (Peer × List ℕ)) → length sent ≤ index → octets_sent (drop index sent) ≡ 0
@@ -90,7 +99,7 @@ pub led_none : (workers : ℕ) (rows : List Row) (lines : ℕ) (trace : List ℕ
 led_none workers rows lines trace count at = record { more = rows; done = lines; counted = at; same = refl; number = refl }
 
 -- the first line of what is left
-first_line : (rest line more : List ℕ) → cut 10 rest ≡ Some (line, more) → lines_of rest ≡ line ∷ lines_of more
+pub first_line : (rest line more : List ℕ) → cut 10 rest ≡ Some (line, more) → lines_of rest ≡ line ∷ lines_of more
 first_line rest line more e = let p = cut_pieces 10 rest line more e in ap lines_of p.whole ∙ lines_first line more p.no_separator
 
 -- a line more was done
@@ -130,8 +139,39 @@ led_stopped workers rows lines whole trace rest line others before count (troubl
 pub led_all : (workers : ℕ) (rows : List Row) (lines : ℕ) (trace : List ℕ) (count : Count) → Led workers rows lines trace [] count
     → CountsLines workers (lines + length (lines_of trace)) (journal workers rows (lines + 1) (lines_of trace)) count (Ok tt)
 unfolding lines_of
-led_all workers rows lines trace count led = (
-  ap (λ (j : Journal). j.bad) led.same,
-  subst (λ (n : ℕ). IsCountedAt workers (journal workers rows (lines + 1) (lines_of trace)).rows n count) led.number
-      (subst (λ (more : List Row). IsCountedAt workers more (led.done + 0) count) (sym (ap (λ (j : Journal). j.rows) led.same)) ?),
-)
+led_all workers rows lines trace count led =
+    let number : led.done ≡ lines + length (lines_of trace) = let n = led.number in omega (arith, n) in (
+      ap (λ (j : Journal). j.bad) led.same,
+      subst (λ (n : ℕ). IsCountedAt workers (journal workers rows (lines + 1) (lines_of trace)).rows n count) number
+          (subst (λ (more : List Row). IsCountedAt workers more led.done count) (sym (ap (λ (j : Journal). j.rows) led.same)) led.counted),
+    )
+
+-- the last line, which lacks its line feed, was done or not
+pub led_last : (workers : ℕ) (rows : List Row) (lines : ℕ) (trace rest : List ℕ) (before count : Count) (result : Result Unit Trouble) → (led : Led workers rows lines trace rest before) → cut 10 rest ≡ None → (rest ≡ [] → ⊥)
+    → CountsLine workers led.done (after_line workers led.more rest) count result
+    → CountsLines workers (lines + length (lines_of trace)) (journal workers rows (lines + 1) (lines_of trace)) count result
+led_last workers rows lines trace [] before count result led e some h = absurd (some refl)
+led_last workers rows lines trace (b ∷ bs) before count (Err why) led e some h =
+    led_stopped workers rows lines (lines + length (lines_of trace)) trace (b ∷ bs) (b ∷ bs) [] before count why led (lines_last (b ∷ bs) e) h
+led_last workers rows lines trace (b ∷ bs) before count (Ok done) led e some h = by (after_line workers led.more (b ∷ bs)) refl h
+  where
+    texts : lines_of (b ∷ bs) ≡ (b ∷ bs) ∷ []
+    texts = lines_last (b ∷ bs) e
+    by : (after : Result (List Row) Reason) → after_line workers led.more (b ∷ bs) ≡ after → CountsLine workers led.done after count (Ok done)
+        → CountsLines workers (lines + length (lines_of trace)) (journal workers rows (lines + 1) (lines_of trace)) count (Ok done)
+    by (Err why) a h = absurd h
+    by (Ok next) a h =
+        let same : journal workers rows (lines + 1) (lines_of trace) ≡ record { rows = next; bad = None } =
+        led.same ∙ ap (journal workers led.more (led.done + 1)) texts
+        ∙ ap (λ (r : Result (List Row) Reason). goes_on r led.more (led.done + 1) (λ rows. record { rows = rows; bad = None })) a in
+        let number : led.done + 1 ≡ lines + length (lines_of trace) = let n = ap length texts in let all = led.number in omega (arith, n, all) in (
+          ap (λ (j : Journal). j.bad) same,
+          subst (λ (n : ℕ). IsCountedAt workers (journal workers rows (lines + 1) (lines_of trace)).rows n count) number
+              (subst (λ (more : List Row). IsCountedAt workers more (led.done + 1) count) (sym (ap (λ (j : Journal). j.rows) same)) h),
+        )
+
+-- the lines that say what was counted, and the line that ends the output
+pub summary_is : (workers : ℕ) (rows : List Row) (lines : ℕ) (count : Count) → IsCountedAt workers rows lines count → (made sent end text : List ℕ)
+    → made ≡ codes "made " ++ (decimal count.lines ++ codes "\n") → sent ≡ codes "sent " ++ (decimal count.datagrams ++ (codes " " ++ (decimal count.octets ++ codes "\n")))
+    → end ≡ last_line rows → text ≡ (made ++ sent) ++ end → text ≡ summary lines rows
+summary_is workers rows lines count at made sent end text m s e t = rw (t, m, s, e, at.lines_are, at.datagrams_are, at.octets_are) (simp append_assoc)
