@@ -157,6 +157,13 @@ impl Machine {
         }
     }
 
+    /// What the last step sent.
+    pub fn sent(&self) -> &Outbox
+        ensures { result.now ≡ self.now.sent }
+    {
+        &self.sent
+    }
+
     /// The lines of the output for what the last step sent, which is one of this worker. `Starved`: out of memory.
     #[tactic(auto, using(crate::proofs::SentLines::lines_after))]
     pub fn sent_text(&self, worker: u8) -> Result<Bytes, Starved>
