@@ -2,6 +2,7 @@
 -- Steps: DeskSteps (the journal with the row of a step is one of a desk), LookRows (a row of a look leaves what a desk stands for), JobRows (what a worker holds and drew after its own row),
 --   OtherWorkers (what it leaves of the others), WorkerSteps (what the desk made of a call is the step), MachineLaws (the machine after a line), EachWorker (lists by index).
 -- A replay: JournalRuns (its journal is that of its steps), LineDone (one line), Journeys (pieces of a trace), LastLines (its end), ReportLaws (status), ReplayLaws (the whole).
+-- Words: ClapReads (what clap reads in words of each shape), WordSteps (a word after the other), WordValues (a value begins with a digit), WordShapes (what clap reads is what the words ask for).
 pub mod Cuts
 pub mod WrittenPieces
 pub mod LineDone
@@ -20,3 +21,7 @@ pub mod WorkerSteps
 pub mod OtherWorkers
 pub mod EachWorker
 pub mod MachineLaws
+pub mod ClapReads
+pub mod WordSteps
+pub mod WordValues
+pub mod WordShapes

@@ -1,9 +1,11 @@
 //! What the programs of the directory do: a trace replayed to its output.
 #![tactic(auto)]
 
+mod command_line;
 mod endings;
 mod fields;
 mod machine;
+mod made;
 mod replays;
 mod sessions;
 mod troubles;

@@ -7,12 +7,14 @@ ghost use Rattle.trace_model.specs.Output.{output};
 ghost use Rattle.trace_model.specs.Steps as steps;
 ghost use Rattle.rd_server.specs.Endings as ends;
 ghost use Rattle.rd_server.specs.Endings.{IsWritten, EndsBy, CountsReads, CountsWrites, IsReported};
+ghost use Rattle.rd_server.specs.MadeRuns.{IsWrittenFor};
 ghost use Rattle.rd_server.specs.Sessions.{Place, IsAt, IsSession, IsStarted, ReadsAll, CountsFailed, CountsStopped, start};
-ghost use Rattle.rd_server.specs.Words.{IsWorkers, Words as Asked, words_said, workers_of};
+ghost use Rattle.rd_server.specs.Words.{AreDevices, IsWorkers, words_said, workers_of};
 
 use crate::endings::{Read, Status, Stop};
+use crate::made::run_made;
 use crate::sessions::{Session, write_all};
-use crate::words::{Words, words_read};
+use crate::words::{Words, WordsFault, words_read};
 use itoa::write_digits;
 use rd_base::{Got, Sink, Source};
 use std::alloc::Global;
@@ -101,13 +103,43 @@ fn run<S: Source, K: Sink>(alloc: Global, workers: u8, source: &mut S, out: &mut
     run_in(&mut session, alloc, source, out)
 }
 
-/// Does what the words ask for. A trace is not made yet: where one is asked for, the words are refused.
-fn run_words<S: Source, K: Sink>(alloc: Global, words: Words, source: &mut S, out: &mut K) -> Status
-    requires { IsWorkers words.workers }
+/// Does what was asked for: the trace of a source, or one that is made.
+fn run_words<S: Source, K: Sink>(alloc: Global, asked: Words, source: &mut S, out: &mut K) -> Status
+    requires workers { IsWorkers (workers_of asked) }
+    requires devices { IfSome asked.devices AreDevices }
+    ensures written { IsWrittenFor asked.devices (workers_of asked) (S.left source.old) (K.holds out.old) (K.holds out.new) result }
+    ensures all_read { asked.devices ≡ None → result ≡ Status.Done → IsAtEnd (S.left source.new) }
+    ensures unread { IfSome asked.devices (λ _. source.new ≡ source.old) }
+    ensures reads { CountsReads (S.faults source.old) (S.faults source.new) result }
+    ensures writes { CountsWrites (K.faults out.old) (K.faults out.new) result }
+    ensures usage { ends.IsNoUsage result }
 {
-    match words.devices {
-        None => run(alloc, words.workers, source, out),
-        Some(_) => Status::Usage,
+    match asked.devices {
+        None => run(alloc, asked.workers(), source, out),
+        Some(devices) => run_made(alloc, devices, asked.workers(), out),
+    }
+}
+
+/// Does what words ask for, where they are those of the program.
+fn run_said<S: Source, K: Sink>(
+    alloc: Global,
+    words: &[String],
+    source: &mut S,
+    out: &mut K,
+) -> Status
+    ensures usage { result ≡ Status.Usage ↔ (words_said (map string_bytes words.now) ≡ None) }
+    ensures refused { words_said (map string_bytes words.now) ≡ None → (source.new ≡ source.old) × (out.new ≡ out.old) }
+    ensures written { IfSome (words_said (map string_bytes words.now)) (λ asked.
+        IsWrittenFor asked.devices (workers_of asked) (S.left source.old) (K.holds out.old) (K.holds out.new) result) }
+    ensures all_read { IfSome (words_said (map string_bytes words.now)) (λ asked. asked.devices ≡ None → result ≡ Status.Done → IsAtEnd (S.left source.new)) }
+    ensures unread { IfSome (words_said (map string_bytes words.now)) (λ asked. IfSome asked.devices (λ _. source.new ≡ source.old)) }
+    ensures reads { CountsReads (S.faults source.old) (S.faults source.new) result }
+    ensures writes { CountsWrites (K.faults out.old) (K.faults out.new) result }
+{
+    match words_read(alloc, words) {
+        Ok(asked) => run_words(alloc, asked, source, out),
+        Err(WordsFault::Usage) => Status::Usage,
+        Err(WordsFault::Starved) => Status::Memory,
     }
 }
 
@@ -171,7 +203,8 @@ pub fn report<E: Sink>(err: &mut E, status: Status)
 /// and the line that ends the output. What is wrong is said on `err`.
 ///
 /// `words` are those of the command line, without the program's name: `--workers` with a number from 1 to 16, and `--make` with one from 1 to 4,000, each once at most, as two words
-/// or joined by `=`. There is one worker where none are named.
+/// or joined by `=`. There is one worker where none are named. With `--make` the trace of so many devices is made and done in place of that of `source`, and what is written is how many
+/// lines it has, how many datagrams it sent and how many octets they have, and the line that ends the output.
 pub fn replay<S: Source, K: Sink, E: Sink>(
     alloc: Global,
     words: &[String],
@@ -179,17 +212,18 @@ pub fn replay<S: Source, K: Sink, E: Sink>(
     out: &mut K,
     err: &mut E,
 ) -> Status
-    // Other words than those of the program are the one cause of Usage. (So far it is also what is answered where a trace is to be made.)
-    ensures usage { words_said (map string_bytes words.now) ≡ None → result ≡ Status.Usage }
-    ensures no_usage { IfSome (words_said (map string_bytes words.now)) (λ asked. asked.devices ≡ None → ends.IsNoUsage result) }
-    // What is written for what was read: for Done all that the trace gives, with its last line, and nothing else; for a bad line what is sent before it; else a prefix of that.
-    ensures written { IfSome (S.left source.old) (λ bytes. IfSome (words_said (map string_bytes words.now)) (λ asked.
-        asked.devices ≡ None → IsWritten (output (workers_of asked) bytes) (K.holds out.old) (K.holds out.new) result)) }
-    // The first bad line is reported and no other, and with a bad line nothing is done.
+    // Usage comes exactly where the words are not those of the program; then nothing is read and written.
+    ensures usage { result ≡ Status.Usage ↔ (words_said (map string_bytes words.now) ≡ None) }
+    ensures refused { words_said (map string_bytes words.now) ≡ None → (source.new ≡ source.old) × (out.new ≡ out.old) }
+    // What is written for what was read, or for what was made: for Done all that the trace gives, with its last line, and nothing else; for a bad line what is sent before it; else a prefix of that.
+    ensures written { IfSome (words_said (map string_bytes words.now)) (λ asked.
+        IsWrittenFor asked.devices (workers_of asked) (S.left source.old) (K.holds out.old) (K.holds out.new) result) }
+    // The first bad line is reported and no other, and with a bad line nothing is done. A trace that is made has none, as the clause above says.
     ensures line { IfSome (S.left source.old) (λ bytes. IfSome (words_said (map string_bytes words.now)) (λ asked.
         asked.devices ≡ None → EndsBy (output (workers_of asked) bytes).bad result)) }
-    // The source was read to its end.
-    ensures all_read { result ≡ Status.Done → IsAtEnd (S.left source.new) }
+    // The source was read to its end; where a trace is made it is not read.
+    ensures all_read { IfSome (words_said (map string_bytes words.now)) (λ asked. asked.devices ≡ None → result ≡ Status.Done → IsAtEnd (S.left source.new)) }
+    ensures unread { IfSome (words_said (map string_bytes words.now)) (λ asked. IfSome asked.devices (λ _. source.new ≡ source.old)) }
     // ReadFault and WriteFault come only where a count rose, and any other status only where it did not.
     ensures reads { CountsReads (S.faults source.old) (S.faults source.new) result }
     ensures writes { CountsWrites (K.faults out.old) (K.faults out.new) result }
@@ -198,10 +232,7 @@ pub fn replay<S: Source, K: Sink, E: Sink>(
     // Of the journal of each trace holds what the headline says of it.
     ensures headline { (workers : ℕ) (bytes : List ℕ) → Headline (steps.journal workers bytes) }
 {
-    let status = match words_read(words) {
-        Some(words) => run_words(alloc, words, source, out),
-        None => Status::Usage,
-    };
+    let status = run_said(alloc, words, source, out);
     report(err, status);
     status
 }

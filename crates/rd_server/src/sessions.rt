@@ -45,7 +45,7 @@ fn worker_of(line: &Line) -> u8
 const LONGEST_LINE: usize = 8600;
 
 /// Does what a line says, and answers which worker it names. Where the line is bad the machine is as before, and after memory ran out it is not to be used any more.
-fn perform(alloc: Global, machine: &mut Machine, line: &[u8]) -> Result<u8, Trouble>
+pub fn perform(alloc: Global, machine: &mut Machine, line: &[u8]) -> Result<u8, Trouble>
     requires { IsMachine machine.old }
     ensures { (workers : ℕ) (rows : List Row) → IsMachineAt workers rows machine.old
         → PerformsFor workers rows (steps.step_of_line workers rows (trace.line_of line.now)) machine.new result }

@@ -1,21 +1,37 @@
-//! The words of the command line of `rd_replay`.
-ghost use Rattle.std.specs.Prelude.{IfSome, map};
+//! The words of the command line of `rd_replay`: their form is tested, and clap reads their values.
+ghost use Rattle.std.specs.Prelude.{◌≡◌, ◌≤◌, ◌∷◌, ℕ, IfSome, IfOk, map, length, is_some, option_map};
 ghost use Rattle.std.specs.String.{string_bytes};
-ghost use Rattle.rd_server.specs.Words.{IsWorkers, IsReadAs, words_said};
+ghost use Rattle.rd_server.specs.Fields as fields;
+ghost use Rattle.rd_server.specs.Words as spec;
+ghost use Rattle.rd_server.specs.Words.{AreDevices, AreNamed, AreRead, GoesOn, IsNamed, IsWorkers, words_said};
+
+use crate::command_line::matches_of;
+use crate::fields::cut;
+use std::alloc::Global;
+use trace_text::number_read;
 
 /// The most workers.
-const MAX_WORKERS: u32 = 16;
+const MAX_WORKERS: u64 = 16;
 
 /// The most devices of a trace that is made.
-const MAX_DEVICES: u32 = 4_000;
+const MAX_DEVICES: u64 = 4_000;
 
 /// What the words ask for.
 #[derive(Clone, Copy, Debug, PartialEq, Eq)]
 pub struct Words {
-    /// How many workers there are, from 1 to 16.
-    pub workers: u8,
+    /// How many workers there are, from 1 to 16, where that is said.
+    pub workers: Option<u8>,
     /// For how many devices a trace is made, from 1 to 4,000; none where the trace is read.
     pub devices: Option<u32>,
+}
+
+/// Why words were not read.
+#[derive(Clone, Copy, Debug, PartialEq, Eq)]
+pub enum WordsFault {
+    /// They are not those of the program.
+    Usage,
+    /// Memory ran out.
+    Starved,
 }
 
 /// What a word names.
@@ -27,140 +43,147 @@ enum Name {
     Make,
 }
 
-/// A name and its value.
+/// Which names were given so far.
 #[derive(Clone, Copy, Debug, PartialEq, Eq)]
-struct Given {
-    /// What is named.
-    name: Name,
-    /// Its value.
-    value: u32,
-}
-
-/// The names that were given so far, with their values.
-#[derive(Clone, Copy, Debug, PartialEq, Eq)]
-struct Asked {
+struct Named {
     /// How many workers there are.
-    workers: Option<u32>,
+    workers: bool,
     /// For how many devices a trace is made.
-    devices: Option<u32>,
-}
-
-/// The most that a name may have for its value.
-fn most_of(name: Name) -> u32 {
-    match name {
-        Name::Workers => MAX_WORKERS,
-        Name::Make => MAX_DEVICES,
-    }
+    make: bool,
 }
 
 /// What a word names that is a name alone.
-fn name_of(word: &str) -> Option<Name> {
-    match word {
-        "--workers" => Some(Name::Workers),
-        "--make" => Some(Name::Make),
-        _ => None,
+fn name_of(word: &[u8]) -> Option<Name>
+    ensures { result ≡ spec.name_of word.now }
+{
+    if word == b"--workers".as_slice() {
+        return Some(Name::Workers);
     }
+    if word == b"--make".as_slice() {
+        return Some(Name::Make);
+    }
+    None
 }
 
-/// Whether a text is a decimal number from 1 on: digits, the first of which is not 0.
-fn is_counting(text: &[u8]) -> bool {
-    let Some(first) = text.first() else {
-        return false;
-    };
-    *first != b'0' && text.iter().all(|b| b.is_ascii_digit())
-}
-
-/// The number that a text writes, from 1 to the most of a name, without a leading zero.
-fn value_of(name: Name, text: &str) -> Option<u32> {
-    if !is_counting(text.as_bytes()) {
+/// The number from 1 to a limit that a text prints in decimal, without a leading zero.
+fn count_of(limit: u64, text: &[u8]) -> Option<u64>
+    ensures value { result ≡ spec.count_of limit text.now }
+    ensures within { IfSome result (λ n. (1 ≤ n) × (n ≤ limit)) }
+{
+    let n = number_read(limit, text)?;
+    if n == 0 {
         return None;
     }
-    let Ok(value) = text.parse::<u32>() else {
-        return None;
-    };
-    if value > most_of(name) {
-        return None;
-    }
-    Some(value)
+    Some(n)
 }
 
-/// A name with its value.
-fn given_of(name: Name, text: &str) -> Option<Given> {
-    let value = value_of(name, text)?;
-    Some(Given { name, value })
-}
-
-/// What one word gives that has both the name and the value, with `=` between them.
-fn joined_of(word: &str) -> Option<Given> {
-    let (name, text) = word.split_once('=')?;
-    given_of(name_of(name)?, text)
-}
-
-impl Asked {
-    /// Nothing was given.
-    fn nothing() -> Asked {
-        Asked {
-            workers: None,
-            devices: None,
-        }
-    }
-
-    /// With a name more; none where it was given before.
-    fn with(self, given: Given) -> Option<Asked> {
-        match given.name {
+impl Named {
+    /// With a name and its value more; none where it was given before, or the value is none of it.
+    fn with(self, name: Name, value: &[u8]) -> Option<Named>
+        ensures { (asked : Words) → AreNamed asked self → IsNamed (spec.given name value.now asked) result }
+    {
+        match name {
             Name::Workers => {
-                if self.workers.is_some() {
+                if self.workers {
                     return None;
                 }
-                Some(Asked {
-                    workers: Some(given.value),
-                    devices: self.devices,
+                count_of(MAX_WORKERS, value)?;
+                Some(Named {
+                    workers: true,
+                    make: self.make,
                 })
             }
             Name::Make => {
-                if self.devices.is_some() {
+                if self.make {
                     return None;
                 }
-                Some(Asked {
+                count_of(MAX_DEVICES, value)?;
+                Some(Named {
                     workers: self.workers,
-                    devices: Some(given.value),
+                    make: true,
                 })
             }
         }
     }
 
-    /// What is asked for: one worker where nothing else is said.
-    fn as_words(self) -> Words {
-        let workers = self.workers.unwrap_or(1);
-        Words {
-            workers: (workers % 256) as u8,
-            devices: self.devices,
-        }
+    /// With what one word gives that has both the name and the value, with `=` between them.
+    fn with_joined(self, word: &[u8]) -> Option<Named>
+        ensures { (asked : Words) → AreNamed asked self → IsNamed (spec.joined (fields.cut 61 word.now) asked) result }
+    {
+        let (name, value) = cut(b'=', word)?;
+        self.with(name_of(name)?, value)
+    }
+
+    /// With what a word gives, and where it is a name alone the one after it; and the words after that.
+    fn with_word<'a>(self, word: &[u8], rest: &'a [String]) -> Option<(Named, &'a [String])>
+        ensures goes { (asked : Words) → AreNamed asked self → GoesOn asked (word.now ∷ map string_bytes rest.now) (option_map (λ next. (next.0, map string_bytes next.1.now)) result) }
+        ensures shorter { IfSome result (λ next. length next.1.now ≤ length rest.now) }
+    {
+        let Some(name) = name_of(word) else {
+            let Some(named) = self.with_joined(word) else {
+                return None;
+            };
+            return Some((named, rest));
+        };
+        let Some((value, rest)) = rest.split_first() else {
+            return None;
+        };
+        let Some(named) = self.with(name, value.as_bytes()) else {
+            return None;
+        };
+        Some((named, rest))
     }
 }
 
-/// What the first word gives, or the first two where the first is a name alone; and the words after that.
-fn first_given(words: &[String]) -> Option<(Given, &[String])> {
-    let (word, rest) = words.split_first()?;
-    let Some(name) = name_of(word.as_str()) else {
-        return Some((joined_of(word.as_str())?, rest));
-    };
-    let (text, rest) = rest.split_first()?;
-    Some((given_of(name, text.as_str())?, rest))
-}
-
-/// What the words ask for: `--workers` with a number from 1 to 16, and `--make` with one from 1 to 4,000, each once at most, in any order, as two words or joined by `=`. None where
-/// they are others.
-pub fn words_read(words: &[String]) -> Option<Words>
-    ensures read { IsReadAs (words_said (map string_bytes words.now)) result }
-    ensures workers { IfSome result (λ read. IsWorkers read.workers) }
+/// Whether the words are those of the program.
+fn are_words(words: &[String]) -> bool
+    ensures { result ≡ is_some (words_said (map string_bytes words.now)) }
 {
-    let mut asked = Asked::nothing();
+    let mut named = Named {
+        workers: false,
+        make: false,
+    };
     let mut left = words;
-    'words: while !left.is_empty() {
-        let (given, rest) = first_given(left)?;
-        asked = asked.with(given)?;
+    'words: while let Some((word, rest)) = left.split_first() {
+        let Some((more, rest)) = named.with_word(word.as_bytes(), rest) else {
+            return false;
+        };
+        named = more;
         left = rest;
     }
-    Some(asked.as_words())
+    true
+}
+
+impl Words {
+    /// How many workers there are: one where nothing is said.
+    pub fn workers(&self) -> u8
+        ensures { result ≡ spec.workers_of self.now }
+    {
+        self.workers.unwrap_or(1)
+    }
+}
+
+/// What the words ask for: `--workers` with a number from 1 to 16, and `--make` with one from 1 to 4,000, each once at most, in any order, as two words or joined by `=`.
+/// `Usage`: they are others.
+pub fn words_read(alloc: Global, words: &[String]) -> Result<Words, WordsFault>
+    ensures read { AreRead (words_said (map string_bytes words.now)) result }
+    ensures workers { IfOk result (λ asked. IsWorkers (spec.workers_of asked)) }
+    ensures devices { IfOk result (λ asked. IfSome asked.devices AreDevices) }
+{
+    if !are_words(words) {
+        return Err(WordsFault::Usage);
+    }
+    let Ok(matches) = matches_of(alloc, words) else {
+        return Err(WordsFault::Starved);
+    };
+    let workers = matches
+        .get_str("workers")
+        .and_then(|text| count_of(MAX_WORKERS, text.as_bytes()));
+    let devices = matches
+        .get_str("make")
+        .and_then(|text| count_of(MAX_DEVICES, text.as_bytes()));
+    Ok(Words {
+        workers: workers.map(|n| n as u8),
+        devices: devices.map(|n| n as u32),
+    })
 }

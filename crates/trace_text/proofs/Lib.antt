@@ -2,3 +2,4 @@ pub mod NumberTexts
 pub mod FieldCuts
 pub mod LineFields
 pub mod ReadLines
+mod GeneratedTexts

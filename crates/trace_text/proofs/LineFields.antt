@@ -1,5 +1,5 @@
 -- What fields say, by their number, and that what is said is a line.
-use Rattle.std.proofs.Common.{◌≡◌, ℕ, ◌<◌, ◌≤◌, List, [], ◌∷◌, length, Some, None, Ok, refl, sym, ap, subst, inl, inr, ◌∙◌, arith}
+use Rattle.std.proofs.Common.{◌≡◌, ℕ, ◌<◌, ◌≤◌, List, [], ◌∷◌, length, None, Ok, refl, sym, ap, subst, inl, inr, ◌∙◌, arith}
 use Rattle.std.proofs.lemmas.List.Splits.{length-slice_split}
 use Rattle.std.specs.Prelude.{◌==◌}
 use Rattle.hex.specs.Hex.{IsBytes}
@@ -7,7 +7,6 @@ use Rattle.hex.proofs.HexLemmas.{decode_of-ok}
 use Rattle.line_model.specs.declared.lines.Line.{Line}
 use Rattle.line_model.specs.Datagrams.{max_datagram, IsDatagramText}
 use Rattle.line_model.specs.Lines.{space, fields, said_by, line_of, line_text, IsLine, come, go, tick, AreFieldsOf, comes, goes, ticks, ticks_alone}
-use Rattle.line_model.proofs.LineTexts.{said_by-found}
 use Rattle.line_model.proofs.PrintedLines.{line_of-line_text}
 
 module _ (text : List ℕ) where

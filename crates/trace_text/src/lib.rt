@@ -4,14 +4,17 @@
 mod datagrams;
 mod faults;
 mod fields;
+mod generator;
 mod line_parser;
 mod line_printer;
 mod numbers;
 
 pub use faults::LineFault;
+pub use generator::make;
 pub use line_model::{Line, LineBad, Reason};
 pub use line_parser::line_read;
 pub use line_printer::{line_print, out_print};
+pub use numbers::number_read;
 
 #[cfg(test)]
 mod tests;

@@ -10,7 +10,7 @@ use rd_base::{Bytes, Moment, Peer, Starved, peer_text};
 use std::alloc::Global;
 
 /// The line of a datagram that comes.
-fn come_print(
+pub(crate) fn come_print(
     alloc: Global,
     worker: u8,
     moment: Moment,
@@ -27,7 +27,7 @@ fn come_print(
 }
 
 /// The line of a worker that ends its job.
-fn go_print(alloc: Global, worker: u8, moment: Moment) -> Result<String, Starved>
+pub(crate) fn go_print(alloc: Global, worker: u8, moment: Moment) -> Result<String, Starved>
     ensures { IfOk result (λ text. string_bytes text ≡ lines.joined (lines.printed_fields (line_kind.Go worker moment))) }
 {
     let Moment(at) = moment;
@@ -35,7 +35,12 @@ fn go_print(alloc: Global, worker: u8, moment: Moment) -> Result<String, Starved
 }
 
 /// The line of time that passes, a word of 0 left out.
-fn tick_print(alloc: Global, worker: u8, moment: Moment, word: u32) -> Result<String, Starved>
+pub(crate) fn tick_print(
+    alloc: Global,
+    worker: u8,
+    moment: Moment,
+    word: u32,
+) -> Result<String, Starved>
     ensures { IfOk result (λ text. string_bytes text ≡ lines.joined (lines.printed_fields (line_kind.Tick worker moment word))) }
 {
     let Moment(at) = moment;

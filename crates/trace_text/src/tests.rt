@@ -159,3 +159,62 @@ fn sent_and_peers(rt: HostRuntime) -> Result<(), Fail> {
     assert!(rt; base.as_bytes() == b"coap://192.0.2.1:61616".as_slice());
     Ok(())
 }
+
+/// How many lines a trace has; nothing where one is not printed as it was read, or the last lacks its line feed.
+fn lines_read_back(alloc: Global, trace: &[u8]) -> Result<Option<usize>, Fail> {
+    let mut count = 0usize;
+    let mut rest = trace;
+    while let Some(at) = rest.iter().position(|b| *b == b'\n') {
+        let line = &rest[..at];
+        let shown = outcome(alloc, line)?;
+        if shown.as_slice() != line {
+            return Ok(None);
+        }
+        rest = &rest[at + 1..];
+        count = count.checked_add(1).ok_or("few lines")?;
+    }
+    Ok(rest.is_empty().then_some(count))
+}
+
+#[test]
+fn lines_of_generated_traces(rt: HostRuntime) -> Result<(), Fail> {
+    for (devices, workers, want) in [(1, 1, 3), (10, 2, 22), (100, 3, 212), (4000, 16, 8441)] {
+        let trace = make(rt.alloc(), devices, workers)
+            .ok()
+            .ok_or("there is memory")?;
+        assert_eq!(rt;
+            lines_read_back(rt.alloc(), trace.as_slice())?,
+            Some(want),
+            "of {devices}"
+        );
+    }
+    Ok(())
+}
+
+#[test]
+fn generated_traces(rt: HostRuntime) -> Result<(), Fail> {
+    let trace = make(rt.alloc(), 1, 1).ok().ok_or("there is memory")?;
+    let want = "\
+in 0 200 10.0.0.1:5683 4102000101b272644765703d64657631066c743d363731ff3c2f743e3b72743d2274656d70222c3c2f73313e3b72743d226b696e643122
+go 0 201
+tick 0 210
+";
+    assert!(rt; trace.as_slice() == want.as_bytes());
+    let trace = make(rt.alloc(), 100, 3).ok().ok_or("there is memory")?;
+    let first = "\
+in 1 200 10.0.0.1:5683 4102000101b272644765703d64657631066c743d363731ff3c2f743e3b72743d2274656d70222c3c2f73313e3b72743d226b696e643122
+go 1 201
+in 2 400 10.0.0.2:5683 4102000202b272644765703d64657632076c743d31323832ff3c2f743e3b72743d2274656d70222c3c2f73323e3b72743d226b696e643222
+go 2 401
+in 0 600 10.0.0.3:5683 ";
+    assert!(rt; trace.as_slice().starts_with(first.as_bytes()));
+    let last = "\
+in 1 20000 10.0.0.100:5683 4102006464b272644965703d646576313030076c743d33353630ff3c2f743e3b72743d2274656d70222c3c2f73303e3b72743d226b696e643222
+go 1 20001
+in 1 20002 10.1.0.1:40000 42014e840064605972642d6c6f6f6b7570037265734872743d6b696e6432
+tick 1 20003 100
+tick 0 20010
+";
+    assert!(rt; trace.as_slice().ends_with(last.as_bytes()));
+    Ok(())
+}
