@@ -1,5 +1,5 @@
 -- What a desk wants of a step, and of the journal with its row: a journal of the machine each of whose rows was handed in as a desk wants it goes on as one of a desk.
-use Rattle.std.proofs.Common.{◌≡◌, ℕ, Bool, true, false, List, [], ◌∷◌, refl, sym, ap, subst, ◌∙◌}
+use Rattle.std.proofs.Common.{◌≡◌, Bool, false, List, [], ◌∷◌, refl, sym, ap, subst, ◌∙◌}
 use Rattle.journal_model.specs.declared.steps.Step.{Step}
 use Rattle.journal_model.specs.declared.rows.Row.{Row}
 use Rattle.journal_model.specs.Rows.{row}

@@ -1,14 +1,8 @@
 -- The job and the Message IDs of a worker after one row more: what the row leaves it with, and what it keeps.
 use Rattle.std.proofs.Common.{◌≡◌, ℕ, ◌<◌, ◌+◌, ◌%◌, ◌^◌, ◌==◌, zero, suc, Bool, true, false, cond, List, [], ◌∷◌, length, Option, Some, None, refl, sym, ap, subst, ◌∙◌, arith}
-use Rattle.std.specs.List.{list_any}
 use Rattle.std.proofs.lemmas.Bool.{false≢true, ne_eqb}
 use Rattle.rd_base.proofs.lemmas.Numbers.{eqb-refl}
-use Rattle.event_model.specs.declared.notes.Note.{Note}
-use Rattle.event_model.specs.declared.notes.Note.TheVariants as note
-use Rattle.event_model.specs.Repeats.{is_admitting}
 use Rattle.journal_model.specs.declared.steps.Step.{Step}
-use Rattle.journal_model.specs.declared.steps.StepKind.{StepKind}
-use Rattle.journal_model.specs.declared.steps.StepKind.TheVariants as step
 use Rattle.journal_model.specs.declared.rows.Row.{Row}
 use Rattle.journal_model.specs.Journal.{is_heard, row_at}
 use Rattle.journal_model.specs.Machine.{write_job, job_after, job_of, mids_drawn, MayBegin, hears, goes, ticks}

@@ -8,7 +8,6 @@ use Rattle.line_model.specs.declared.lines.LineBad.{LineBad}
 use Rattle.rd_server.specs.declared.endings.Stop.{Stop}
 use Rattle.rd_server.specs.declared.endings.Stop.TheVariants as stop
 use Rattle.rd_server.specs.Fields.{cut}
-use Rattle.line_model.specs.Lines.{line_of}
 use Rattle.line_model.specs.Texts.{lines_of}
 use Rattle.journal_model.specs.declared.rows.Row.{Row}
 use Rattle.trace_model.specs.Output.{text, last_line}

@@ -1,5 +1,5 @@
 -- A row of a look leaves what a desk stands for.
-use Rattle.std.proofs.Common.{◌≡◌, ℕ, ◌≤◌, Bool, true, false, not, cond, List, [], ◌∷◌, ◌++◌, length, filter_map, refl, sym, ap, subst, ◌∙◌, append-nil}
+use Rattle.std.proofs.Common.{◌≡◌, ℕ, ◌≤◌, true, not, cond, List, [], ◌∷◌, ◌++◌, length, filter_map, sym, ap, subst, ◌∙◌, append-nil}
 use Rattle.history_model.specs.declared.entries.Entry.{Entry}
 use Rattle.history_model.specs.Versions.{VersionStandsFor}
 use Rattle.event_model.specs.declared.notes.Note.{Note}

@@ -1,5 +1,5 @@
 -- The machine after a step of one of its workers.
-use Rattle.std.proofs.Common.{◌≡◌, ℕ, ◌<◌, ◌≤◌, ◌^◌, max, Bool, true, false, List, [], ◌∷◌, ◌++◌, codes, decimal, append_assoc, set, get_or, length, vec_len, Option, Some, None, Result, Ok, Err, refl, sym, ap, subst, ◌∙◌, is_some, IfSome, slice_get, nat_lt, arith}
+use Rattle.std.proofs.Common.{◌≡◌, ℕ, ◌<◌, ◌≤◌, ◌^◌, max, true, false, List, [], ◌∷◌, ◌++◌, codes, decimal, append_assoc, set, get_or, length, vec_len, Option, Some, None, Ok, refl, sym, ap, subst, ◌∙◌, is_some, IfSome, slice_get, nat_lt, arith}
 use Rattle.std.proofs.lemmas.Bool.{false≢true, ne_eqb, lt-ltb}
 use Rattle.std.proofs.lemmas.List.{length-set}
 use Rattle.std.proofs.lemmas.Option.{slice_get_within, slice_get_read}

@@ -1,5 +1,5 @@
 -- The steps of a worker at a desk: what the desk's call wants of a step that may be made, and that what the desk made of it is the step.
-use Rattle.std.proofs.Common.{◌≡◌, ℕ, ◌<◌, ◌≤◌, max, Bool, true, false, List, [], ◌∷◌, ◌++◌, length, Option, Some, None, Result, Ok, Err, refl, sym, ap, ap₂, subst, ◌∙◌, arith}
+use Rattle.std.proofs.Common.{◌≡◌, ℕ, ◌<◌, max, Bool, true, false, List, [], ◌∷◌, ◌++◌, length, Option, Some, None, Ok, refl, sym, ap, ap₂, subst, ◌∙◌, arith}
 use Rattle.std.specs.List.{list_any}
 use Rattle.std.proofs.lemmas.Bool.{false≢true}
 use Rattle.rd_base.specs.declared.moments.Moment.{Moment}
@@ -34,7 +34,7 @@ use Rattle.rd_desk.specs.declared.jobs.Job.{Job}
 use Rattle.rd_desk.specs.declared.jobs.Job.TheVariants as job
 use Rattle.rd_desk.specs.declared.looks.Looked.TheVariants as looked_as
 use Rattle.rd_desk.specs.declared.mids.Mids.{Mids}
-use Rattle.rd_desk.specs.Desks.{Seen, StandsFor}
+use Rattle.rd_desk.specs.Desks.{Seen}
 use Rattle.rd_desk.specs.KeepJobs.{Keep}
 use Rattle.rd_desk.specs.Looking.{IsHeld}
 use Rattle.rd_desk.specs.Sendings.{IsStepOf, Sends}

@@ -1,5 +1,5 @@
 -- What the machine of a replay stands for: a journal, with what each worker holds and drew after it.
-use Rattle.std.specs.Prelude.{◌≡◌, ◌≤◌, ◌<◌, ◌^◌, ℕ, false, List, [], ◌∷◌, ◌++◌, length, flat_map, slice_get, Option, Some, None, Result, Ok, Err, IfOk, IfSome, ⊤}
+use Rattle.std.specs.Prelude.{◌≡◌, ◌≤◌, ◌^◌, ℕ, false, List, [], ◌∷◌, length, flat_map, slice_get, Option, Some, None, Result, Ok, Err, IfSome, ⊤}
 use Rattle.rd_base.specs.declared.moments.Moment.{Moment}
 use Rattle.rd_base.specs.declared.peers.Peer.{Peer}
 use Rattle.line_model.specs.declared.lines.Reason.{Reason}
@@ -15,13 +15,11 @@ use Rattle.journal_model.specs.Machine as machine_of
 use Rattle.trace_model.specs.Output.{ended}
 use Rattle.rd_desk.specs.declared.jobs.Job.{Job}
 use Rattle.rd_desk.specs.declared.jobs.Job.TheVariants as job
-use Rattle.rd_desk.specs.declared.mids.Mids.{Mids}
 use Rattle.rd_desk.specs.Desks.{Seen, StandsFor}
 use Rattle.rd_server.specs.declared.workers.Worker.{Worker}
 use Rattle.rd_server.specs.declared.machine.Machine.{Machine}
 use Rattle.rd_server.specs.declared.troubles.Trouble.{Trouble}
 use Rattle.rd_server.specs.declared.troubles.Trouble.TheVariants as trouble
-use Rattle.rd_server.specs.Journal.{rows_after}
 
 -- the job that a worker has is one of a journal: its write was admitted at the moment of the row that admitted it
 abbrev pub IsJobOf : List Row → machine_of.Job → Job → Type 0

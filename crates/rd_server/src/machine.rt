@@ -179,7 +179,6 @@ impl Machine {
     }
 
     /// The lines of the output for what the last step sent, which is one of this worker. `Starved`: out of memory.
-    #[tactic(auto, using(crate::proofs::SentLines::lines_after))]
     pub fn sent_text(&self, worker: u8) -> Result<Bytes, Starved>
         ensures { IfOk result (λ text. text ≡ lines_sent worker (sent_of self.now)) }
     {
