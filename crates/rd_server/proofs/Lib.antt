@@ -7,6 +7,7 @@
 pub mod OtherWorkers
 pub mod EachWorker
 pub mod MachineLaws
+pub mod GeneratedTexts
 pub mod Cuts
 pub mod WrittenPieces
 pub mod LineDone
