@@ -28,3 +28,4 @@ pub mod WordSteps
 pub mod WordValues
 pub mod WordShapes
 pub mod MadeCounts
+pub mod MadeTexts
