@@ -8,6 +8,8 @@ pub mod OtherWorkers
 pub mod EachWorker
 pub mod MachineLaws
 pub mod GeneratedTexts
+pub mod GeneratedMessages
+pub mod GeneratedTraces
 pub mod Cuts
 pub mod WrittenPieces
 pub mod LineDone
