@@ -170,8 +170,13 @@ led_last workers rows lines trace (b ∷ bs) before count (Ok done) led e some h
               (subst (λ (more : List Row). IsCountedAt workers more (led.done + 1) count) (sym (ap (λ (j : Journal). j.rows) same)) h),
         )
 
+-- three lines by their parts
+parted : (a b c d e f feed last : List ℕ) → ((a ++ (b ++ feed)) ++ (c ++ (d ++ (e ++ (f ++ feed))))) ++ last ≡ ((a ++ b) ++ feed) ++ (((c ++ (d ++ (e ++ f))) ++ feed) ++ last)
+parted a b c d e f feed last = simp append_assoc
+
 -- the lines that say what was counted, and the line that ends the output
 pub summary_is : (workers : ℕ) (rows : List Row) (lines : ℕ) (count : Count) → IsCountedAt workers rows lines count → (made sent end text : List ℕ)
     → made ≡ codes "made " ++ (decimal count.lines ++ codes "\n") → sent ≡ codes "sent " ++ (decimal count.datagrams ++ (codes " " ++ (decimal count.octets ++ codes "\n")))
     → end ≡ last_line rows → text ≡ (made ++ sent) ++ end → text ≡ summary lines rows
-summary_is workers rows lines count at made sent end text m s e t = rw (t, m, s, e, at.lines_are, at.datagrams_are, at.octets_are) (simp append_assoc)
+summary_is workers rows lines count at made sent end text m s e t = rw (t, m, s, e, at.lines_are, at.datagrams_are, at.octets_are)
+    (parted (codes "made ") (decimal lines) (codes "sent ") (decimal (length (datagrams rows))) (codes " ") (decimal (octets_sent (datagrams rows))) (codes "\n") (last_line rows))
