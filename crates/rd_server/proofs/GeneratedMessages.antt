@@ -58,8 +58,7 @@ option_bytes : (before : ℕ) (option : Opt) → option.0 ≤ last_number → le
 unfolding option_spelling
 option_bytes before option number size value =
     let first = nibble-most (option.0 - before) in
-    let second = nibble-most (length option.1) in
-    (
+    let second = nibble-most (length option.1) in (
       omega (arith, first, second),
       each_append IsByte (extension_of (option.0 - before)) (extension_of (length option.1) ++ option.1) (extension_bytes (option.0 - before) (omega (arith, number)))
           (each_append IsByte (extension_of (length option.1)) option.1 (extension_bytes (length option.1) size) value),
@@ -88,8 +87,7 @@ unfolding spelling header_spelling
 spelling_bytes m fits =
     let kind = kind-most m.kind in
     let token = fits.token_length in
-    let mid = fits.mid in
-    (
+    let mid = fits.mid in (
       omega (arith, kind, token),
       (
         fits.code,

@@ -140,8 +140,7 @@ onlooker_fits k = at_index (λ x. x < 2 ^ 8) (10 ∷ 1 ∷ 0 ∷ 1 ∷ []) (lit<
 device_feedless : (workers i : ℕ) → 0 < workers → workers ≤ 16 → i ≤ 4_000 → AllByRecursion IsFeedless (device_lines workers i)
 device_feedless workers i some few low =
     let turn = mod_below i workers some in
-    let worker : i % workers < 2 ^ 64 = omega (arith, turn, few) in
-    (
+    let worker : i % workers < 2 ^ 64 = omega (arith, turn, few) in (
       come_feedless (i % workers) (pace * i) (10 ∷ 0 ∷ i / 256 ∷ i % 256 ∷ []) 5_683 (spelling (device_registration i)) worker (omega (arith, low)) (device_fits i (omega (arith, low))) (lit< tt),
       (
         go_feedless (i % workers) (pace * i + 1) worker (omega (arith, low)),

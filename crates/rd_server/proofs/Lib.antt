@@ -31,3 +31,4 @@ pub mod WordValues
 pub mod WordShapes
 pub mod MadeCounts
 pub mod MadeTexts
+mod examples

@@ -167,7 +167,7 @@ came workers rows number moment peer datagram heard now old new before after at 
 pub went : (workers : ℕ) (rows : List Row) (number : ℕ) (moment : Moment) (now : Moment) (old new : Machine) (before after : Worker) → IsMachineAt workers rows old
     → Lent number moment.0 now old new before after → ((rows : List Row) (number : ℕ) → IsWorkerAt rows number before → true ≡ is_some (job_of number rows))
     → ((rows : List Row) (s : Step) → job_of s.worker rows ≡ Some (record { kind = s.kind; peer = s.peer; datagram = s.datagram }) → s.word ≡ 0 → MayStep rows s now old.desk.tables before
-        → Steps rows s new.desk.tables after new.sent)
+    → Steps rows s new.desk.tables after new.sent)
     → Performs workers rows (step_of_line workers rows (Ok (line.Go number moment))) new (Ok tt)
 went workers rows number moment now old new before after at lent busy does =
     by (job_of number rows) refl (busy rows number (worker_at workers rows old number before at lent.found))

@@ -109,6 +109,7 @@ led_more workers rows lines trace rest line more before count led e h = by (afte
   where
     texts : lines_of rest ≡ line ∷ lines_of more
     texts = first_line rest line more e
+
     by : (after : Result (List Row) Reason) → after_line workers led.more line ≡ after → CountsLine workers led.done after count (Ok tt) → Led workers rows lines trace more count
     by (Err why) a h = absurd h
     by (Ok next) a h = record {
@@ -157,6 +158,7 @@ led_last workers rows lines trace (b ∷ bs) before count (Ok done) led e some h
   where
     texts : lines_of (b ∷ bs) ≡ (b ∷ bs) ∷ []
     texts = lines_last (b ∷ bs) e
+
     by : (after : Result (List Row) Reason) → after_line workers led.more (b ∷ bs) ≡ after → CountsLine workers led.done after count (Ok done)
         → CountsLines workers (lines + length (lines_of trace)) (journal workers rows (lines + 1) (lines_of trace)) count (Ok done)
     by (Err why) a h = absurd h

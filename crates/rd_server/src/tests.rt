@@ -159,7 +159,9 @@ fn unwritten_at(alloc: Global, call: u8) -> Result<(Status, usize), Starved> {
 fn each_call_may_fail(rt: HostRuntime) -> Result<(), Fail> {
     for call in 0..20 {
         assert!(rt; unread_at(rt.alloc(), call)? == (Status::ReadFault, 0));
-        assert!(rt; unwritten_at(rt.alloc(), call)? == (Status::WriteFault, usize::from(call) * 31));
+        assert!(rt;
+            unwritten_at(rt.alloc(), call)? == (Status::WriteFault, usize::from(call) * 31)
+        );
     }
     assert!(rt; unread_at(rt.alloc(), 20)? == (Status::Done, 10));
     assert!(rt; unwritten_at(rt.alloc(), 20)? == (Status::Done, 599));

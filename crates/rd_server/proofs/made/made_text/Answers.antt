@@ -12,4 +12,4 @@ returns-in-Ok c =
 pub unreachable-requires : goal.unreachable-requires
 unreachable-requires c =
     let counted = rw c.in-Err-Bad.field-0-is at (c.in-Err-Bad.ensures c.args.workers [] 0 c.in_ok-count.ensures) in
-    counted (none_bad c.args.devices c.args.workers c.as_slice.result.now (c.as_slice.ensures.value ∙ c.in_ok-trace.ensures) ?)
+    counted (none_bad c.args.devices c.args.workers c.as_slice.result.now c.requires.workers c.requires.devices (c.as_slice.ensures.value ∙ c.in_ok-trace.ensures))
