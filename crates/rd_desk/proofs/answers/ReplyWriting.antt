@@ -1,5 +1,5 @@
 -- What may be written next of a reply, and how long its block is.
-use Rattle.std.proofs.Common.{◌≡◌, ℕ, zero, suc, lit≤, ◌<◌, ◌≤◌, sym, subst, arith}
+use Rattle.std.proofs.Common.{◌≡◌, ℕ, zero, suc, lit≤, ◌<◌, ◌≤◌, List, sym, subst, arith}
 use Rattle.message_model.specs.Message.{Message, end_number}
 use Rattle.coap_message.specs.PartialMessages.{with_last_option}
 use Rattle.message_model.proofs.OrderLemmas.{end_number-push}
