@@ -5,10 +5,12 @@
 //! and `%` for its low one. In a datagram `+` stands between parts, `*` before how often a part stands there, and `REG` and `LUX` are parts with a name.
 
 /// The registration of `node1` for 600 seconds, with two links.
-pub const REG: &str = "41020001a1b2726411283865703d6e6f646531066c743d363030ff3c2f74656d703e3b72743d2274656d7065726174757265223b63743d302c3c2f6c696768743e3b72743d226c696768742d6c7578223b69663d2273656e736f7222";
+pub const REG: &str =
+    "41020001a1b2726411283865703d6e6f646531066c743d363030ff3c2f74656d703e3b72743d2274656d7065726174757265223b63743d302c3c2f6c696768743e3b72743d226c696768742d6c7578223b69663d2273656e736f7222";
 
 /// How the second of these is listed.
-pub const LUX: &str = "3c636f61703a2f2f3139322e302e322e31302f6c696768743e3b72743d226c696768742d6c7578223b69663d2273656e736f7222";
+pub const LUX: &str =
+    "3c636f61703a2f2f3139322e302e322e31302f6c696768743e3b72743d226c696768742d6c7578223b69663d2273656e736f7222";
 
 /// A device registers and is looked up, and looked up again by who has the listing (RFC 9176 sections 5 and 6).
 const LOOKED_UP: &str = "\
@@ -663,7 +665,7 @@ end 1 1 2
 ";
 
 /// As many registrations as there may be: another name is refused, whatever else might be said against it but its body; a name that is there registers again; and there is room after a removal.
-const FULL_DIRECTORY: &str = "\
+pub const FULL_DIRECTORY: &str = "\
 1..=9 in 0 #00 192.0.2.10:5683 4002^b272644565703d6e@; go 0 #00; out 0 192.0.2.10:5683 6041^82726401@
 10..=99 in 0 #00 192.0.2.10:5683 4002^b272644665703d6e@; go 0 #00; out 0 192.0.2.10:5683 6041^82726402@
 100..=999 in 0 #00 192.0.2.10:5683 4002^b272644765703d6e@; go 0 #00; out 0 192.0.2.10:5683 6041^82726403@
@@ -800,7 +802,7 @@ end 2 0 0
 ";
 
 /// The most that a tick sends: 960 notices that nobody acknowledged again, then 64 to observers that were not told, and then 64 requests of fetches again (RFC 7252 section 4.2).
-const FULL_TICK: &str = "\
+pub const FULL_TICK: &str = "\
 in 0 1000 192.0.2.10:5683 REG
 go 0 1000
 out 0 192.0.2.10:5683 61410001a18272640131
@@ -858,8 +860,8 @@ tick 0 3000
 end 2 0 1024
 ";
 
-/// All stories.
-pub const ALL: &[&str] = &[
+/// Stories of few lines.
+pub const SHORT: &[&str] = &[
     LOOKED_UP,
     REPEATED,
     REPEATED_AT_ANOTHER_WORKER,
@@ -897,7 +899,10 @@ pub const ALL: &[&str] = &[
     ACKNOWLEDGED_BY_OTHERS,
     TOLD_ONLY_OF_ITS_PAGE,
     ONE_NOTICE_A_PEER,
-    FULL_DIRECTORY,
+];
+
+/// Stories of tables that are full, but for the directory.
+pub const OF_FULL_TABLES: &[&str] = &[
     FULL_TEXT,
     FULL_EXCHANGES,
     FULL_OBSERVERS,
@@ -905,5 +910,4 @@ pub const ALL: &[&str] = &[
     FULL_UPLOADS,
     FULL_FETCHES,
     FULL_KEPT_ANSWERS,
-    FULL_TICK,
 ];

@@ -11,7 +11,7 @@ use std::alloc::{AllocError, Global};
 pub(crate) enum Trouble {
     /// It has not the form of a line.
     Form,
-    /// Memory ran out in making the line ready, or for a second time in its step.
+    /// Memory ran out in making the line ready, or in its step, which can't be done again.
     Memory,
     /// Memory ran out in its step, and what was sent is not what is to be sent then.
     Unexcused,

@@ -24,6 +24,9 @@ const LAST_REQUEST: u8 = 31;
 /// 5.00 (RFC 7252 section 5.9.3.1).
 const INTERNAL_SERVER_ERROR: u8 = 160;
 
+/// How many Message IDs a worker has.
+const WORKER_MIDS: u16 = 4_096;
+
 /// A worker.
 #[derive(Drop)]
 struct Seat {
@@ -98,6 +101,14 @@ fn is_starved_answer(request: &[u8], answer: &[u8]) -> bool {
         && answer.token == request.token
         && answer.options.is_empty()
         && answer.payload.is_empty()
+}
+
+/// Whether a datagram is a confirmable message.
+fn is_confirmable(datagram: &[u8]) -> bool {
+    match view(datagram) {
+        Ok(message) => message.kind == Kind4::Con,
+        Err(_) => false,
+    }
 }
 
 /// Whether a datagram is a request.
@@ -186,23 +197,30 @@ impl Station {
                 self.desk
                     .commit(now, &mut self.seat.mids, job, &mut self.out)
             }
-            Some(Job::Keep(job)) => {
-                self.desk
-                    .keep(now, &mut self.seat.mids, job, &mut self.out)
-            }
+            Some(Job::Keep(job)) => { self.desk.keep(now, &mut self.seat.mids, job, &mut self.out) }
             None => Stepped::Done,
         }
     }
 
-    /// After a step that ran out of memory: a request was answered 5.00, and for anything else nothing was sent.
+    /// After a step that ran out of memory: a request was answered 5.00, and for anything else nothing was sent. Where the answer drew a Message ID, the worker draws
+    /// all others too, so that the next is the same again.
     fn excuse(&mut self, peer: Peer, datagram: &[u8]) -> Result<(), Trouble> {
-        let excused = match self.out.at(0) {
-            Some((to, answer)) => {
-                self.out.len() == 1 && to == peer && is_starved_answer(datagram, answer)
-            }
-            None => !is_request(datagram),
+        let Some((to, answer)) = self.out.at(0) else {
+            return if is_request(datagram) {
+                Err(Trouble::Unexcused)
+            } else {
+                Ok(())
+            };
         };
-        if excused { Ok(()) } else { Err(Trouble::Unexcused) }
+        if self.out.len() != 1 || to != peer || !is_starved_answer(datagram, answer) {
+            return Err(Trouble::Unexcused);
+        }
+        if !is_confirmable(datagram) {
+            for _ in 1..WORKER_MIDS {
+                self.seat.mids.next();
+            }
+        }
+        Ok(())
     }
 
     /// A datagram comes from a peer, and again where memory ran out.
@@ -216,7 +234,7 @@ impl Station {
         done(self.hears(now, peer, datagram))
     }
 
-    /// The worker does its job. Where memory ran out its request comes again, which is no repeat, and leaves the same job.
+    /// The worker does its job. Where memory ran out its request comes again, and leaves the same job: it is no repeat, unless another of its exchange is in flight.
     fn work(&mut self, now: Moment) -> Result<(), Trouble>
         requires { now.0 ≤ 10 ^ 15 }
     {
@@ -227,6 +245,9 @@ impl Station {
         }
         self.excuse(peer, datagram.as_slice())?;
         done(self.hears(now, peer, datagram.as_slice()))?;
+        if self.seat.job.is_none() {
+            return Err(Trouble::Memory);
+        }
         done(self.works(now))
     }
 
@@ -246,18 +267,11 @@ impl Station {
         requires { now.0 ≤ 10 ^ 15 }
     {
         self.out.clear();
-        if self
-            .desk
-            .tick(now, 0, &mut self.seat.mids, &mut self.out)
-            == Stepped::Starved
-        {
+        if self.desk.tick(now, 0, &mut self.seat.mids, &mut self.out) == Stepped::Starved {
             mem::swap(&mut self.out, &mut self.early);
             self.before = self.notices_again();
             self.out.clear();
-            done(
-                self.desk
-                    .tick(now, 0, &mut self.seat.mids, &mut self.out),
-            )?;
+            done(self.desk.tick(now, 0, &mut self.seat.mids, &mut self.out))?;
         }
         if self.desk.version().swept() != self.desk.moment() {
             return Err(Trouble::Form);
@@ -273,9 +287,7 @@ impl Station {
         let later = usize::saturating_sub(index, self.before);
         match self.out.at(later) {
             Some(sent) => Some(sent),
-            None => self
-                .early
-                .at(usize::saturating_sub(index, self.out.len())),
+            None => self.early.at(usize::saturating_sub(index, self.out.len())),
         }
     }
 
@@ -307,9 +319,11 @@ impl Station {
         if now < version.at() || now < version.swept() {
             return Ok(false);
         }
-        Ok(version.entries() == number_of(entries)?
-            && version.live_count(now) as u64 == number_of(live)?
-            && self.desk.watchers() as u64 == number_of(watchers)?)
+        Ok(
+            version.entries() == number_of(entries)?
+                && version.live_count(now) as u64 == number_of(live)?
+                && self.desk.watchers() as u64 == number_of(watchers)?,
+        )
     }
 
     /// It is the turn of the worker of this name.
