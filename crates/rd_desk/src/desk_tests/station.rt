@@ -262,7 +262,7 @@ impl Station {
         self.early.len()
     }
 
-    /// Time passes, and again where memory ran out. Afterwards the version is swept up to then.
+    /// Time passes, and again where memory ran out. Afterwards the version is swept up to then, unless there was no memory for that.
     fn pass(&mut self, now: Moment) -> Result<(), Trouble>
         requires { now.0 ≤ 10 ^ 15 }
     {
@@ -274,7 +274,7 @@ impl Station {
             done(self.desk.tick(now, 0, &mut self.seat.mids, &mut self.out))?;
         }
         if self.desk.version().swept() != self.desk.moment() {
-            return Err(Trouble::Form);
+            return Err(Trouble::Memory);
         }
         Ok(())
     }
