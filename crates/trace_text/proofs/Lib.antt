@@ -3,3 +3,5 @@ pub mod FieldCuts
 pub mod LineFields
 pub mod ReadLines
 mod GeneratedTexts
+mod GeneratedRequests
+pub mod GeneratedReading

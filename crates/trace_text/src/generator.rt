@@ -57,7 +57,7 @@ fn onlooker() -> Peer
 
 /// The lifetime that a device asks for, in seconds: from a minute to an hour more.
 fn lifetime(i: u16) -> u32
-    ensures value { result ≡ generator.lifetime i }
+    ensures { result ≡ generator.lifetime i }
 {
     60 + 611 * u32::from(i) % 3600
 }

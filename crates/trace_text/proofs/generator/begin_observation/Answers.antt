@@ -1,5 +1,5 @@
 use Rattle.std.proofs.Common.{List, ℕ, length, ap, arith}
-use Rattle.trace_text.proofs.GeneratedTexts.{kind_short}
+use Rattle.trace_text.proofs.GeneratedRequests.{kind_short}
 use Rattle.trace_text.proofs.generator.begin_observation.Goals as goal
 
 pub put-requires-4-clause-value : goal.put-requires-4-clause-value

@@ -1,5 +1,5 @@
 use Rattle.std.proofs.Common.{List, ℕ, length, ap, arith}
-use Rattle.trace_text.proofs.GeneratedTexts.{name_short, lifetime_short}
+use Rattle.trace_text.proofs.GeneratedRequests.{name_short, lifetime_short}
 use Rattle.trace_text.proofs.generator.begin_registration.Goals as goal
 
 pub put-requires-2-clause-value : goal.put-requires-2-clause-value

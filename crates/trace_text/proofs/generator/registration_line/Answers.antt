@@ -1,5 +1,5 @@
 use Rattle.std.proofs.Common.{List, ℕ, length, ap, ◌∙◌, arith}
-use Rattle.trace_text.proofs.GeneratedTexts.{links_short}
+use Rattle.trace_text.proofs.GeneratedRequests.{links_short}
 use Rattle.trace_text.proofs.generator.registration_line.Goals as goal
 
 pub come_line-requires-clause-payload : goal.come_line-requires-clause-payload
