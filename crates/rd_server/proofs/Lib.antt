@@ -1,17 +1,30 @@
--- Texts: Cuts and Parts (by a separator), LineFeeds (lines), Fronts (the beginnings of a text), WrittenPieces.
--- The desk, a scaffold: NumberLaws (the numbers of names), StepLaws (what a line does to it), Accounts (entries and answers).
--- A replay: LineDone (one line), Journeys (pieces of a trace), LastLines (its end), ReportLaws (words and status), ReplayLaws (the whole).
+-- Texts: Cuts (by a separator), SentLines (of what is sent), LineFeeds (lines), Fronts (the beginnings of a text), WrittenPieces.
+-- Steps: DeskSteps (the journal with the row of a step is one of a desk), LookRows (a row of a look leaves what a desk stands for), JobRows (what a worker holds and drew after its own row),
+--   OtherWorkers (what it leaves of the others), WorkerSteps (what the desk made of a call is the step), MachineLaws (the machine after a line), EachWorker (lists by index).
+-- A replay: JournalRuns (its journal is that of its steps), LineDone (one line), Journeys (pieces of a trace), LastLines (its end), ReportLaws (status), ReplayLaws (the whole).
+-- A made trace: MadeCounts (what is counted of its lines).
+-- Words: ClapReads (what clap reads in words of each shape), WordSteps (a word after the other), WordValues (a value begins with a digit), WordShapes (what clap reads is what the words ask for).
+pub mod OtherWorkers
+pub mod EachWorker
+pub mod MachineLaws
+pub mod GeneratedTexts
 pub mod Cuts
-pub mod Parts
-pub mod NumberLaws
-pub mod StepLaws
 pub mod WrittenPieces
 pub mod LineDone
 pub mod LineFeeds
+pub mod SentLines
+pub mod JournalRuns
 pub mod Fronts
 pub mod Journeys
 pub mod LastLines
 pub mod ReportLaws
 pub mod ReplayLaws
-pub mod Accounts
-mod examples
+pub mod DeskSteps
+pub mod LookRows
+pub mod JobRows
+pub mod WorkerSteps
+pub mod ClapReads
+pub mod WordSteps
+pub mod WordValues
+pub mod WordShapes
+pub mod MadeCounts

@@ -1,23 +1,40 @@
 -- What a whole replay writes, by what was read.
-use Rattle.std.proofs.Common.{◌≡◌, ℕ, List, [], ◌++◌, Option, Some, None, refl, sym, ap, ◌∙◌, subst}
+use Rattle.std.proofs.Common.{◌≡◌, ℕ, List, [], ◌++◌, Option, Some, None, refl, sym, ap, ◌∙◌, subst, append-nil}
 use Rattle.std.specs.Prelude.{IfSome}
 use Rattle.std.specs.Io.KnownBytes.{Appends, Consumes, IsAtEnd}
-use Rattle.std.proofs.KnownBytes.{Appends-trans}
+use Rattle.std.proofs.KnownBytes.{Appends-trans, Consumes-trans}
 use Rattle.line_model.specs.declared.lines.LineBad.{LineBad}
 use Rattle.rd_server.specs.declared.endings.Stop.{Stop}
 use Rattle.rd_server.specs.declared.endings.Stop.TheVariants as stop
 use Rattle.rd_server.specs.declared.endings.Status.TheVariants as status
 use Rattle.rd_server.specs.declared.sessions.Session.{Session}
-use Rattle.rd_server.specs.Journal.{Journal, journal_of, text, end_line}
+use Rattle.trace_model.specs.Output.{Output, text, last_line, written, output}
+use Rattle.rd_server.specs.Journal.{Journal, whole_output, whole_text}
 use Rattle.line_model.specs.Texts.{lines_of}
-use Rattle.rd_server.specs.Endings.{IsWritten, IsFrontOf, whole_text, status_of}
+use Rattle.rd_server.specs.Endings.{IsWritten, IsFrontOf, status_of}
 use Rattle.rd_server.specs.Sessions.{Goes, Feeds, Halts, Finishes, start, journal_from}
 use Rattle.rd_server.proofs.Fronts.{journal_front, whole_front}
 use Rattle.rd_server.proofs.Journeys.{halts_before}
+use Rattle.rd_server.proofs.JournalRuns.{output_is}
+
+-- the bad line of what is written is that of the journal
+bad_of : (j : Journal) (bad : Option LineBad) → j.bad ≡ bad → (whole_output j).bad ≡ bad
+bad_of j bad e = by j.bad e
+  where
+    by : (found : Option LineBad) → found ≡ bad → (written j.rows found).bad ≡ bad
+    by None e = e
+    by (Some first) e = e
+
+-- a journal with a bad line has no last line
+bad_is : (j : Journal) (bad : LineBad) → j.bad ≡ Some bad → (whole_output j).bad ≡ Some bad
+bad_is j bad e = bad_of j (Some bad) e
+
+bad_whole : (j : Journal) (bad : LineBad) → j.bad ≡ Some bad → whole_text j ≡ text j.rows
+bad_whole j bad e = ap (λ (b : Option LineBad). (written j.rows b).text) e
 
 -- what stopped a replay from its beginning on
-halted : (j : Journal) (old new : Option (List ℕ)) (halt : Stop) → Halts j [] old new halt → IsWritten j old new (status_of halt)
-halted j old new (stop.Bad bad) h = (h.0, subst (Appends old new) (sym h.2) h.3)
+halted : (j : Journal) (old new : Option (List ℕ)) (halt : Stop) → Halts j [] old new halt → IsWritten (whole_output j) old new (status_of halt)
+halted j old new (stop.Bad bad) h = (bad_is j bad h.0, subst (Appends old new) (sym h.2 ∙ sym (bad_whole j bad h.0)) h.3)
 halted j old new stop.Unwritten h = h
 halted j old new stop.Starved h = h
 
@@ -33,37 +50,42 @@ split_end None now taken P c e h = tt
 split_end (Some bytes) None taken P c e h = absurd c
 split_end (Some bytes) (Some rest) taken P c e h = subst P (sym (c ∙ ap (λ (l : List ℕ). taken ++ l) e)) h
 
-pub stopped : (left now : Option (List ℕ)) (taken : List ℕ) (session : Session) (old new : Option (List ℕ)) (halt : Stop) → Consumes left now taken → Feeds start taken session old new (Some halt)
-    → IfSome left (λ bytes. IsWritten (journal_of bytes) old new (status_of halt))
-stopped left now taken session old new halt c h =
-    split left now taken (λ bytes. IsWritten (journal_of bytes) old new (status_of halt)) c (λ rest. halted (journal_of (taken ++ rest)) old new halt (h rest))
+pub stopped : (workers : ℕ) (left now : Option (List ℕ)) (taken : List ℕ) (session : Session) (old new : Option (List ℕ)) (halt : Stop) → Consumes left now taken → Feeds workers start taken session old new (Some halt)
+    → IfSome left (λ bytes. IsWritten (output workers bytes) old new (status_of halt))
+unfolding text
+stopped workers left now taken session old new halt c h =
+    split left now taken (λ bytes. IsWritten (output workers bytes) old new (status_of halt)) c (λ rest. subst (λ (o : Output). IsWritten o old new (status_of halt)) (output_is workers (taken ++ rest)) (halted (journal_from workers start (taken ++ rest)) old new halt (h rest)))
 
-pub failed : (left now : Option (List ℕ)) (taken : List ℕ) (session : Session) (old new : Option (List ℕ)) → Consumes left now taken → Goes start taken session old new
-    → IfSome left (λ bytes. IsWritten (journal_of bytes) old new status.ReadFault)
-failed left now taken session old new c go =
-    split left now taken (λ bytes. IsWritten (journal_of bytes) old new status.ReadFault) c (λ rest.
-    let front : IsFrontOf go.written (text (journal_from go.next rest).rows) =
-    subst (λ (l : List ℕ). IsFrontOf l (text (journal_from go.next rest).rows)) go.leads.texts (journal_front go.next.rows go.next.number (lines_of (go.next.pending ++ rest))) in
-    subst (λ (j : Journal). IsWritten j old new status.ReadFault) (sym (go.leads.same rest)) (go.written, whole_front go.written (journal_from go.next rest) front, go.appends))
+pub failed : (workers : ℕ) (left now : Option (List ℕ)) (taken : List ℕ) (session : Session) (old new : Option (List ℕ)) → Consumes left now taken → Goes workers start taken session old new
+    → IfSome left (λ bytes. IsWritten (output workers bytes) old new status.ReadFault)
+unfolding text
+failed workers left now taken session old new c go =
+    split left now taken (λ bytes. IsWritten (output workers bytes) old new status.ReadFault) c (λ rest.
+    let front : IsFrontOf go.written (text (journal_from workers go.next rest).rows) =
+    subst (λ (l : List ℕ). IsFrontOf l (text (journal_from workers go.next rest).rows)) go.leads.texts (journal_front workers go.next.rows go.next.number (lines_of (go.next.pending ++ rest))) in
+    subst (λ (o : Output). IsWritten o old new status.ReadFault) (ap whole_output (sym (go.leads.same rest)) ∙ output_is workers (taken ++ rest))
+    (go.written, whole_front go.written (journal_from workers go.next rest) front, go.appends))
 
--- without a bad line the whole output has the line that ends it
-ends_whole : (j : Journal) (bad : Option LineBad) → j.bad ≡ bad → bad ≡ None → whole_text j ≡ text j.rows ++ end_line j.rows
-ends_whole j None e f = ap (λ (b : Option LineBad). text j.rows ++ (elim b as (λ _. List ℕ) [ None ↦ end_line j.rows | Some bad ↦ [] ])) e
-ends_whole j (Some bad) e f = cc
-
-pub done : (left now : Option (List ℕ)) (taken : List ℕ) (session : Session) (old mid new : Option (List ℕ)) → Consumes left now taken → IsAtEnd now → (go : Goes start taken session old mid)
-    → Finishes (journal_from go.next []) (text go.next.rows) mid new None → IfSome left (λ bytes. IsWritten (journal_of bytes) old new status.Done)
-done left now taken session old mid new c e go h =
-    split_end left now taken (λ bytes. IsWritten (journal_of bytes) old new status.Done) c e
-    (subst (λ (j : Journal). IsWritten j old new status.Done) (sym (go.leads.same [])) (
-      h.0,
-      subst (Appends old new) (ap (λ (l : List ℕ). l ++ h.1) (sym go.leads.texts) ∙ sym h.2 ∙ ends_whole (journal_from go.next []) (journal_from go.next []).bad refl h.0)
+pub done : (workers : ℕ) (left now : Option (List ℕ)) (taken : List ℕ) (session : Session) (old mid new : Option (List ℕ)) → Consumes left now taken → IsAtEnd now → (go : Goes workers start taken session old mid)
+    → Finishes (journal_from workers go.next []) (text go.next.rows) mid new None → IfSome left (λ bytes. IsWritten (output workers bytes) old new status.Done)
+unfolding text
+done workers left now taken session old mid new c e go h =
+    split_end left now taken (λ bytes. IsWritten (output workers bytes) old new status.Done) c e
+    (subst (λ (o : Output). IsWritten o old new status.Done) (ap whole_output (sym (go.leads.same [])) ∙ output_is workers (taken ++ [])) (
+      bad_of (journal_from workers go.next []) None h.0,
+      subst (Appends old new) (ap (λ (l : List ℕ). l ++ h.1) (sym go.leads.texts) ∙ sym h.2)
           (Appends-trans old mid new go.written h.1 go.appends h.3),
     ))
 
-pub unfinished : (left now : Option (List ℕ)) (taken : List ℕ) (session : Session) (old mid new : Option (List ℕ)) (halt : Stop) → Consumes left now taken → IsAtEnd now → (go : Goes start taken session old mid)
-    → Finishes (journal_from go.next []) (text go.next.rows) mid new (Some halt) → IfSome left (λ bytes. IsWritten (journal_of bytes) old new (status_of halt))
-unfinished left now taken session old mid new halt c e go h =
-    split_end left now taken (λ bytes. IsWritten (journal_of bytes) old new (status_of halt)) c e
-    (subst (λ (j : Journal). IsWritten j old new (status_of halt)) (sym (go.leads.same []))
-    (halted (journal_from go.next []) old new halt (halts_before (journal_from go.next []) [] (text go.next.rows) go.written old mid new halt go.leads.texts go.appends h)))
+pub unfinished : (workers : ℕ) (left now : Option (List ℕ)) (taken : List ℕ) (session : Session) (old mid new : Option (List ℕ)) (halt : Stop) → Consumes left now taken → IsAtEnd now → (go : Goes workers start taken session old mid)
+    → Finishes (journal_from workers go.next []) (text go.next.rows) mid new (Some halt) → IfSome left (λ bytes. IsWritten (output workers bytes) old new (status_of halt))
+unfolding text
+unfinished workers left now taken session old mid new halt c e go h =
+    split_end left now taken (λ bytes. IsWritten (output workers bytes) old new (status_of halt)) c e
+    (subst (λ (o : Output). IsWritten o old new (status_of halt)) (ap whole_output (sym (go.leads.same [])) ∙ output_is workers (taken ++ []))
+    (halted (journal_from workers go.next []) old new halt (halts_before (journal_from workers go.next []) [] (text go.next.rows) go.written old mid new halt go.leads.texts go.appends h)))
+
+-- a piece of no octets takes nothing
+pub nothing_taken : (left mid now : Option (List ℕ)) (taken piece : List ℕ) → Consumes left mid taken → Consumes mid now piece → piece ≡ [] → Consumes left now taken
+nothing_taken left mid now taken piece before more none =
+    subst (Consumes left now) (ap (λ (l : List ℕ). taken ++ l) none ∙ append-nil taken) (Consumes-trans left mid now taken piece before more)

@@ -9,28 +9,20 @@ use Rattle.rd_server.specs.declared.endings.Stop.{Stop}
 use Rattle.rd_server.specs.declared.endings.Stop.TheVariants as stop
 use Rattle.rd_server.specs.declared.endings.Status.{Status}
 use Rattle.rd_server.specs.declared.endings.Status.TheVariants as status
-use Rattle.rd_server.specs.Journal.{Journal, text, end_line}
+use Rattle.trace_model.specs.Output.{Output}
 
 -- a text is the beginning of another
 abbrev pub IsFrontOf : List ℕ → List ℕ → Type 0
 IsFrontOf front whole = (rest : List ℕ) × (whole ≡ front ++ rest)
 
--- the last line stands only after a journal without a bad line
-abbrev pub ending : Journal → List ℕ
-ending journal = elim journal.bad as (λ _. List ℕ) [ None ↦ end_line journal.rows | Some bad ↦ [] ]
-
--- the whole output of a journal
-abbrev pub whole_text : Journal → List ℕ
-whole_text journal = text journal.rows ++ ending journal
-
 -- what a sink holds after a replay that ended so
-abbrev pub IsWritten : Journal → Option (List ℕ) → Option (List ℕ) → Status → Type 0
-IsWritten journal before now status.Done = (journal.bad ≡ None) × Appends before now (text journal.rows ++ end_line journal.rows)
-IsWritten journal before now (status.Line bad) = (journal.bad ≡ Some bad) × Appends before now (text journal.rows)
-IsWritten journal before now status.ReadFault = (front : List ℕ) × IsFrontOf front (whole_text journal) × Appends before now front
-IsWritten journal before now status.WriteFault = (front : List ℕ) × IsFrontOf front (whole_text journal) × Appends before now front
-IsWritten journal before now status.Memory = (front : List ℕ) × IsFrontOf front (whole_text journal) × Appends before now front
-IsWritten journal before now status.Usage = Appends before now []
+abbrev pub IsWritten : Output → Option (List ℕ) → Option (List ℕ) → Status → Type 0
+IsWritten output before now status.Done = (output.bad ≡ None) × Appends before now output.text
+IsWritten output before now (status.Line bad) = (output.bad ≡ Some bad) × Appends before now output.text
+IsWritten output before now status.ReadFault = (front : List ℕ) × IsFrontOf front output.text × Appends before now front
+IsWritten output before now status.WriteFault = (front : List ℕ) × IsFrontOf front output.text × Appends before now front
+IsWritten output before now status.Memory = (front : List ℕ) × IsFrontOf front output.text × Appends before now front
+IsWritten output before now status.Usage = Appends before now []
 
 -- where a line is bad, no other line is reported and the replay is not done; where none is, none is reported
 abbrev pub EndsBy : Option LineBad → Status → Type 0
@@ -79,12 +71,6 @@ pub record Says (before now : Option (List ℕ)) (counted counts : ℕ) (text : 
 -- what is said of the status stands on the error sink, or a prefix of it where a fault was counted
 abbrev pub IsReported : Option (List ℕ) → Option (List ℕ) → ℕ → ℕ → Status → Type 0
 IsReported before now counted counts status = Says before now counted counts (status_text status)
-
--- the words are none, or the one word for one worker
-abbrev pub are_words : List (List ℕ) → Bool
-are_words [] = true
-are_words (word ∷ []) = bytes_eq word (codes "--workers=1")
-are_words (word ∷ other ∷ words) = false
 
 -- the status of a stop
 abbrev pub status_of : Stop → Status

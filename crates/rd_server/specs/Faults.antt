@@ -2,8 +2,8 @@
 use Rattle.line_model.specs.declared.lines.Reason.TheVariants as reason
 use Rattle.trace_text.specs.declared.faults.LineFault.{LineFault}
 use Rattle.trace_text.specs.declared.faults.LineFault.TheVariants as fault
-use Rattle.rd_server.specs.declared.sessions.Trouble.{Trouble}
-use Rattle.rd_server.specs.declared.sessions.Trouble.TheVariants as trouble
+use Rattle.rd_server.specs.declared.troubles.Trouble.{Trouble}
+use Rattle.rd_server.specs.declared.troubles.Trouble.TheVariants as trouble
 
 abbrev pub trouble_of : LineFault → Trouble
 trouble_of fault.Long = trouble.Bad reason.Long

@@ -1,8 +1,9 @@
 pub mod Fields
-pub mod Forms
-pub mod Views
+pub mod Words
+pub mod CommandLines
 pub mod Journal
-pub mod Desks
+pub mod Machines
 pub mod Endings
 pub mod Sessions
+pub mod MadeRuns
 pub mod Faults

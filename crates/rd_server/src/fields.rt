@@ -20,10 +20,3 @@ fn place_of(separator: u8, text: &[u8]) -> Option<usize>
 {
     text.iter().position(|b| *b == separator)
 }
-
-/// What stands after a prefix.
-pub fn after_prefix<'a>(prefix: &[u8], text: &'a [u8]) -> Option<&'a [u8]>
-    ensures { option_map (λ rest. rest.now) result ≡ fields.after_prefix prefix.now text.now }
-{
-    text.strip_prefix(prefix)
-}

@@ -1,15 +1,20 @@
 //! A trace replayed: from words and octets to output lines and a status.
-ghost use Rattle.std.specs.Prelude.{◌≡◌, ◌↔◌, ◌≤◌, ℕ, List, [], map, flat_map, drop, decimal, IfSome, true, false};
+ghost use Rattle.std.specs.Prelude.{◌≡◌, ◌↔◌, ◌≤◌, ℕ, List, [], map, flat_map, drop, decimal, IfSome, None, true, false};
 ghost use Rattle.std.specs.String.{string_bytes};
 ghost use Rattle.std.specs.Io.KnownBytes.{IsAtEnd};
-ghost use Rattle.std.specs.List.{AllByRecursion};
-ghost use Rattle.rd_server.specs.Journal as journals;
+ghost use Rattle.journal_model.specs.Headline.{Headline};
+ghost use Rattle.trace_model.specs.Output.{output};
+ghost use Rattle.trace_model.specs.Steps as steps;
 ghost use Rattle.rd_server.specs.Endings as ends;
 ghost use Rattle.rd_server.specs.Endings.{IsWritten, EndsBy, CountsReads, CountsWrites, IsReported};
-ghost use Rattle.rd_server.specs.Sessions.{Place, IsAt, ReadsAll, CountsFailed, CountsStopped, start};
+ghost use Rattle.rd_server.specs.MadeRuns.{IsWrittenFor};
+ghost use Rattle.rd_server.specs.Sessions.{Place, IsAt, IsSession, IsStarted, ReadsAll, CountsFailed, CountsStopped, start};
+ghost use Rattle.rd_server.specs.Words.{AreDevices, IsWorkers, words_said, workers_of};
 
 use crate::endings::{Read, Status, Stop};
+use crate::made::run_made;
 use crate::sessions::{Session, write_all};
+use crate::words::{Words, WordsFault, words_read};
 use itoa::write_digits;
 use rd_base::{Got, Sink, Source};
 use std::alloc::Global;
@@ -25,8 +30,9 @@ fn read_all<S: Source, K: Sink>(
     source: &mut S,
     out: &mut K,
 ) -> Read
-    ensures read { (place : Place) → IsAt place session.old
-        → ReadsAll place session.new (K.holds out.old) (K.holds out.new) (S.left source.old) (S.left source.new) result }
+    requires { IsSession session.old }
+    ensures read { (workers : ℕ) (place : Place) → IsAt workers place session.old
+        → ReadsAll workers place session.new (K.holds out.old) (K.holds out.new) (S.left source.old) (S.left source.new) result }
     ensures failed { CountsFailed (S.faults source.old) (S.faults source.new) result }
     ensures stopped { CountsStopped (K.faults out.old) (K.faults out.new) result }
 {
@@ -64,8 +70,9 @@ fn run_in<S: Source, K: Sink>(
     source: &mut S,
     out: &mut K,
 ) -> Status
-    requires { IsAt start session.old }
-    ensures written { IfSome (S.left source.old) (λ bytes. IsWritten (journals.journal_of bytes) (K.holds out.old) (K.holds out.new) result) }
+    requires { IsStarted session.old }
+    ensures written { (workers : ℕ) → IsAt workers start session.old
+        → IfSome (S.left source.old) (λ bytes. IsWritten (output workers bytes) (K.holds out.old) (K.holds out.new) result) }
     ensures reads { CountsReads (S.faults source.old) (S.faults source.new) result }
     ensures writes { CountsWrites (K.faults out.old) (K.faults out.new) result }
     ensures all_read { result ≡ Status.Done → IsAtEnd (S.left source.new) }
@@ -82,25 +89,57 @@ fn run_in<S: Source, K: Sink>(
 }
 
 /// Does the trace of a source.
-fn run<S: Source, K: Sink>(alloc: Global, source: &mut S, out: &mut K) -> Status
-    ensures written { IfSome (S.left source.old) (λ bytes. IsWritten (journals.journal_of bytes) (K.holds out.old) (K.holds out.new) result) }
+fn run<S: Source, K: Sink>(alloc: Global, workers: u8, source: &mut S, out: &mut K) -> Status
+    requires { IsWorkers workers }
+    ensures written { IfSome (S.left source.old) (λ bytes. IsWritten (output workers bytes) (K.holds out.old) (K.holds out.new) result) }
     ensures reads { CountsReads (S.faults source.old) (S.faults source.new) result }
     ensures writes { CountsWrites (K.faults out.old) (K.faults out.new) result }
     ensures all_read { result ≡ Status.Done → IsAtEnd (S.left source.new) }
     ensures usage { ends.IsNoUsage result }
 {
-    let mut session = Session::new(alloc);
+    let Ok(mut session) = Session::make(alloc, workers) else {
+        return Status::Memory;
+    };
     run_in(&mut session, alloc, source, out)
 }
 
-/// Whether the words are none, or the one word for one worker.
-fn are_words(words: &[String]) -> bool
-    ensures { result ≡ ends.are_words (map string_bytes words.now) }
+/// Does what was asked for: the trace of a source, or one that is made.
+fn run_words<S: Source, K: Sink>(alloc: Global, asked: Words, source: &mut S, out: &mut K) -> Status
+    requires workers { IsWorkers (workers_of asked) }
+    requires devices { IfSome asked.devices AreDevices }
+    ensures written { IsWrittenFor asked.devices (workers_of asked) (S.left source.old) (K.holds out.old) (K.holds out.new) result }
+    ensures all_read { asked.devices ≡ None → result ≡ Status.Done → IsAtEnd (S.left source.new) }
+    ensures unread { IfSome asked.devices (λ _. source.new ≡ source.old) }
+    ensures reads { CountsReads (S.faults source.old) (S.faults source.new) result }
+    ensures writes { CountsWrites (K.faults out.old) (K.faults out.new) result }
+    ensures usage { ends.IsNoUsage result }
 {
-    match words {
-        [] => true,
-        [word] => word.as_str() == "--workers=1",
-        _ => false,
+    match asked.devices {
+        None => run(alloc, asked.workers(), source, out),
+        Some(devices) => run_made(alloc, devices, asked.workers(), out),
+    }
+}
+
+/// Does what words ask for, where they are those of the program.
+fn run_said<S: Source, K: Sink>(
+    alloc: Global,
+    words: &[String],
+    source: &mut S,
+    out: &mut K,
+) -> Status
+    ensures usage { result ≡ Status.Usage ↔ (words_said (map string_bytes words.now) ≡ None) }
+    ensures refused { words_said (map string_bytes words.now) ≡ None → (source.new ≡ source.old) × (out.new ≡ out.old) }
+    ensures written { IfSome (words_said (map string_bytes words.now)) (λ asked.
+        IsWrittenFor asked.devices (workers_of asked) (S.left source.old) (K.holds out.old) (K.holds out.new) result) }
+    ensures all_read { IfSome (words_said (map string_bytes words.now)) (λ asked. asked.devices ≡ None → result ≡ Status.Done → IsAtEnd (S.left source.new)) }
+    ensures unread { IfSome (words_said (map string_bytes words.now)) (λ asked. IfSome asked.devices (λ _. source.new ≡ source.old)) }
+    ensures reads { CountsReads (S.faults source.old) (S.faults source.new) result }
+    ensures writes { CountsWrites (K.faults out.old) (K.faults out.new) result }
+{
+    match words_read(alloc, words) {
+        Ok(asked) => run_words(alloc, asked, source, out),
+        Err(WordsFault::Usage) => Status::Usage,
+        Err(WordsFault::Starved) => Status::Memory,
     }
 }
 
@@ -163,7 +202,9 @@ pub fn report<E: Sink>(err: &mut E, status: Status)
 /// Replays a trace: reads it from `source` to its end and writes to `out` a line for each datagram that is sent,
 /// and the line that ends the output. What is wrong is said on `err`.
 ///
-/// `words` are those of the command line, without the program's name: none, or `--workers=1`.
+/// `words` are those of the command line, without the program's name: `--workers` with a number from 1 to 16, and `--make` with one from 1 to 4,000, each once at most, as two words
+/// or joined by `=`. There is one worker where none are named. With `--make` the trace of so many devices is made and done in place of that of `source`, and what is written is how many
+/// lines it has, how many datagrams it sent and how many octets they have, and the line that ends the output.
 pub fn replay<S: Source, K: Sink, E: Sink>(
     alloc: Global,
     words: &[String],
@@ -171,28 +212,27 @@ pub fn replay<S: Source, K: Sink, E: Sink>(
     out: &mut K,
     err: &mut E,
 ) -> Status
-    // Other words than those of the program are the one cause of Usage.
-    ensures usage { result ≡ Status.Usage ↔ (ends.are_words (map string_bytes words.now) ≡ false) }
-    // What is written for what was read: for Done the lines of the journal and the line that ends it, and nothing else;
-    // for a bad line the lines before it; else a prefix of all that.
-    ensures written { IfSome (S.left source.old) (λ bytes. IsWritten (journals.journal_of bytes) (K.holds out.old) (K.holds out.new) result) }
-    // The first bad line is reported and no other, and with a bad line nothing is done.
-    ensures line { IfSome (S.left source.old) (λ bytes. ends.are_words (map string_bytes words.now) ≡ true → EndsBy (journals.journal_of bytes).bad result) }
-    // The source was read to its end.
-    ensures all_read { result ≡ Status.Done → IsAtEnd (S.left source.new) }
+    // Usage comes exactly where the words are not those of the program; then nothing is read and written.
+    ensures usage { result ≡ Status.Usage ↔ (words_said (map string_bytes words.now) ≡ None) }
+    ensures refused { words_said (map string_bytes words.now) ≡ None → (source.new ≡ source.old) × (out.new ≡ out.old) }
+    // What is written for what was read, or for what was made: for Done all that the trace gives, with its last line, and nothing else; for a bad line what is sent before it; else a prefix of that.
+    ensures written { IfSome (words_said (map string_bytes words.now)) (λ asked.
+        IsWrittenFor asked.devices (workers_of asked) (S.left source.old) (K.holds out.old) (K.holds out.new) result) }
+    // The first bad line is reported and no other, and with a bad line nothing is done. A trace that is made has none, as the clause above says.
+    ensures line { IfSome (S.left source.old) (λ bytes. IfSome (words_said (map string_bytes words.now)) (λ asked.
+        asked.devices ≡ None → EndsBy (output (workers_of asked) bytes).bad result)) }
+    // The source was read to its end; where a trace is made it is not read.
+    ensures all_read { IfSome (words_said (map string_bytes words.now)) (λ asked. asked.devices ≡ None → result ≡ Status.Done → IsAtEnd (S.left source.new)) }
+    ensures unread { IfSome (words_said (map string_bytes words.now)) (λ asked. IfSome asked.devices (λ _. source.new ≡ source.old)) }
     // ReadFault and WriteFault come only where a count rose, and any other status only where it did not.
     ensures reads { CountsReads (S.faults source.old) (S.faults source.new) result }
     ensures writes { CountsWrites (K.faults out.old) (K.faults out.new) result }
     // The text of the status was said, or a prefix of it where `err` counted a fault.
     ensures reported { IsReported (E.holds err.old) (E.holds err.new) (E.faults err.old) (E.faults err.new) result }
-    // In each journal a step has its one entry exactly where it ends a job and is answered 2.01.
-    ensures accounted { (lines : List (List ℕ)) → AllByRecursion journals.IsAccounted (journals.journal [] 1 lines).rows }
+    // Of the journal of each trace holds what the headline says of it.
+    ensures headline { (workers : ℕ) (bytes : List ℕ) → Headline (steps.journal workers bytes) }
 {
-    let status = if are_words(words) {
-        run(alloc, source, out)
-    } else {
-        Status::Usage
-    };
+    let status = run_said(alloc, words, source, out);
     report(err, status);
     status
 }

@@ -30,7 +30,7 @@ static CASES: [Case; 7] = [
     },
     Case {
         trace: b"in 0 5 192.0.2.10:5683 40011234",
-        output: b"out 0 192.0.2.10:5683 60a11234\nend 0 0 0\n",
+        output: b"out 0 192.0.2.10:5683 60841234ff70617468\nend 0 0 0\n",
         status: Status::Done,
         said: b"",
     },
@@ -114,23 +114,62 @@ fn ends_decide_the_status(rt: HostRuntime) -> Result<(), Fail> {
     Ok(())
 }
 
-/// How one word and octets that go on without a line feed are taken.
-fn status_with(alloc: Global, word: &str, length: usize) -> Result<Status, Starved> {
-    let words = [String::from_str(alloc, word)?];
+/// How some words and octets that go on without a line feed are taken.
+fn status_with(alloc: Global, words: &[&str], length: usize) -> Result<Status, Starved> {
+    let mut owned = Vec::new(alloc);
+    for word in words {
+        owned.push(String::from_str(alloc, word)?)?;
+    }
     let mut source = SureSource::of(Bytes::of(vec![in alloc; b'x'; length]?));
     let mut out = SureSink::new();
     let mut err = SureSink::new();
-    Ok(replay(alloc, &words, &mut source, &mut out, &mut err))
+    Ok(replay(alloc, owned.as_slice(), &mut source, &mut out, &mut err))
+}
+
+/// Words that are those of the program.
+static WORDS: [&[&str]; 5] = [
+    &[],
+    &["--workers=1"],
+    &["--workers=16"],
+    &["--workers", "1"],
+    &["--workers", "10"],
+];
+
+/// Words that are not.
+static OTHER_WORDS: [&[&str]; 14] = [
+    &["--"],
+    &["--workers"],
+    &["--workers="],
+    &["--workers=0"],
+    &["--workers=01"],
+    &["--workers=+1"],
+    &["--workers=17"],
+    &["--workers", "17"],
+    &["--workers", "--workers=1"],
+    &["--workers=1", "--workers=1"],
+    &["--workers=1", "--workers", "1"],
+    &["--make", "4001"],
+    &["--make=0"],
+    &["workers=1"],
+];
+
+#[test]
+fn words_are_read(rt: HostRuntime) -> Result<(), Fail> {
+    for words in &WORDS {
+        assert_eq!(rt; status_with(rt.alloc(), words, 0)?, Status::Done);
+    }
+    for words in &OTHER_WORDS {
+        assert_eq!(rt; status_with(rt.alloc(), words, 0)?, Status::Usage);
+    }
+    Ok(())
 }
 
 #[test]
-fn words_and_long_lines_are_reported(rt: HostRuntime) -> Result<(), Fail> {
-    assert_eq!(rt; status_with(rt.alloc(), "--workers=1", 0)?, Status::Done);
-    assert_eq!(rt; status_with(rt.alloc(), "--workers=2", 0)?, Status::Usage);
+fn long_lines_are_bad(rt: HostRuntime) -> Result<(), Fail> {
     let long = Status::Line(LineBad {
         line: 1,
         why: Reason::Long,
     });
-    assert_eq!(rt; status_with(rt.alloc(), "--workers=1", 20_000)?, long);
+    assert_eq!(rt; status_with(rt.alloc(), &["--workers=1"], 20_000)?, long);
     Ok(())
 }

@@ -7,8 +7,8 @@ use Rattle.rd_server.proofs.replays.read_all.Given as goal
 abbrev pub invariant-pieces : goal.invariant-pieces
 invariant-pieces g l =
     (g.S.Source.faults l.source ≡ g.S.Source.faults l.fn.source) × (g.K.Sink.faults l.out ≡ g.K.Sink.faults l.fn.out)
-    × ((place : Place) → IsAt place l.fn.session → (taken : List ℕ) × Consumes (g.S.Source.left l.fn.source) (g.S.Source.left l.source) taken
-    × Goes place taken l.session (g.K.Sink.holds l.fn.out) (g.K.Sink.holds l.out))
+    × ((workers : ℕ) (place : Place) → IsAt workers place l.fn.session → (taken : List ℕ) × Consumes (g.S.Source.left l.fn.source) (g.S.Source.left l.source) taken
+    × Goes workers place taken l.session (g.K.Sink.holds l.fn.out) (g.K.Sink.holds l.out))
 
 -- each piece lowers the turns of the source
 abbrev pub decreases-pieces : goal.decreases-pieces

@@ -1,0 +1,22 @@
+//! The command line as clap reads it.
+ghost use Rattle.std.specs.Prelude.{map};
+ghost use Rattle.std.specs.String.{string_bytes};
+ghost use Rattle.rd_server.specs.CommandLines.{IsRead};
+
+use clap::{Arg, ArgMatches, Command, Error};
+use std::alloc::Global;
+
+/// What clap reads in words. Words of the program are refused for want of memory alone.
+pub fn matches_of<'a>(alloc: Global, words: &'a [String]) -> Result<ArgMatches<'a>, Error>
+    ensures { IsRead (map string_bytes words.entry.now) result }
+{
+    let workers = Arg::new(alloc, "workers").long("workers");
+    let make = Arg::new(alloc, "make").long("make");
+    let command = Command::new(alloc, "rd_replay")
+        .no_binary_name(true)
+        .disable_help_flag(true)
+        .disable_version_flag(true)
+        .arg(workers)?
+        .arg(make)?;
+    command.try_get_matches_from(words)
+}
