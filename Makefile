@@ -1,8 +1,8 @@
-# What a newcomer needs: `make demo` shows a trace replayed, `make build` makes the proved programs, `make bench` measures what calls cost,
-# `make test` is the gate.
+# What a newcomer needs: `make demo` shows a trace replayed, `make build` makes the proved programs, `make examples` replays all examples with
+# them, `make bench` measures what calls cost, `make test` is the gate.
 PROGRAMS = rd_replay
 
-.PHONY: demo build bench test
+.PHONY: demo build examples bench test
 
 demo:
 	@echo "examples/register.trace, a recorded trace:"; echo; sed 's/^/    /' examples/register.trace; echo
@@ -16,6 +16,11 @@ build:
 	@for program in $(PROGRAMS); do \
 		(cd crates/$$program && rt run -- $$(cat args) < stdin > /dev/null) || exit 1; \
 		cp crates/$$program/out/$$program bin/; echo "bin/$$program"; \
+	done
+
+examples: build
+	@for trace in examples/*.trace; do \
+		bin/rd_replay --workers=16 < $$trace | cmp - $${trace%.trace}.out || exit 1; echo "$$trace"; \
 	done
 
 bench:
