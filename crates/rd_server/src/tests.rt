@@ -168,16 +168,22 @@ fn each_call_may_fail(rt: HostRuntime) -> Result<(), Fail> {
     Ok(())
 }
 
-/// How some words and octets that go on without a line feed are taken.
-fn status_with(alloc: Global, words: &[&str], length: usize) -> Result<Status, Starved> {
+/// Words of a command line.
+fn owned(alloc: Global, words: &[&str]) -> Result<Vec<String>, Starved> {
     let mut owned = Vec::new(alloc);
     for word in words {
         owned.push(String::from_str(alloc, word)?)?;
     }
+    Ok(owned)
+}
+
+/// How some words and octets that go on without a line feed are taken.
+fn status_with(alloc: Global, words: &[&str], length: usize) -> Result<Status, Starved> {
+    let words = owned(alloc, words)?;
     let mut source = SureSource::of(Bytes::of(vec![in alloc; b'x'; length]?));
     let mut out = SureSink::new();
     let mut err = SureSink::new();
-    Ok(replay(alloc, owned.as_slice(), &mut source, &mut out, &mut err))
+    Ok(replay(alloc, words.as_slice(), &mut source, &mut out, &mut err))
 }
 
 /// Words that are those of the program.
@@ -231,5 +237,47 @@ fn long_lines_are_bad(rt: HostRuntime) -> Result<(), Fail> {
     assert_eq!(rt; long_line(rt.alloc(), 8_600)?, Some(Reason::Form));
     assert_eq!(rt; long_line(rt.alloc(), 8_601)?, Some(Reason::Long));
     assert_eq!(rt; long_line(rt.alloc(), 20_000)?, Some(Reason::Long));
+    Ok(())
+}
+
+/// Words that ask for a trace that is made, and what is written for them.
+struct MakeCase {
+    /// The words.
+    words: &'static [&'static str],
+    /// What is written.
+    output: &'static [u8],
+}
+
+/// Traces of one device, and of ten with one worker or two.
+static MAKES: [MakeCase; 3] = [
+    MakeCase {
+        words: &["--make", "1"],
+        output: b"made 3\nsent 1 10\nend 1 1 0\n",
+    },
+    MakeCase {
+        words: &["--make=10"],
+        output: b"made 22\nsent 11 185\nend 10 10 1\n",
+    },
+    MakeCase {
+        words: &["--workers=2", "--make", "10"],
+        output: b"made 22\nsent 11 185\nend 10 10 1\n",
+    },
+];
+
+/// Whether words that ask for a trace give what their case says, from a source whose one line is bad.
+fn makes(alloc: Global, case: &MakeCase) -> Result<bool, Starved> {
+    let words = owned(alloc, case.words)?;
+    let mut source = SureSource::of(Bytes::copy_of(alloc, b"x\n")?);
+    let mut out = MemSink::of(alloc, Bytes::new(alloc));
+    let mut err = SureSink::new();
+    let status = replay(alloc, words.as_slice(), &mut source, &mut out, &mut err);
+    Ok(status == Status::Done && out.as_slice() == case.output)
+}
+
+#[test]
+fn traces_are_made(rt: HostRuntime) -> Result<(), Fail> {
+    for case in &MAKES {
+        assert!(rt; makes(rt.alloc(), case)?);
+    }
     Ok(())
 }
