@@ -1,21 +1,25 @@
-# What a newcomer needs: `make demo` shows a trace replayed, `make build` makes the proved programs, `make bench` measures what calls cost,
-# `make test` is the gate.
-PROGRAMS = rd_replay
+# What a newcomer needs: `make demo` shows a trace as a conversation, `make build` makes the proved programs, `make examples` replays all examples with
+# them, `make bench` measures what calls cost, `make test` is the gate.
+PROGRAMS = rd_replay rd_show
 
-.PHONY: demo build bench test
+.PHONY: demo build examples bench test
 
 demo:
-	@echo "examples/register.trace, a recorded trace:"; echo; sed 's/^/    /' examples/register.trace; echo
-	@cd crates/rd_replay && rt try -- --workers=1 < ../../examples/register.trace > out.demo 2> out.demo.log \
+	@echo "examples/lookup.trace, a recorded trace, and what the directory answers:"; echo
+	@cd crates/rd_show && rt try < ../../examples/lookup.trace > out.demo 2> out.demo.log \
 		|| { cat out.demo out.demo.log; rm -f out.demo out.demo.log; exit 1; }
-	@echo "what rd_replay writes for it:"; echo
-	@sed -n '/^out \|^end /s/^/    /p' crates/rd_replay/out.demo; rm -f crates/rd_replay/out.demo crates/rd_replay/out.demo.log
+	@sed '/^checked: /d; /^races: /d; /^run=/d; s/^/    /' crates/rd_show/out.demo; rm -f crates/rd_show/out.demo crates/rd_show/out.demo.log
 
 build:
 	@mkdir -p bin
 	@for program in $(PROGRAMS); do \
-		(cd crates/$$program && rt run -- $$(cat args) < stdin > /dev/null) || exit 1; \
+		(cd crates/$$program && rt run -- $$(cat args 2>/dev/null) < stdin > /dev/null) || exit 1; \
 		cp crates/$$program/out/$$program bin/; echo "bin/$$program"; \
+	done
+
+examples: build
+	@for trace in examples/*.trace; do \
+		bin/rd_replay --workers=16 < $$trace | cmp - $${trace%.trace}.out || exit 1; echo "$$trace"; \
 	done
 
 bench:

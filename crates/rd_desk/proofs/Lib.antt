@@ -16,9 +16,11 @@
 --   observer AgainWalk), requests of fetches that are (RequestWalk); who gets a new notice (NoticeWalk); a plan, from its beginning to its end
 --   (PlanLaws; what is as before meanwhile, PlanWay), past those to whose peers a notice is planned (SkipLaws) and with one observer more (PlanSteps; by what is planned for it, PlanCases), and how it is carried out (CarryLaws); that nobody is told anew where nobody is due and free (IdleTicks); what is dropped at the end (EndLaws),
 --   and that the parts are all that a tick does (WholeTick).
+-- What steps send and note in which memory runs out, computed (examples).
 pub mod answers
 pub mod parts
 pub mod observers
 pub mod changes
 pub mod responses
 pub mod ticking
+mod examples

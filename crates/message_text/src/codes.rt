@@ -1,0 +1,82 @@
+//! The names of types and codes.
+
+use message_model::Kind4;
+
+/// The name of a type (RFC 7252 section 1.2).
+pub(crate) fn kind_name(kind: Kind4) -> &'static str {
+    match kind {
+        Kind4::Con => "CON",
+        Kind4::Non => "NON",
+        Kind4::Ack => "ACK",
+        Kind4::Rst => "RST",
+    }
+}
+
+/// The method of a request, and `Empty` of a message with the code 0.00 (RFC 7252 section 12.1.1, RFC 8132 section 6).
+pub(crate) fn method_name(detail: u8) -> &'static str {
+    match detail {
+        0 => "Empty",
+        1 => "GET",
+        2 => "POST",
+        3 => "PUT",
+        4 => "DELETE",
+        5 => "FETCH",
+        6 => "PATCH",
+        7 => "iPATCH",
+        _ => "unknown method",
+    }
+}
+
+/// What a response of class 2 says (RFC 7252 section 12.1.2, RFC 7959 section 6).
+fn success_name(detail: u8) -> &'static str {
+    match detail {
+        1 => "Created",
+        2 => "Deleted",
+        3 => "Valid",
+        4 => "Changed",
+        5 => "Content",
+        31 => "Continue",
+        _ => "success",
+    }
+}
+
+/// What a response of class 4 says (RFC 7252 section 12.1.2, RFC 7959 section 6).
+fn client_error_name(detail: u8) -> &'static str {
+    match detail {
+        0 => "Bad Request",
+        1 => "Unauthorized",
+        2 => "Bad Option",
+        3 => "Forbidden",
+        4 => "Not Found",
+        5 => "Method Not Allowed",
+        6 => "Not Acceptable",
+        8 => "Request Entity Incomplete",
+        12 => "Precondition Failed",
+        13 => "Request Entity Too Large",
+        15 => "Unsupported Content-Format",
+        _ => "client error",
+    }
+}
+
+/// What a response of class 5 says (RFC 7252 section 12.1.2).
+fn server_error_name(detail: u8) -> &'static str {
+    match detail {
+        0 => "Internal Server Error",
+        1 => "Not Implemented",
+        2 => "Bad Gateway",
+        3 => "Service Unavailable",
+        4 => "Gateway Timeout",
+        5 => "Proxying Not Supported",
+        _ => "server error",
+    }
+}
+
+/// What a response says, by the two parts of its code.
+pub(crate) fn response_name(class: u8, detail: u8) -> &'static str {
+    match class {
+        2 => success_name(detail),
+        4 => client_error_name(detail),
+        5 => server_error_name(detail),
+        _ => "unknown class",
+    }
+}
