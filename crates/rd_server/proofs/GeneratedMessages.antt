@@ -1,15 +1,13 @@
 -- The messages of a generated trace: they are messages, and the lines that bring them are lines.
-use Rattle.std.proofs.Common.{◌≡◌, ◌≢◌, ℕ, zero, suc, lit<, ◌+◌, ◌*◌, ◌-◌, ◌/◌, ◌%◌, ◌<◌, ◌≤◌, ◌^◌, ◌==◌, ◌&&◌, Bool, true, false, cond, List, [], ◌∷◌, ◌++◌, length, map, codes, decimal, slice_index, Option, Some, None, Result, Ok, Err, refl, sym, ap, subst, ◌∙◌, arith, append_assoc, append-nil}
+use Rattle.std.proofs.Common.{◌≡◌, ℕ, zero, suc, lit<, ◌-◌, ◌/◌, ◌%◌, ◌<◌, ◌≤◌, ◌^◌, ◌&&◌, Bool, true, false, cond, List, [], ◌∷◌, ◌++◌, length, codes, decimal, refl, arith}
 use Rattle.std.specs.Prelude.{nat_lt}
-use Rattle.std.specs.List.{AllByRecursion, list_all, list_any}
-use Rattle.std.proofs.lemmas.Bool.{false≢true, cond_both, eqb-true}
+use Rattle.std.specs.List.{list_all}
+use Rattle.std.proofs.lemmas.Bool.{false≢true, cond_both}
 use Rattle.std.proofs.lemmas.Fmt.{decimal_is_IsNumeral, length-decimal-le}
 use Rattle.std.proofs.lemmas.List.Elements.{All-from_get_or, recursion_from_All}
 use Rattle.std.proofs.lemmas.List.{length-append}
-use Rattle.std.proofs.lemmas.Nat.{mod_below}
 use Rattle.std.proofs.lemmas.Str.Parse.{digit_at}
 use Rattle.rd_base.proofs.lemmas.Each.{each_append}
-use Rattle.rd_base.proofs.lemmas.Numbers.{eqb-refl}
 use Rattle.message_model.specs.Message.{Message, Opt, IsMessage, AreOptionsAfter, longest_value, last_number}
 use Rattle.message_model.specs.Numbers.{IsByte, AreBytes}
 use Rattle.message_model.specs.Spelling.{nibble_of, extension_of, option_spelling, options_spelling, payload_spelling, header_spelling, kind_number, spelling}
@@ -18,11 +16,9 @@ use Rattle.message_model.specs.declared.messages.Kind4.TheVariants.{Con, Non, Ac
 use Rattle.journal_model.proofs.MessageSizeLaws.{spelling-most}
 use Rattle.hex.specs.Hex.{IsBytes}
 use Rattle.rd_base.specs.declared.peers.Host.TheVariants as host
-use Rattle.rd_base.specs.declared.peers.Peer.{Peer}
-use Rattle.line_model.specs.declared.lines.Line.{Line}
 use Rattle.line_model.specs.declared.lines.Line.TheVariants as line
 use Rattle.line_model.specs.Generator.{lifetime, kind_text, device_links, device_registration, observation}
-use Rattle.line_model.specs.Lines.{line_text, line_of, IsLine, come, go, tick}
+use Rattle.line_model.specs.Lines.{IsLine, come}
 
 -- ---- the octets of messages
 

@@ -1,13 +1,10 @@
 -- No line of a generated trace is bad: each is a line, there is its worker, and a worker that hears holds no job.
-use Rattle.std.proofs.Common.{◌≡◌, ℕ, zero, suc, lit<, ◌+◌, ◌*◌, ◌/◌, ◌%◌, ◌<◌, ◌≤◌, ◌==◌, ◌&&◌, Bool, true, false, cond, List, [], ◌∷◌, ◌++◌, length, map, Option, Some, None, Result, Ok, Err, codes, nat_le, not, ◌||◌, option_map, is_none, refl, sym, ap, ap₂, subst, ◌∙◌, arith, append_assoc, append-nil}
+use Rattle.std.proofs.Common.{◌≡◌, ℕ, zero, suc, lit<, ◌+◌, ◌*◌, ◌/◌, ◌%◌, ◌<◌, ◌≤◌, ◌==◌, ◌&&◌, Bool, true, false, cond, List, [], ◌∷◌, ◌++◌, length, map, Option, Some, None, Result, Ok, codes, not, ◌||◌, option_map, is_none, refl, sym, ap, ap₂, subst, ◌∙◌, arith, append_assoc, append-nil}
 use Rattle.std.specs.Prelude.{nat_lt}
-use Rattle.std.specs.List.{AllByRecursion, list_any}
 use Rattle.std.proofs.lemmas.Bool.{false≢true, eqb-true}
 use Rattle.std.proofs.lemmas.Nat.{mod_below}
 use Rattle.std.proofs.lemmas.List.{map-append}
 use Rattle.rd_base.specs.declared.peers.Peer.{Peer}
-use Rattle.rd_base.proofs.lemmas.Numbers.{eqb-refl}
-use Rattle.message_model.specs.declared.messages.Role.TheVariants as role
 use Rattle.message_model.specs.Message.{Message, Opt}
 use Rattle.message_model.specs.Numbers.{uint_of}
 use Rattle.message_model.specs.declared.messages.Unread.{Unread}
@@ -22,10 +19,9 @@ use Rattle.message_model.proofs.TableLemmas.{values-push}
 use Rattle.message_model.proofs.OnLiterals.{messages_on_literals}
 use Rattle.line_model.specs.declared.lines.Line.{Line}
 use Rattle.line_model.specs.declared.lines.Line.TheVariants as line
-use Rattle.line_model.specs.declared.lines.LineBad.{LineBad}
 use Rattle.line_model.specs.declared.lines.Reason.{Reason}
 use Rattle.line_model.specs.Generator.{kind_text, pace, device, onlooker, device_registration, observation, divides, observer_lines, tick_lines, device_lines, lines_up_to, generated_lines, generated}
-use Rattle.line_model.specs.Lines.{line_text, line_of, IsLine, come, go, tick}
+use Rattle.line_model.specs.Lines.{line_text, IsLine, go, tick}
 use Rattle.line_model.proofs.PrintedLines.{line_of-line_text}
 use Rattle.event_model.specs.declared.notes.Note.{Note}
 use Rattle.event_model.specs.declared.notes.Note.TheVariants as note
@@ -36,7 +32,7 @@ use Rattle.journal_model.specs.declared.rows.Row.{Row}
 use Rattle.journal_model.specs.DeskJournal.{ends_job}
 use Rattle.journal_model.specs.Effects.{Effects, Reply}
 use Rattle.journal_model.specs.Lookups.{lookup_effects}
-use Rattle.journal_model.specs.Journal.{events, entries}
+use Rattle.journal_model.specs.Journal.{entries}
 use Rattle.journal_model.specs.Looks.{held_after}
 use Rattle.event_model.specs.KeptAnswers.{Answer}
 use Rattle.journal_model.specs.Machine.{Job, is_look_datagram, is_look_reading, hearing, write_job, keep_job, job_after, job_of}
@@ -46,7 +42,7 @@ use Rattle.journal_model.proofs.NoteKinds.{of_lookup, are}
 use Rattle.journal_model.proofs.RowEquations.{row-step, row-notes, effects-Admit}
 use Rattle.journal_model.proofs.StepNotes.{lookup_effects-notes}
 use Rattle.journal_model.proofs.notes.SilentSteps.{refusal_notes}
-use Rattle.trace_model.specs.Steps.{Trace, step_after, come_step, go_step, step_of_worker, worker_of, if_worker, step_of_line, trace_line, trace_from, first_bad, nobody}
+use Rattle.trace_model.specs.Steps.{step_after, come_step, go_step, step_of_worker, worker_of, if_worker, step_of_line, trace_line, trace_from, first_bad, nobody}
 use Rattle.rd_server.proofs.GeneratedMessages.{spelling_bytes, registration-IsMessage, observation-IsMessage, registration-short, observation-short, come-IsLine}
 use Rattle.rd_server.proofs.GeneratedTexts.{generated_texts}
 use Rattle.rd_server.proofs.JobRows.{job-after}

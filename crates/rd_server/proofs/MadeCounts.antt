@@ -1,19 +1,17 @@
 -- What is counted of lines that are done one after the other.
-use Rattle.std.proofs.Common.{◌≡◌, ℕ, zero, suc, ◌+◌, ◌≤◌, false, List, [], ◌∷◌, ◌++◌, drop, length, map, Option, Some, None, Result, Ok, Err, append_assoc, codes, decimal, refl, sym, ap, ap₂, ◌∙◌, subst, arith}
+use Rattle.std.proofs.Common.{◌≡◌, ℕ, zero, suc, ◌+◌, ◌≤◌, false, List, [], ◌∷◌, ◌++◌, drop, length, Option, Some, None, Result, Ok, Err, append_assoc, codes, decimal, refl, sym, ap, ap₂, ◌∙◌, subst, arith}
 use Rattle.std.specs.Prelude.{slice_get}
 use Rattle.std.proofs.lemmas.List.{drop_all, length-append}
 use Rattle.std.proofs.lemmas.Option.{none-some, same_Some}
 use Rattle.std.proofs.lemmas.List.Sums.{sum-map, sum_by-append, sum_by-cons}
 use Rattle.rd_base.specs.declared.peers.Peer.{Peer}
 use Rattle.line_model.specs.declared.lines.Reason.{Reason}
-use Rattle.line_model.specs.Lines.{line_of}
 use Rattle.line_model.specs.Texts.{lines_of}
 use Rattle.journal_model.specs.declared.rows.Row.{Row}
 use Rattle.journal_model.specs.declared.steps.Step.{Step}
 use Rattle.journal_model.specs.Rows.{row}
 use Rattle.trace_model.specs.Made.{datagrams, octets_sent}
 use Rattle.trace_model.specs.Output.{last_line}
-use Rattle.trace_model.specs.Steps.{step_of_line}
 use Rattle.rd_server.specs.declared.machine.Machine.{Machine}
 use Rattle.rd_server.specs.declared.made.Count.{Count}
 use Rattle.rd_server.specs.declared.troubles.Trouble.{Trouble}
@@ -22,7 +20,7 @@ use Rattle.rd_server.specs.Fields.{cut}
 use Rattle.rd_server.specs.Journal.{Journal, after_line, goes_on, journal, rows_after}
 use Rattle.rd_server.specs.Machines.{PerformsFor}
 use Rattle.rd_server.specs.MadeRuns.{CountsLine, CountsLines, IsCountedAt, summary}
-use Rattle.rd_server.proofs.LineFeeds.{cut_pieces, lines_first, lines_last, one_line}
+use Rattle.rd_server.proofs.LineFeeds.{cut_pieces, lines_first, lines_last}
 
 abbrev octets_in : Peer × List ℕ → ℕ
 octets_in d = length d.1

@@ -1,10 +1,9 @@
 -- What is written of a trace that is made.
-use Rattle.std.proofs.Common.{◌≡◌, ℕ, ◌+◌, ◌≤◌, List, [], ◌++◌, length, map, Option, None, refl, sym, ap, ap₂, subst, ◌∙◌, arith}
+use Rattle.std.proofs.Common.{◌≡◌, ℕ, ◌+◌, List, [], length, None, ap, ap₂, ◌∙◌, arith}
 use Rattle.std.proofs.lemmas.List.{length-map}
 use Rattle.line_model.specs.Generator.{generated, generated_lines}
 use Rattle.line_model.specs.Lines.{line_text}
 use Rattle.line_model.specs.Texts.{lines_of}
-use Rattle.journal_model.specs.declared.rows.Row.{Row}
 use Rattle.trace_model.specs.Made.{made_output}
 use Rattle.rd_server.specs.Journal.{journal}
 use Rattle.rd_server.specs.MadeRuns.{summary}
