@@ -1,5 +1,5 @@
 -- What a look-up finds in a map where a pair was put or taken.
-use Rattle.std.proofs.Common.{◌≡◌, Bool, true, false, cond, List, [], ◌∷◌, Option, Some, None, refl, sym, ap, ◌∙◌}
+use Rattle.std.proofs.Common.{◌≡◌, Bool, true, false, cond, List, [], ◌∷◌, Some, None, refl, sym, ap, ◌∙◌}
 use Rattle.std.specs.declared.cmp.Ordering.{Ordering}
 use Rattle.std.specs.declared.cmp.Ordering.TheVariants.{Less, Equal, Greater}
 use Rattle.std.specs.Ordering.{is_eq, match_ordering}
@@ -42,14 +42,6 @@ module _ {K X : Type 0} {R : K → K → Ordering} (o : IsTotalOrder R) where
   lookup_alike q k (e ∷ es) same =
       ap (λ r. cond (is_eq r) (Some e.1) (lookup (is_at (R q)) es)) (o.congr q k e.0 ((Equal-is (R q k)).0 same))
       ∙ ap (λ found. cond (is_at (R k) e.0) (Some e.1) found) (lookup_alike q k es same)
-
-  -- where a key is not there, none of its like is
-  pub lookup-absent : (q k : K) (es : List (K × X)) → lookup (is_at (R k)) es ≡ None → lookup (is_at (R q)) es ≡ cond (is_at (R q) k) None (lookup (is_at (R q)) es)
-  lookup-absent q k es none = by (is_at (R q) k) refl
-    where
-      by : (t : Bool) → is_at (R q) k ≡ t → lookup (is_at (R q)) es ≡ cond t None (lookup (is_at (R q)) es)
-      by true same = lookup_alike q k es same ∙ none
-      by false other = refl
 
   pub lookup-insert_entry : (q k : K) (v : X) (es : List (K × X)) → lookup (is_at (R q)) (insert_entry R es k v) ≡ cond (is_at (R q) k) (Some v) (lookup (is_at (R q)) es)
   lookup-insert_entry q k v [] = refl

@@ -1,5 +1,5 @@
 -- Numbers as the keys of a map.
-use Rattle.std.proofs.Common.{◌≡◌, ℕ, ◌<◌, length, arith, Bool, true, false, cond, ◌&&◌, ◌||◌, List, [], ◌∷◌, Option, Some, None, is_some, nat_eq, nat_cmp, refl, sym, ap, ◌∙◌, not}
+use Rattle.std.proofs.Common.{◌≡◌, ℕ, ◌<◌, length, arith, Bool, true, false, cond, ◌&&◌, ◌||◌, List, [], ◌∷◌, Option, Some, None, is_some, nat_eq, nat_cmp, refl, sym, ap, ◌∙◌, subst, not}
 use Rattle.std.specs.declared.cmp.Ordering.{Ordering}
 use Rattle.std.specs.declared.cmp.Ordering.TheVariants.{Less, Equal, Greater}
 use Rattle.std.specs.Ordering.{match_ordering, is_le, MatchOrdering}
@@ -8,12 +8,13 @@ use Rattle.std.specs.List.{list_any, AllByRecursion}
 use Rattle.std.specs.Map.{keys_of, lookup, remove_entry}
 use Rattle.std.specs.BTreeMap.{insert_entry, is_at}
 use Rattle.std.specs.BTreeMap.Range.{entries_from}
+use Rattle.std.proofs.Math.Bool.{or-false}
 use Rattle.std.proofs.lemmas.Map.Made.{is_some-lookup}
 use Rattle.rd_base.proofs.lemmas.Each.{each_one}
 use Rattle.rd_base.proofs.lemmas.Filters.{filter_all}
 use Rattle.chunk_map.specs.Sorted.{IsAscending}
 use Rattle.attribute_index.specs.Entries.{has_number}
-use Rattle.attribute_index.specs.Rows.{NumbersAscend, HasNumber, IsRow, number_in}
+use Rattle.attribute_index.specs.Rows.{NumbersAscend, HasNumber, IsRow, IsWith}
 use Rattle.attribute_index.proofs.Lookups.{lookup-insert_entry, lookup-remove_entry}
 
 any_alike : (p q : ℕ → Bool) → ((m : ℕ) → p m ≡ q m) → (ns : List ℕ) → list_any p ns ≡ list_any q ns
@@ -89,6 +90,10 @@ module _ {X : Type 0} where
       by n Greater h = absurd (omega arith)
 
 -- a number alone
-pub row_one : (n : ℕ) → IsRow (n ∷ [])
+row_one : (n : ℕ) → IsRow (n ∷ [])
 unfolding NumbersAscend
 row_one n = (tt, (tt, tt))
+
+-- a number that comes where none was
+pub with_one : (number : ℕ) (numbers : List ℕ) → numbers ≡ number ∷ [] → IsWith number None (Some numbers)
+with_one number numbers is = subst (λ ns. IsWith number None (Some ns)) (sym is) ((λ n. or-false (nat_eq n number)), row_one number)

@@ -1,24 +1,26 @@
 -- What rows say of entries: which there are, that they ascend, and whom a pattern finds.
-use Rattle.std.proofs.Common.{◌≡◌, ℕ, ◌+◌, ◌<◌, length, take, slice_index_or, Bool, true, false, cond, ◌&&◌, ◌||◌, List, [], ◌∷◌, ◌++◌, Option, Some, None, map, filter, nat_eq, nat_cmp, bytes_eq, refl, sym, ap, ◌∙◌, subst, not}
+use Rattle.std.proofs.Common.{◌≡◌, ℕ, ◌+◌, ◌<◌, suc, arith, length, take, slice_index_or, Bool, true, false, cond, ◌&&◌, ◌||◌, List, [], ◌∷◌, ◌++◌, Option, Some, None, IfSome, map, filter, nat_eq, nat_cmp, bytes_eq, refl, sym, ap, ◌∙◌, subst, not}
 use Rattle.std.specs.declared.cmp.Ordering.{Ordering}
 use Rattle.std.specs.declared.cmp.Ordering.TheVariants.{Less, Equal, Greater}
 use Rattle.std.specs.Ordering.{is_eq, is_lt, ordering_then, match_ordering}
 use Rattle.std.specs.Cmp.Lexicographic.{slice_cmp}
-use Rattle.std.specs.Cmp.{IsTotalOrder, tied_then, tied_itself, Equal-is}
+use Rattle.std.specs.Cmp.{IsTotalOrder, tied_then, tied_itself}
 use Rattle.std.specs.List.{list_any, flat_map, AllByRecursion}
 use Rattle.std.specs.Map.{lookup, remove_entry}
 use Rattle.std.specs.BTreeMap.{insert_entry, is_at}
 use Rattle.std.proofs.lemmas.Cmp.{nat_list_cmp_total, then_total, on_total}
 use Rattle.std.proofs.lemmas.List.Folds.{list_any-append, list_any_more}
 use Rattle.std.proofs.lemmas.Map.{lookup-none}
+use Rattle.std.proofs.Math.Bool.{or-false, or_assoc}
 use Rattle.std.proofs.lemmas.Map.Text.{is_eq-slice_cmp}
 use Rattle.std.proofs.lemmas.Bool.{false≢true}
-use Rattle.rd_base.proofs.lemmas.Each.{each_weaker, each_append}
+use Rattle.rd_base.proofs.lemmas.Each.{each_append}
 use Rattle.rd_base.specs.declared.attributes.Pair.{Pair}
+use Rattle.chunk_map.specs.Changes.{IsChanged, with_value}
 use Rattle.chunk_map.specs.Sorted as sorted
 use Rattle.attribute_index.specs.Entries.{Entry, IsAscending, entries_of, values_of, entry_cmp, has_entry, has_number, is_same, is_carrier, carriers_of}
-use Rattle.attribute_index.specs.Rows.{Row, AreRows, IsRow, NumbersAscend, value_cmp, entries_in, entries_of_rows, entries_under, number_in, is_wanted, wanted_numbers}
-use Rattle.attribute_index.proofs.Lookups.{none_behind, lookup_alike, lookup-absent, lookup-insert_entry, lookup-remove_entry}
+use Rattle.attribute_index.specs.Rows.{Row, AreRows, IsRow, IsWith, IsWithout, NumbersAscend, value_cmp, entries_in, entries_of_rows, entries_under, number_in, is_wanted, wanted_numbers}
+use Rattle.attribute_index.proofs.Lookups.{none_behind, lookup_alike, lookup-insert_entry, lookup-remove_entry}
 
 -- the order of values is total
 pub value_total : IsTotalOrder value_cmp
@@ -94,7 +96,7 @@ found_alike : (q k : List ℕ × List ℕ) (rows : List Row) (n : ℕ) → is_at
 found_alike q k rows n same = ap (λ o. number_in o n) (lookup_alike value_total q k rows same)
 
 -- rows in which a value has one number more have one entry more
-pub has_with : (rows : List Row) (value : List ℕ × List ℕ) (number : ℕ) (numbers : List ℕ) → sorted.IsAscending value_cmp rows → sorted.IsAscending value_cmp (insert_entry value_cmp rows value numbers)
+has_with : (rows : List Row) (value : List ℕ × List ℕ) (number : ℕ) (numbers : List ℕ) → sorted.IsAscending value_cmp rows → sorted.IsAscending value_cmp (insert_entry value_cmp rows value numbers)
     → ((n : ℕ) → has_number numbers n ≡ (number_in (lookup (is_at (value_cmp value)) rows) n || nat_eq n number))
     → (e : Entry) → has_entry (entries_of_rows (insert_entry value_cmp rows value numbers)) e ≡ (has_entry (entries_of_rows rows) e || is_same e (entry_at value number))
 has_with rows value number numbers up up' more e =
@@ -115,7 +117,7 @@ not_once false a b o left n h same = sym (and_all (number_in o n))
     and_all false = refl
 
 -- rows in which a value has one number less have one entry less: what is left of its numbers, where there is some
-pub has_less : (rows rows' : List Row) (value : List ℕ × List ℕ) (number : ℕ) (left : Option (List ℕ)) → sorted.IsAscending value_cmp rows → sorted.IsAscending value_cmp rows'
+has_less : (rows rows' : List Row) (value : List ℕ × List ℕ) (number : ℕ) (left : Option (List ℕ)) → sorted.IsAscending value_cmp rows → sorted.IsAscending value_cmp rows'
     → ((q : List ℕ × List ℕ) → lookup (is_at (value_cmp q)) rows' ≡ cond (is_at (value_cmp q) value) left (lookup (is_at (value_cmp q)) rows))
     → ((n : ℕ) → number_in left n ≡ (number_in (lookup (is_at (value_cmp value)) rows) n && not (nat_eq n number)))
     → (e : Entry) → has_entry (entries_of_rows rows') e ≡ (has_entry (entries_of_rows rows) e && not (is_same e (entry_at value number)))
@@ -127,25 +129,28 @@ has_less rows rows' value number left up up' found less e =
     ∙ ap (λ t. has_entry (entries_of_rows rows) e && not (t && nat_eq e.number number)) (same_at (value_of e) value)
     ∙ ap (λ t. has_entry (entries_of_rows rows) e && not t) (and_same (bytes_eq e.name value.0) (bytes_eq e.value value.1) (nat_eq e.number number))
 
--- where the value is not there, nothing changes
-pub has_absent : (rows : List Row) (value : List ℕ × List ℕ) (number : ℕ) → sorted.IsAscending value_cmp rows → lookup (is_at (value_cmp value)) rows ≡ None
-    → (e : Entry) → has_entry (entries_of_rows rows) e ≡ (has_entry (entries_of_rows rows) e && not (is_same e (entry_at value number)))
-has_absent rows value number up none e =
-    has_less rows rows value number None up up (λ q. lookup-absent value_total q value rows none) (λ n. ap (λ o. number_in o n && not (nat_eq n number)) (sym none)) e
+-- what is found where the numbers of a value are changed
+found_changed : (rows rows' : List Row) (value : List ℕ × List ℕ) (new : Option (List ℕ)) → sorted.IsAscending value_cmp rows → rows' ≡ with_value value_cmp rows value new
+    → (q : List ℕ × List ℕ) → lookup (is_at (value_cmp q)) rows' ≡ cond (is_at (value_cmp q) value) new (lookup (is_at (value_cmp q)) rows)
+found_changed rows rows' value None up is q = ap (λ some. lookup (is_at (value_cmp q)) some) is ∙ lookup-remove_entry value_total q value rows up
+found_changed rows rows' value (Some numbers) up is q = ap (λ some. lookup (is_at (value_cmp q)) some) is ∙ lookup-insert_entry value_total q value numbers rows
 
--- where no number is left, the value is taken
-pub has_taken : (rows : List Row) (value : List ℕ × List ℕ) (number : ℕ) (numbers : List ℕ) → sorted.IsAscending value_cmp rows → sorted.IsAscending value_cmp (remove_entry (is_at (value_cmp value)) rows)
-    → lookup (is_at (value_cmp value)) rows ≡ Some numbers → ((n : ℕ) → false ≡ (has_number numbers n && not (nat_eq n number)))
-    → (e : Entry) → has_entry (entries_of_rows (remove_entry (is_at (value_cmp value)) rows)) e ≡ (has_entry (entries_of_rows rows) e && not (is_same e (entry_at value number)))
-has_taken rows value number numbers up up' there less e =
-    has_less rows (remove_entry (is_at (value_cmp value)) rows) value number None up up' (λ q. lookup-remove_entry value_total q value rows up) (λ n. less n ∙ ap (λ o. number_in o n && not (nat_eq n number)) (sym there)) e
+-- where a number comes to a value, one entry comes
+pub has_put : (rows rows' : List Row) (value : List ℕ × List ℕ) (number : ℕ) → sorted.IsAscending value_cmp rows → sorted.IsAscending value_cmp rows' → IsChanged value_cmp (IsWith number) rows value rows'
+    → (e : Entry) → has_entry (entries_of_rows rows') e ≡ (has_entry (entries_of_rows rows) e || is_same e (entry_at value number))
+has_put rows rows' value number up up' h e = by h.0 h.1 h.2
+  where
+    by : (new : Option (List ℕ)) → IsWith number (lookup (is_at (value_cmp value)) rows) new → rows' ≡ with_value value_cmp rows value new
+        → has_entry (entries_of_rows rows') e ≡ (has_entry (entries_of_rows rows) e || is_same e (entry_at value number))
+    by None more is = absurd more
+    by (Some numbers) more is =
+        ap (λ some. has_entry (entries_of_rows some) e) is
+        ∙ has_with rows value number numbers up (subst (λ some. sorted.IsAscending value_cmp some) is up') more.0 e
 
--- where numbers are left, they take the place of those that were there
-pub has_left : (rows : List Row) (value : List ℕ × List ℕ) (number : ℕ) (numbers left : List ℕ) → sorted.IsAscending value_cmp rows → sorted.IsAscending value_cmp (insert_entry value_cmp rows value left)
-    → lookup (is_at (value_cmp value)) rows ≡ Some numbers → ((n : ℕ) → has_number left n ≡ (has_number numbers n && not (nat_eq n number)))
-    → (e : Entry) → has_entry (entries_of_rows (insert_entry value_cmp rows value left)) e ≡ (has_entry (entries_of_rows rows) e && not (is_same e (entry_at value number)))
-has_left rows value number numbers left up up' there less e =
-    has_less rows (insert_entry value_cmp rows value left) value number (Some left) up up' (λ q. lookup-insert_entry value_total q value left rows) (λ n. less n ∙ ap (λ o. number_in o n && not (nat_eq n number)) (sym there)) e
+-- where a number goes from a value, one entry goes
+pub has_taken : (rows rows' : List Row) (value : List ℕ × List ℕ) (number : ℕ) → sorted.IsAscending value_cmp rows → sorted.IsAscending value_cmp rows' → IsChanged value_cmp (IsWithout number) rows value rows'
+    → (e : Entry) → has_entry (entries_of_rows rows') e ≡ (has_entry (entries_of_rows rows) e && not (is_same e (entry_at value number)))
+has_taken rows rows' value number up up' h e = has_less rows rows' value number h.0 up up' (found_changed rows rows' value h.0 up h.2) h.1.0 e
 
 -- ---- the entries of values under a number, one value after another
 
@@ -153,13 +158,34 @@ any_map : {X Y : Type 0} (test : Y → Bool) (f : X → Y) (xs : List X) → lis
 any_map test f [] = refl
 any_map test f (x ∷ xs) = ap (λ t. test (f x) || t) (any_map test f xs)
 
-pub under_next : (values : List (List ℕ × List ℕ)) (i : ℕ) (value : List ℕ × List ℕ) (number : ℕ) (e : Entry) → i < length values → value ≡ slice_index_or values i value
+under_next : (values : List (List ℕ × List ℕ)) (i : ℕ) (value : List ℕ × List ℕ) (number : ℕ) (e : Entry) → i < length values → value ≡ slice_index_or values i value
     → has_entry (entries_under (take (i + 1) values) number) e ≡ (has_entry (entries_under (take i values) number) e || is_same e (entry_at value number))
 under_next values i value number e lt is =
     any_map (is_same e) (λ v. entry_at v number) (take (i + 1) values)
     ∙ list_any_more (λ v. is_same e (entry_at v number)) values i value lt
     ∙ ap (λ t. t || is_same e (entry_at (slice_index_or values i value) number)) (sym (any_map (is_same e) (λ v. entry_at v number) (take i values)))
     ∙ ap (λ v. has_entry (entries_under (take i values) number) e || is_same e (entry_at v number)) (sym is)
+
+-- the first value, and those after it
+module _ (values : List (List ℕ × List ℕ)) (first : List ℕ × List ℕ) (rest : List (List ℕ × List ℕ)) (whole : values ≡ first ∷ rest) where
+  take_behind : (i : ℕ) → take (i + 1) values ≡ first ∷ take i rest
+  take_behind i =
+      let next : i + 1 ≡ suc i = omega arith in
+      ap (λ vs. take (i + 1) vs) whole ∙ ap (λ n. take n (first ∷ rest)) next
+
+  pub take_whole : (i : ℕ) → take i rest ≡ rest → take (i + 1) values ≡ values
+  take_whole i all = take_behind i ∙ ap (λ vs. first ∷ vs) all ∙ sym whole
+
+  pub under_first : (number : ℕ) (e : Entry) → is_same e (entry_at first number) ≡ has_entry (entries_under (take 1 values) number) e
+  under_first number e = sym (or-false (is_same e (entry_at first number))) ∙ ap (λ vs. has_entry (entries_under (take 1 vs) number) e) (sym whole)
+
+  pub under_rest : (i : ℕ) (value : List ℕ × List ℕ) (number : ℕ) (e : Entry) → i < length rest → value ≡ slice_index_or rest i value
+      → has_entry (entries_under (take (i + 1 + 1) values) number) e ≡ (has_entry (entries_under (take (i + 1) values) number) e || is_same e (entry_at value number))
+  under_rest i value number e lt is =
+      ap (λ vs. has_entry (entries_under vs number) e) (take_behind (i + 1))
+      ∙ ap (λ t. is_same e (entry_at first number) || t) (under_next rest i value number e lt is)
+      ∙ sym (or_assoc (is_same e (entry_at first number)) (has_entry (entries_under (take i rest) number) e) (is_same e (entry_at value number)))
+      ∙ ap (λ vs. has_entry (entries_under vs number) e || is_same e (entry_at value number)) (sym (take_behind i))
 
 -- a loop that puts values: with one more, and that takes values: with one less
 pub put_next : (all before here next one : Bool) → next ≡ (before || one) → here ≡ (all || before) → (here || one) ≡ (all || next)
@@ -227,7 +253,7 @@ ascends_rows (row ∷ rows) up whole = ascends_row row.0 row.1 rows whole.0.1 up
 
 -- ---- each value has numbers
 
-pub rows_with : (value : List ℕ × List ℕ) (numbers : List ℕ) (rows : List Row) → IsRow numbers → AreRows rows → AreRows (insert_entry value_cmp rows value numbers)
+rows_with : (value : List ℕ × List ℕ) (numbers : List ℕ) (rows : List Row) → IsRow numbers → AreRows rows → AreRows (insert_entry value_cmp rows value numbers)
 rows_with value numbers [] whole all = (whole, tt)
 rows_with value numbers (row ∷ rows) whole all = by (value_cmp value row.0) (rows_with value numbers rows whole all.1)
   where
@@ -236,13 +262,25 @@ rows_with value numbers (row ∷ rows) whole all = by (value_cmp value row.0) (r
     by Equal more = (whole, all.1)
     by Greater more = (all.0, more)
 
-pub rows_without : (test : List ℕ × List ℕ → Bool) (rows : List Row) → AreRows rows → AreRows (remove_entry test rows)
+rows_without : (test : List ℕ × List ℕ → Bool) (rows : List Row) → AreRows rows → AreRows (remove_entry test rows)
 rows_without test [] all = tt
 rows_without test (row ∷ rows) all = by (test row.0) (rows_without test rows all.1)
   where
     by : (t : Bool) → AreRows (remove_entry test rows) → AreRows (cond t rows (row ∷ remove_entry test rows))
     by true more = all.1
     by false more = (all.0, more)
+
+-- each value has numbers after a change that leaves it some or takes it
+pub rows_changed : (gives : Option (List ℕ) → Option (List ℕ) → Type 0) → ((old new : Option (List ℕ)) → gives old new → IfSome new IsRow) → (rows rows' : List Row) (value : List ℕ × List ℕ) → AreRows rows → IsChanged value_cmp gives rows value rows' → AreRows rows'
+rows_changed gives leaves rows rows' value all h = subst AreRows (sym h.2) (by h.0 (leaves (lookup (is_at (value_cmp value)) rows) h.0 h.1))
+  where
+    by : (new : Option (List ℕ)) → IfSome new IsRow → AreRows (with_value value_cmp rows value new)
+    by None whole = rows_without (is_at (value_cmp value)) rows all
+    by (Some numbers) whole = rows_with value numbers rows whole all
+
+pub with_leaves : (number : ℕ) (old new : Option (List ℕ)) → IsWith number old new → IfSome new IsRow
+with_leaves number old None h = absurd h
+with_leaves number old (Some numbers) h = h.1
 
 -- ---- whom a pattern finds
 

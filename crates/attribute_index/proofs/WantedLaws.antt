@@ -1,9 +1,9 @@
 -- The values that a pattern matches stand together: where they begin, and that none stands behind one that it does not match.
-use Rattle.std.proofs.Common.{◌≡◌, ℕ, ◌<◌, Bool, true, false, cond, ◌&&◌, List, [], ◌∷◌, ◌++◌, Option, Some, None, take, length, filter, nat_eq, nat_cmp, bytes_eq, refl, sym, ap, ◌∙◌, subst, unwrap_or, arith}
+use Rattle.std.proofs.Common.{◌≡◌, ℕ, ◌<◌, Bool, true, false, cond, List, [], ◌∷◌, ◌++◌, Option, Some, None, take, length, filter, nat_eq, nat_cmp, bytes_eq, refl, sym, ap, ◌∙◌, subst, unwrap_or, arith}
 use lib.Pointwise.{pointwise}
 use Rattle.std.specs.declared.cmp.Ordering.{Ordering}
 use Rattle.std.specs.declared.cmp.Ordering.TheVariants.{Less, Equal, Greater}
-use Rattle.std.specs.Ordering.{is_le, is_eq, is_lt, ordering_then, ordering_reverse, MatchOrdering}
+use Rattle.std.specs.Ordering.{is_le, is_eq, ordering_then, MatchOrdering}
 use Rattle.std.specs.Cmp.Lexicographic.{slice_cmp}
 use Rattle.std.specs.Cmp.{tied_itself, ranks, nat_cmp_total}
 use Rattle.std.specs.List.{starts_with, flat_map, AllByRecursion}

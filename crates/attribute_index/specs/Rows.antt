@@ -1,5 +1,5 @@
 -- How an index is kept: a row for each value of a name, with the numbers of the records that carry it.
-use Rattle.std.specs.Prelude.{◌≡◌, ℕ, Bool, false, ◌&&◌, List, [], ◌∷◌, Option, Some, None, map, filter, nat_eq, bytes_eq, unwrap_or}
+use Rattle.std.specs.Prelude.{◌≡◌, ℕ, Bool, false, not, ◌==◌, ◌||◌, ◌&&◌, IfSome, List, [], ◌∷◌, Option, Some, None, map, filter, nat_eq, bytes_eq, unwrap_or}
 use lib.Pointwise.{pointwise}
 use Rattle.std.specs.List.{flat_map, AllByRecursion}
 use Rattle.std.specs.declared.cmp.Ordering.{Ordering}
@@ -77,3 +77,12 @@ number_in (Some numbers) n = has_number numbers n
 abbrev pub numbers_left : Option (List (ℕ × Unit {0})) → List ℕ
 numbers_left None = []
 numbers_left (Some left) = keys_of left
+
+-- a value has this number too, beside those that it had
+abbrev pub IsWith : ℕ → Option (List ℕ) → Option (List ℕ) → Type 0
+IsWith number old None = ⊥
+IsWith number old (Some numbers) = ((n : ℕ) → has_number numbers n ≡ (number_in old n || (n == number))) × IsRow numbers
+
+-- a value has not this number, and has the others that it had; with the last one, the value is gone
+abbrev pub IsWithout : ℕ → Option (List ℕ) → Option (List ℕ) → Type 0
+IsWithout number old left = ((n : ℕ) → number_in left n ≡ (number_in old n && not (n == number))) × IfSome left IsRow

@@ -1,16 +1,14 @@
 //! The rows of an index: put and taken, one value of a name at a time.
-ghost use Rattle.std.specs.Prelude.{◌≡◌, ◌||◌, ◌&&◌, ◌==◌, ℕ, not, map, IfOk};
-ghost use Rattle.std.specs.Map.{lookup};
-ghost use Rattle.std.specs.BTreeMap.{is_at};
+ghost use Rattle.std.specs.Prelude.{◌≡◌, ◌||◌, ◌&&◌, not, map, IfOk};
 ghost use Rattle.chunk_map.specs.Sorted.{IsAscending};
 ghost use Rattle.record_model.specs.Matching as model;
 ghost use Rattle.attribute_index.specs.Entries as entries;
-ghost use Rattle.attribute_index.specs.Entries.{Entry, entries_of, has_entry, has_number, is_same};
-ghost use Rattle.attribute_index.specs.Rows.{AreRows, IsRow, entries_of_rows, entries_under, number_in, value_cmp};
+ghost use Rattle.attribute_index.specs.Entries.{Entry, entries_of, has_entry, is_same};
+ghost use Rattle.attribute_index.specs.Rows.{AreRows, IsWith, IsWithout, entries_of_rows, entries_under, value_cmp};
 
 use crate::numbers::Numbers;
 use crate::values::Value;
-use chunk_map::{ChunkMap, Shared};
+use chunk_map::{Change, ChunkMap};
 use listing::{first_part, is_list_name};
 use rd_base::{Pair, Starved};
 use std::alloc::Global;
@@ -45,14 +43,43 @@ fn values_of(alloc: Global, name: &[u8], value: &[u8]) -> Result<Vec<Value>, Sta
     Ok(values)
 }
 
-/// The numbers of a value once this one is there. `Starved`: out of memory.
-fn numbers_with(alloc: Global, rows: &Rows, value: &Value, number: u64) -> Result<Numbers, Starved>
-    ensures numbers { IfOk result (λ numbers. (n : ℕ) → has_number numbers n ≡ (number_in (lookup (is_at (value_cmp value.now)) rows.now) n || (n == number))) }
-    ensures whole { IfOk result (λ numbers. IsRow numbers) }
-{
-    match rows.get(value) {
-        None => Ok(Numbers::one(alloc, number)?),
-        Some(numbers) => Ok(numbers.with(alloc, number)?),
+/// This number comes to those of a value.
+#[derive(Drop)]
+struct With {
+    alloc: Global,
+    number: u64,
+}
+
+impl Change<Numbers> for With {
+    ghost gives = { λ with old new. IsWith with.number old new };
+
+    fn begin(self) -> Result<Option<Numbers>, Starved> {
+        let numbers = Numbers::one(self.alloc, self.number)?;
+        Ok(Some(numbers))
+    }
+
+    fn follow(self, old: &Numbers) -> Result<Option<Numbers>, Starved> {
+        let numbers = old.with(self.alloc, self.number)?;
+        Ok(Some(numbers))
+    }
+}
+
+/// This number goes from those of a value, and the value goes with the last one.
+#[derive(Drop)]
+struct Without {
+    alloc: Global,
+    number: u64,
+}
+
+impl Change<Numbers> for Without {
+    ghost gives = { λ without old new. IsWithout without.number old new };
+
+    fn begin(self) -> Result<Option<Numbers>, Starved> {
+        Ok(None)
+    }
+
+    fn follow(self, old: &Numbers) -> Result<Option<Numbers>, Starved> {
+        old.without(self.alloc, self.number)
     }
 }
 
@@ -64,8 +91,7 @@ fn with_value(alloc: Global, rows: &Rows, value: &Value, number: u64) -> Result<
     ensures ascends { IfOk result (λ more. IsAscending value_cmp more) }
     ensures whole { IfOk result (λ more. AreRows more) }
 {
-    let numbers = numbers_with(alloc, rows, value, number)?;
-    Ok(rows.put(value.share()?, numbers)?)
+    Ok(rows.change(value, With { alloc, number })?)
 }
 
 /// Rows in which the record with this number does not carry this value. `Starved`: out of memory.
@@ -76,13 +102,7 @@ fn without_value(alloc: Global, rows: &Rows, value: &Value, number: u64) -> Resu
     ensures ascends { IfOk result (λ fewer. IsAscending value_cmp fewer) }
     ensures whole { IfOk result (λ fewer. AreRows fewer) }
 {
-    match rows.get(value) {
-        None => Ok(rows.share()?),
-        Some(numbers) => match numbers.without(alloc, number)? {
-            None => Ok(rows.take(value)?),
-            Some(left) => Ok(rows.put(value.share()?, left)?),
-        },
-    }
+    Ok(rows.change(value, Without { alloc, number })?)
 }
 
 /// Rows in which the record with this number carries these values too. `Starved`: out of memory.
@@ -93,8 +113,11 @@ fn with_values(alloc: Global, rows: &Rows, values: &[Value], number: u64) -> Res
     ensures ascends { IfOk result (λ more. IsAscending value_cmp more) }
     ensures whole { IfOk result (λ more. AreRows more) }
 {
-    let mut more = rows.share()?;
-    'values: for value in values {
+    let Some((first, rest)) = values.split_first() else {
+        return Ok(rows.share()?);
+    };
+    let mut more = with_value(alloc, rows, first, number)?;
+    'values: for value in rest {
         more = with_value(alloc, &more, value, number)?;
     }
     Ok(more)
@@ -113,8 +136,11 @@ fn without_values(
     ensures ascends { IfOk result (λ fewer. IsAscending value_cmp fewer) }
     ensures whole { IfOk result (λ fewer. AreRows fewer) }
 {
-    let mut fewer = rows.share()?;
-    'values: for value in values {
+    let Some((first, rest)) = values.split_first() else {
+        return Ok(rows.share()?);
+    };
+    let mut fewer = without_value(alloc, rows, first, number)?;
+    'values: for value in rest {
         fewer = without_value(alloc, &fewer, value, number)?;
     }
     Ok(fewer)

@@ -2,12 +2,15 @@
 //! costs about the same whatever the number of pairs.
 #![tactic(auto)]
 
+mod change;
+mod levels;
 mod map;
 mod part;
 mod parts;
 mod range;
 mod shared;
 
+pub use change::Change;
 pub use map::ChunkMap;
 pub use range::RangeIter;
 pub use shared::Shared;

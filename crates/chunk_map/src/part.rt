@@ -1,17 +1,30 @@
 //! A part of a sorted map: a pair, or a list of smaller parts, or what is shared of one.
-ghost use Rattle.std.specs.Prelude.{◌≡◌, ◌<◌, length, List, [], ◌∷◌, ◌++◌, IfOk, IfSome, option_map};
+ghost use Rattle.std.specs.Prelude.{◌≡◌, ◌<◌, length, List, [], ◌∷◌, ◌++◌, Option, Some, None, IfOk, IfSome, option_map};
 ghost use Rattle.std.specs.List.{All, flat_map};
-ghost use Rattle.std.specs.Map.{lookup, remove_entry};
-ghost use Rattle.std.specs.BTreeMap.{insert_entry, is_at};
+ghost use Rattle.std.specs.Map.{lookup};
+ghost use Rattle.std.specs.BTreeMap.{is_at};
 ghost use Rattle.std.specs.Arc.{arc_value};
+ghost use Rattle.chunk_map.specs.Changes.{IsChanged, IsCounted};
 ghost use Rattle.chunk_map.specs.Sorted.{IsAscending, HasAny, begins_by, option_flat};
 
-use crate::Shared;
-use crate::parts::{JOINED_PARTS, copied, get, join, split, with_key, without_key};
+use crate::change::Tally;
+use crate::parts::{JOINED_PARTS, changed, copied, get, join, split};
+use crate::{Change, Shared};
 use rd_base::Starved;
 use std::alloc::Global;
 use std::cmp::Ordering;
 use std::sync::Arc;
+
+/// A part after a change of the value at a key.
+#[derive(Drop)]
+pub(crate) struct Changed<P: Drop> {
+    /// The part; None where no pair is left.
+    pub(crate) first: Option<P>,
+    /// What stands behind it, where one part would be too large.
+    pub(crate) second: Option<P>,
+    /// What the change does to the number of its pairs.
+    pub(crate) tally: Tally,
+}
 
 /// A part of a map. It shows one pair or more, in ascending order of their keys. A pair is the smallest part, a list of
 /// parts is a part, and so is an `Arc` of one: chunks, groups and all groups share this one code.
@@ -23,8 +36,8 @@ pub(crate) trait Part<K: Ord + Drop, V: Drop>: Drop {
     ghost is_whole: { Self → Type 0 };
 
     /// A part that shows one pair.
-    fn one(alloc: Global, key: K, value: V) -> Result<Self, Starved>
-        ensures pairs { IfOk result (λ part. pairs part ≡ (key, value) ∷ []) }
+    fn one(alloc: Global, key: &K, value: V) -> Result<Self, Starved>
+        ensures pairs { IfOk result (λ part. pairs part ≡ (key.now, value) ∷ []) }
         ensures whole { IfOk result is_whole };
 
     /// A part that shows the same pairs.
@@ -45,19 +58,18 @@ pub(crate) trait Part<K: Ord + Drop, V: Drop>: Drop {
         requires ascends { IsAscending K.cmp (pairs self.now) }
         ensures { option_map (λ v. v.now) result ≡ lookup (is_at (K.cmp key.now)) (pairs self.now) };
 
-    /// This part with this value at this key: one part, or two where one would be too large.
-    fn put(&self, alloc: Global, key: K, value: V) -> Result<(Self, Option<Self>), Starved>
+    /// This part after a change of the value at this key.
+    fn change<C: Change<V>>(
+        &self,
+        alloc: Global,
+        key: &K,
+        change: C,
+    ) -> Result<Changed<Self>, Starved>
         requires whole { is_whole self.now }
         requires ascends { IsAscending K.cmp (pairs self.now) }
-        ensures pairs { IfOk result (λ put. pairs put.0 ++ option_flat pairs put.1 ≡ insert_entry K.cmp (pairs self.now) key value) }
-        ensures whole { IfOk result (λ put. is_whole put.0 × IfSome put.1 is_whole) };
-
-    /// This part without this key; None where no pair is left.
-    fn take(&self, alloc: Global, key: &K) -> Result<Option<Self>, Starved>
-        requires whole { is_whole self.now }
-        requires ascends { IsAscending K.cmp (pairs self.now) }
-        ensures pairs { IfOk result (λ left. option_flat pairs left ≡ remove_entry (is_at (K.cmp key.now)) (pairs self.now)) }
-        ensures whole { IfOk result (λ left. IfSome left is_whole) };
+        ensures pairs { IfOk result (λ changed. IsChanged K.cmp (C.gives change) (pairs self.now) key.now (option_flat pairs changed.first ++ option_flat pairs changed.second)) }
+        ensures counted { IfOk result (λ changed. IsCounted changed.tally (length (pairs self.now)) (length (option_flat pairs changed.first ++ option_flat pairs changed.second))) }
+        ensures whole { IfOk result (λ changed. IfSome changed.first is_whole × IfSome changed.second is_whole) };
 
     /// One part that shows the pairs of this and of the next; None where it would be too large.
     fn joined(&self, alloc: Global, next: &Self) -> Result<Option<Self>, Starved>
@@ -66,13 +78,93 @@ pub(crate) trait Part<K: Ord + Drop, V: Drop>: Drop {
         ensures whole { IfOk result (λ joined. IfSome joined is_whole) };
 }
 
+/// A pair after a change of the value at its key.
+fn changed_at<K: Ord + Shared, V: Shared, C: Change<V>>(
+    pair: &(K, V),
+    change: C,
+) -> Result<Changed<(K, V)>, Starved>
+    ensures changed { IfOk result (λ changed. (new : Option V) × C.gives change (Some pair.now.1) new × (option_flat (λ p. p ∷ []) changed.first ++ option_flat (λ p. p ∷ []) changed.second ≡ option_flat (λ v. (pair.now.0, v) ∷ []) new)) }
+    ensures counted { IfOk result (λ changed. IsCounted changed.tally 1 (length (option_flat (λ p. p ∷ []) changed.first ++ option_flat (λ p. p ∷ []) changed.second))) }
+{
+    match change.follow(&pair.1)? {
+        None => Ok(Changed {
+            first: None,
+            second: None,
+            tally: Tally::Fewer,
+        }),
+        Some(value) => {
+            let key = pair.0.share()?;
+            Ok(Changed {
+                first: Some((key, value)),
+                second: None,
+                tally: Tally::Same,
+            })
+        }
+    }
+}
+
+/// A pair after a change of the value at a key before its own.
+fn changed_before<K: Ord + Shared, V: Shared, C: Change<V>>(
+    pair: &(K, V),
+    key: &K,
+    change: C,
+) -> Result<Changed<(K, V)>, Starved>
+    ensures changed { IfOk result (λ changed. (new : Option V) × C.gives change None new × (option_flat (λ p. p ∷ []) changed.first ++ option_flat (λ p. p ∷ []) changed.second ≡ option_flat (λ v. (key.now, v) ∷ []) new ++ (pair.now ∷ []))) }
+    ensures counted { IfOk result (λ changed. IsCounted changed.tally 1 (length (option_flat (λ p. p ∷ []) changed.first ++ option_flat (λ p. p ∷ []) changed.second))) }
+{
+    let old = (pair.0.share()?, pair.1.share()?);
+    match change.begin()? {
+        None => Ok(Changed {
+            first: Some(old),
+            second: None,
+            tally: Tally::Same,
+        }),
+        Some(value) => {
+            let key = key.share()?;
+            Ok(Changed {
+                first: Some((key, value)),
+                second: Some(old),
+                tally: Tally::More,
+            })
+        }
+    }
+}
+
+/// A pair after a change of the value at a key behind its own.
+fn changed_behind<K: Ord + Shared, V: Shared, C: Change<V>>(
+    pair: &(K, V),
+    key: &K,
+    change: C,
+) -> Result<Changed<(K, V)>, Starved>
+    ensures changed { IfOk result (λ changed. (new : Option V) × C.gives change None new × (option_flat (λ p. p ∷ []) changed.first ++ option_flat (λ p. p ∷ []) changed.second ≡ pair.now ∷ option_flat (λ v. (key.now, v) ∷ []) new)) }
+    ensures counted { IfOk result (λ changed. IsCounted changed.tally 1 (length (option_flat (λ p. p ∷ []) changed.first ++ option_flat (λ p. p ∷ []) changed.second))) }
+{
+    let old = (pair.0.share()?, pair.1.share()?);
+    match change.begin()? {
+        None => Ok(Changed {
+            first: Some(old),
+            second: None,
+            tally: Tally::Same,
+        }),
+        Some(value) => {
+            let key = key.share()?;
+            Ok(Changed {
+                first: Some(old),
+                second: Some((key, value)),
+                tally: Tally::More,
+            })
+        }
+    }
+}
+
 /// A pair shows itself.
 impl<K: Ord + Shared, V: Shared> Part<K, V> for (K, V) {
     ghost pairs = { λ p. p ∷ [] };
 
     ghost is_whole = { λ _. Unit {0} };
 
-    fn one(_: Global, key: K, value: V) -> Result<(K, V), Starved> {
+    fn one(_: Global, key: &K, value: V) -> Result<(K, V), Starved> {
+        let key = key.share()?;
         Ok((key, value))
     }
 
@@ -93,35 +185,39 @@ impl<K: Ord + Shared, V: Shared> Part<K, V> for (K, V) {
         }
     }
 
-    fn put(&self, _: Global, key: K, value: V) -> Result<((K, V), Option<(K, V)>), Starved> {
+    fn change<C: Change<V>>(
+        &self,
+        _: Global,
+        key: &K,
+        change: C,
+    ) -> Result<Changed<(K, V)>, Starved> {
         match key.cmp(&self.0) {
-            Ordering::Less => {
-                let behind = self.again()?;
-                Ok(((key, value), Some(behind)))
-            }
-            Ordering::Equal => {
-                let key = self.0.share()?;
-                Ok(((key, value), None))
-            }
-            Ordering::Greater => {
-                let front = self.again()?;
-                Ok((front, Some((key, value))))
-            }
-        }
-    }
-
-    fn take(&self, _: Global, key: &K) -> Result<Option<(K, V)>, Starved> {
-        match key.cmp(&self.0) {
-            Ordering::Equal => Ok(None),
-            _ => {
-                let left = self.again()?;
-                Ok(Some(left))
-            }
+            Ordering::Less => changed_before(self, key, change),
+            Ordering::Equal => changed_at(self, change),
+            Ordering::Greater => changed_behind(self, key, change),
         }
     }
 
     fn joined(&self, _: Global, _: &(K, V)) -> Result<Option<(K, V)>, Starved> {
         Ok(None)
+    }
+}
+
+/// What is shared of the part, where there is one.
+fn shared<K: Ord + Drop, V: Drop, P: Part<K, V>>(
+    alloc: Global,
+    part: Option<P>,
+) -> Result<Option<Arc<P>>, Starved>
+    requires { IfSome part P.is_whole }
+    ensures pairs { IfOk result (λ shared. option_flat (λ a. P.pairs (arc_value a)) shared ≡ option_flat P.pairs part) }
+    ensures whole { IfOk result (λ shared. IfSome shared (λ a. P.is_whole (arc_value a))) }
+{
+    match part {
+        None => Ok(None),
+        Some(part) => {
+            let part = Arc::new(alloc, part)?;
+            Ok(Some(part))
+        }
     }
 }
 
@@ -131,7 +227,7 @@ impl<K: Ord + Drop, V: Drop, P: Part<K, V>> Part<K, V> for Arc<P> {
 
     ghost is_whole = { λ a. P.is_whole (arc_value a) };
 
-    fn one(alloc: Global, key: K, value: V) -> Result<Arc<P>, Starved> {
+    fn one(alloc: Global, key: &K, value: V) -> Result<Arc<P>, Starved> {
         let part = P::one(alloc, key, value)?;
         Ok(Arc::new(alloc, part)?)
     }
@@ -150,28 +246,25 @@ impl<K: Ord + Drop, V: Drop, P: Part<K, V>> Part<K, V> for Arc<P> {
         part.get(key)
     }
 
-    fn put(&self, alloc: Global, key: K, value: V) -> Result<(Arc<P>, Option<Arc<P>>), Starved> {
+    fn change<C: Change<V>>(
+        &self,
+        alloc: Global,
+        key: &K,
+        change: C,
+    ) -> Result<Changed<Arc<P>>, Starved> {
         let part: &P = &**self;
-        let (first, second) = part.put(alloc, key, value)?;
-        let first = Arc::new(alloc, first)?;
-        match second {
-            None => Ok((first, None)),
-            Some(second) => {
-                let second = Arc::new(alloc, second)?;
-                Ok((first, Some(second)))
-            }
-        }
-    }
-
-    fn take(&self, alloc: Global, key: &K) -> Result<Option<Arc<P>>, Starved> {
-        let part: &P = &**self;
-        match part.take(alloc, key)? {
-            None => Ok(None),
-            Some(left) => {
-                let left = Arc::new(alloc, left)?;
-                Ok(Some(left))
-            }
-        }
+        let Changed {
+            first,
+            second,
+            tally,
+        } = part.change(alloc, key, change)?;
+        let first = shared(alloc, first)?;
+        let second = shared(alloc, second)?;
+        Ok(Changed {
+            first,
+            second,
+            tally,
+        })
     }
 
     fn joined(&self, alloc: Global, next: &Arc<P>) -> Result<Option<Arc<P>>, Starved> {
@@ -192,7 +285,7 @@ impl<K: Ord + Drop, V: Drop, P: Part<K, V>> Part<K, V> for Vec<P> {
 
     ghost is_whole = { λ parts. (0 < length parts.items) × All P.is_whole parts.items };
 
-    fn one(alloc: Global, key: K, value: V) -> Result<Vec<P>, Starved> {
+    fn one(alloc: Global, key: &K, value: V) -> Result<Vec<P>, Starved> {
         let part = P::one(alloc, key, value)?;
         let mut parts = Vec::with_capacity(alloc, 1)?;
         parts.push(part)?;
@@ -211,17 +304,26 @@ impl<K: Ord + Drop, V: Drop, P: Part<K, V>> Part<K, V> for Vec<P> {
         get(self.as_slice(), key)
     }
 
-    fn put(&self, alloc: Global, key: K, value: V) -> Result<(Vec<P>, Option<Vec<P>>), Starved> {
-        split(with_key(alloc, self.as_slice(), key, value)?)
-    }
-
-    fn take(&self, alloc: Global, key: &K) -> Result<Option<Vec<P>>, Starved> {
-        let left = without_key(alloc, self.as_slice(), key)?;
-        if left.is_empty() {
-            Ok(None)
-        } else {
-            Ok(Some(left))
+    fn change<C: Change<V>>(
+        &self,
+        alloc: Global,
+        key: &K,
+        change: C,
+    ) -> Result<Changed<Vec<P>>, Starved> {
+        let (parts, tally) = changed(alloc, self.as_slice(), key, change)?;
+        if parts.is_empty() {
+            return Ok(Changed {
+                first: None,
+                second: None,
+                tally,
+            });
         }
+        let (first, second) = split(parts)?;
+        Ok(Changed {
+            first: Some(first),
+            second,
+            tally,
+        })
     }
 
     fn joined(&self, alloc: Global, next: &Vec<P>) -> Result<Option<Vec<P>>, Starved> {

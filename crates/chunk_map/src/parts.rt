@@ -4,20 +4,23 @@ ghost use Rattle.std.specs.List.{All, flat_map};
 ghost use Rattle.std.specs.Map.{lookup, remove_entry};
 ghost use Rattle.std.specs.BTreeMap.{insert_entry, is_at};
 ghost use Rattle.std.specs.BTreeMap.Range.{entries_from};
+ghost use Rattle.chunk_map.specs.Changes.{IsChanged, IsCounted};
 ghost use Rattle.chunk_map.specs.Sorted.{IsAscending, AllGreater, AllLess, option_flat};
 
-use crate::part::Part;
+use crate::Change;
+use crate::change::Tally;
+use crate::part::{Changed, Part};
 use rd_base::Starved;
 use std::alloc::Global;
 
 /// The greatest number of parts that a list keeps: with one more it is split in two.
-pub(crate) const MOST_PARTS: usize = 64;
+pub(crate) const MOST_PARTS: usize = 24;
 
 /// How many parts the first list keeps when a list is split in two.
-const SPLIT_PARTS: usize = 32;
+const SPLIT_PARTS: usize = 12;
 
 /// The greatest number of parts together with which two lists that stand side by side are joined.
-pub(crate) const JOINED_PARTS: usize = 48;
+pub(crate) const JOINED_PARTS: usize = 18;
 
 /// The index of the part where this key stands, or would stand.
 pub(crate) fn find<K: Ord + Drop, V: Drop, P: Part<K, V>>(parts: &[P], key: &K) -> usize
@@ -154,33 +157,6 @@ pub(crate) fn get<'a, K: Ord + Drop, V: Drop, P: Part<K, V>>(
     parts[at].get(key)
 }
 
-/// Parts that show the pairs of these with this value at this key.
-pub(crate) fn with_key<K: Ord + Drop, V: Drop, P: Part<K, V>>(
-    alloc: Global,
-    parts: &[P],
-    key: K,
-    value: V,
-) -> Result<Vec<P>, Starved>
-    requires whole { All P.is_whole parts.now }
-    requires ascends { IsAscending K.cmp (flat_map P.pairs parts.now) }
-    ensures pairs { IfOk result (λ put. flat_map P.pairs put.items ≡ insert_entry K.cmp (flat_map P.pairs parts.now) key value) }
-    ensures whole { IfOk result (λ put. All P.is_whole put.items) }
-    ensures any { IfOk result (λ put. 0 < length put.items) }
-{
-    let mut put = Vec::with_capacity(alloc, usize::saturating_add(parts.len(), 1))?;
-    if parts.is_empty() {
-        put.push(P::one(alloc, key, value)?)?;
-        return Ok(put);
-    }
-    let at = find(parts, &key);
-    let (first, second) = parts[at].put(alloc, key, value)?;
-    append(&mut put, &parts[..at])?;
-    append_some(&mut put, Some(first))?;
-    append_some(&mut put, second)?;
-    append(&mut put, &parts[at + 1..])?;
-    Ok(put)
-}
-
 /// Joins a part with the last of those before it, where the two are small: what is left before it, and the part.
 fn join_front<'a, K: Ord + Drop, V: Drop, P: Part<K, V>>(
     alloc: Global,
@@ -229,29 +205,99 @@ fn join_behind<'a, K: Ord + Drop, V: Drop, P: Part<K, V>>(
     }
 }
 
-/// Parts that show the pairs of these without this key.
-pub(crate) fn without_key<K: Ord + Drop, V: Drop, P: Part<K, V>>(
+/// Joins a part with the first of those after it, unless there is a second part between them: the part, the second part,
+/// and what is left after them.
+fn join_last<'a, K: Ord + Drop, V: Drop, P: Part<K, V>>(
+    alloc: Global,
+    part: Option<P>,
+    second: Option<P>,
+    behind: &'a [P],
+) -> Result<(Option<P>, Option<P>, &'a [P]), Starved>
+    requires whole { All P.is_whole behind.now }
+    requires part_whole { IfSome part P.is_whole × IfSome second P.is_whole }
+    ensures pairs { IfOk result (λ joined. option_flat P.pairs joined.0 ++ (option_flat P.pairs joined.1 ++ flat_map P.pairs joined.2.now) ≡ option_flat P.pairs part ++ (option_flat P.pairs second ++ flat_map P.pairs behind.now)) }
+    ensures whole { IfOk result (λ joined. All P.is_whole joined.2.now) }
+    ensures part_whole { IfOk result (λ joined. IfSome joined.0 P.is_whole × IfSome joined.1 P.is_whole) }
+{
+    match second {
+        Some(second) => Ok((part, Some(second), behind)),
+        None => {
+            let (part, behind) = join_behind(alloc, part, behind)?;
+            Ok((part, None, behind))
+        }
+    }
+}
+
+/// The parts before, a part and a second one, where they are there, and the parts behind, in one list: small ones that stand
+/// side by side are joined.
+fn assembled<K: Ord + Drop, V: Drop, P: Part<K, V>>(
+    alloc: Global,
+    front: &[P],
+    first: Option<P>,
+    second: Option<P>,
+    behind: &[P],
+) -> Result<Vec<P>, Starved>
+    requires front_whole { All P.is_whole front.now }
+    requires whole { IfSome first P.is_whole × IfSome second P.is_whole }
+    requires behind_whole { All P.is_whole behind.now }
+    ensures pairs { IfOk result (λ list. flat_map P.pairs list.items ≡ flat_map P.pairs front.now ++ ((option_flat P.pairs first ++ option_flat P.pairs second) ++ flat_map P.pairs behind.now)) }
+    ensures whole { IfOk result (λ list. All P.is_whole list.items) }
+{
+    let count = usize::saturating_add(front.len(), behind.len());
+    let (front, first) = join_front(alloc, front, first)?;
+    let (first, second, behind) = join_last(alloc, first, second, behind)?;
+    let mut list = Vec::with_capacity(alloc, usize::saturating_add(count, 2))?;
+    append(&mut list, front)?;
+    append_some(&mut list, first)?;
+    append_some(&mut list, second)?;
+    append(&mut list, behind)?;
+    Ok(list)
+}
+
+/// The one part of a map that had none, after a change of the value at this key; none where there is no value then.
+fn changed_none<K: Ord + Drop, V: Drop, P: Part<K, V>, C: Change<V>>(
+    alloc: Global,
+    key: &K,
+    change: C,
+) -> Result<(Vec<P>, Tally), Starved>
+    ensures pairs { IfOk result (λ changed. IsChanged K.cmp (C.gives change) [] key.now (flat_map P.pairs changed.0.items)) }
+    ensures counted { IfOk result (λ changed. IsCounted changed.1 0 (length (flat_map P.pairs changed.0.items))) }
+    ensures whole { IfOk result (λ changed. All P.is_whole changed.0.items) }
+{
+    let mut changed = Vec::new(alloc);
+    match change.begin()? {
+        None => Ok((changed, Tally::Same)),
+        Some(value) => {
+            changed.push(P::one(alloc, key, value)?)?;
+            Ok((changed, Tally::More))
+        }
+    }
+}
+
+/// Parts that show the pairs of these after a change of the value at this key, and what it does to their number.
+pub(crate) fn changed<K: Ord + Drop, V: Drop, P: Part<K, V>, C: Change<V>>(
     alloc: Global,
     parts: &[P],
     key: &K,
-) -> Result<Vec<P>, Starved>
+    change: C,
+) -> Result<(Vec<P>, Tally), Starved>
     requires whole { All P.is_whole parts.now }
     requires ascends { IsAscending K.cmp (flat_map P.pairs parts.now) }
-    ensures pairs { IfOk result (λ left. flat_map P.pairs left.items ≡ remove_entry (is_at (K.cmp key.now)) (flat_map P.pairs parts.now)) }
-    ensures whole { IfOk result (λ left. All P.is_whole left.items) }
+    ensures pairs { IfOk result (λ changed. IsChanged K.cmp (C.gives change) (flat_map P.pairs parts.now) key.now (flat_map P.pairs changed.0.items)) }
+    ensures counted { IfOk result (λ changed. IsCounted changed.1 (length (flat_map P.pairs parts.now)) (length (flat_map P.pairs changed.0.items))) }
+    ensures whole { IfOk result (λ changed. All P.is_whole changed.0.items) }
 {
-    let mut left = Vec::with_capacity(alloc, parts.len())?;
     if parts.is_empty() {
-        return Ok(left);
+        return changed_none(alloc, key, change);
     }
     let at = find(parts, key);
-    let kept = parts[at].take(alloc, key)?;
-    let (front, kept) = join_front(alloc, &parts[..at], kept)?;
-    let (kept, behind) = join_behind(alloc, kept, &parts[at + 1..])?;
-    append(&mut left, front)?;
-    append_some(&mut left, kept)?;
-    append(&mut left, behind)?;
-    Ok(left)
+    let Changed {
+        first,
+        second,
+        tally,
+    } = parts[at].change(alloc, key, change)?;
+    let changed = assembled(alloc, &parts[..at], first, second, &parts[at + 1..])?;
+    Ok((changed, tally))
 }
 
 /// The parts in one list, or in two where they are too many for one.

@@ -3,10 +3,11 @@ ghost use Rattle.std.specs.Prelude.{◌≡◌, ◌<◌, ◌+◌, [], ◌∷◌, 
 ghost use Rattle.std.specs.List.{All, flat_map};
 ghost use Rattle.std.specs.BTreeMap.Range.{entries_from};
 ghost use Rattle.chunk_map.specs.Sorted.{IsAscending};
-ghost use Rattle.chunk_map.specs.Groups.{chunk_pairs, group_pairs, IsWholeChunk, IsWholeGroup};
+ghost use Rattle.chunk_map.specs.Groups.{chunk_pairs, group_pairs, section_pairs, IsWholeChunk, IsWholeGroup, IsWholeSection};
+ghost use Rattle.chunk_map.specs.Levels.{AreWhole, pairs_in};
 
 use crate::Shared;
-use crate::map::{Chunk, Group};
+use crate::levels::{Chunk, Group, Levels, Section};
 use crate::parts::{cut, find, first};
 use rd_base::Steps;
 use std::cmp::Ordering;
@@ -20,20 +21,22 @@ pub struct RangeIter<'a, K: Ord + Shared, V: Shared> {
     pairs: &'a [(K, V)],
     /// The chunks after that one in its group.
     chunks: &'a [Chunk<K, V>],
-    /// The groups after that group.
+    /// The groups after that group in its section.
     groups: &'a [Group<K, V>],
+    /// The sections after that section.
+    sections: &'a [Section<K, V>],
 }
 
 impl<'a, K: Ord + Shared, V: Shared> Model for RangeIter<'a, K, V> {
     ghost use Rattle.std.specs.Prelude.{List, ◌++◌};
     ghost use Rattle.std.specs.List.{All, flat_map};
-    ghost use Rattle.chunk_map.specs.Groups.{chunk_pairs, group_pairs, IsWholeChunk, IsWholeGroup};
+    ghost use Rattle.chunk_map.specs.Groups.{chunk_pairs, group_pairs, section_pairs, IsWholeChunk, IsWholeGroup, IsWholeSection};
 
     ghost Value = { List (K × V) };
 
-    ghost view = { λ r. r.pairs.now ++ (flat_map chunk_pairs r.chunks.now ++ flat_map group_pairs r.groups.now) };
+    ghost view = { λ r. r.pairs.now ++ (flat_map chunk_pairs r.chunks.now ++ (flat_map group_pairs r.groups.now ++ flat_map section_pairs r.sections.now)) };
 
-    ghost invariant = { λ r. All IsWholeChunk r.chunks.now × All IsWholeGroup r.groups.now };
+    ghost invariant = { λ r. All IsWholeChunk r.chunks.now × All IsWholeGroup r.groups.now × All IsWholeSection r.sections.now };
 }
 
 /// The pairs from the first key that is not below this one.
@@ -72,56 +75,164 @@ fn chunks_of<'a, K: Ord + Shared, V: Shared>(group: &'a Group<K, V>) -> &'a [Chu
     group.as_slice()
 }
 
-/// The pairs of the next chunk, and the chunks and groups after it; None if and only if there is none.
+/// The groups of a section.
+fn groups_of<'a, K: Ord + Shared, V: Shared>(section: &'a Section<K, V>) -> &'a [Group<K, V>]
+    requires { IsWholeSection section.now }
+    ensures pairs { flat_map group_pairs result.now ≡ section_pairs section.now }
+    ensures any { 0 < length result.now }
+    ensures whole { All IsWholeGroup result.now }
+{
+    section.as_slice()
+}
+
+/// The next group, and the groups and sections after it; None if and only if there is none.
+fn next_group<'a, K: Ord + Shared, V: Shared>(
+    groups: &'a [Group<K, V>],
+    sections: &'a [Section<K, V>],
+) -> Option<(&'a Group<K, V>, &'a [Group<K, V>], &'a [Section<K, V>])>
+    requires groups { All IsWholeGroup groups.now }
+    requires sections { All IsWholeSection sections.now }
+    ensures pairs { IfSome result (λ next. group_pairs next.0.now ++ (flat_map group_pairs next.1.now ++ flat_map section_pairs next.2.now) ≡ flat_map group_pairs groups.now ++ flat_map section_pairs sections.now) }
+    ensures group { IfSome result (λ next. IsWholeGroup next.0.now) }
+    ensures groups { IfSome result (λ next. All IsWholeGroup next.1.now) }
+    ensures sections { IfSome result (λ next. All IsWholeSection next.2.now) }
+    ensures end { IfNone result (flat_map group_pairs groups.now ++ flat_map section_pairs sections.now ≡ []) }
+{
+    if !groups.is_empty() {
+        let (group, groups) = first(groups);
+        return Some((group, groups, sections));
+    }
+    if sections.is_empty() {
+        return None;
+    }
+    let (section, sections) = first(sections);
+    let (group, groups) = first(groups_of(section));
+    Some((group, groups, sections))
+}
+
+/// The pairs of the next chunk, and the chunks, groups and sections after it.
+type Next<'a, K, V> = (
+    &'a [(K, V)],
+    &'a [Chunk<K, V>],
+    &'a [Group<K, V>],
+    &'a [Section<K, V>],
+);
+
+/// The next chunk; None if and only if there is none.
 fn next_chunk<'a, K: Ord + Shared, V: Shared>(
     chunks: &'a [Chunk<K, V>],
     groups: &'a [Group<K, V>],
-) -> Option<(&'a [(K, V)], &'a [Chunk<K, V>], &'a [Group<K, V>])>
+    sections: &'a [Section<K, V>],
+) -> Option<Next<'a, K, V>>
     requires chunks { All IsWholeChunk chunks.now }
     requires groups { All IsWholeGroup groups.now }
-    ensures pairs { IfSome result (λ next. next.0.now ++ (flat_map chunk_pairs next.1.now ++ flat_map group_pairs next.2.now) ≡ flat_map chunk_pairs chunks.now ++ flat_map group_pairs groups.now) }
+    requires sections { All IsWholeSection sections.now }
+    ensures pairs { IfSome result (λ next. next.0.now ++ (flat_map chunk_pairs next.1.now ++ (flat_map group_pairs next.2.now ++ flat_map section_pairs next.3.now)) ≡ flat_map chunk_pairs chunks.now ++ (flat_map group_pairs groups.now ++ flat_map section_pairs sections.now)) }
     ensures any { IfSome result (λ next. 0 < length next.0.now) }
     ensures chunks { IfSome result (λ next. All IsWholeChunk next.1.now) }
     ensures groups { IfSome result (λ next. All IsWholeGroup next.2.now) }
-    ensures end { IfNone result (flat_map chunk_pairs chunks.now ++ flat_map group_pairs groups.now ≡ []) }
+    ensures sections { IfSome result (λ next. All IsWholeSection next.3.now) }
+    ensures end { IfNone result (flat_map chunk_pairs chunks.now ++ (flat_map group_pairs groups.now ++ flat_map section_pairs sections.now) ≡ []) }
 {
     if !chunks.is_empty() {
         let (chunk, chunks) = first(chunks);
-        return Some((pairs_of(chunk), chunks, groups));
+        return Some((pairs_of(chunk), chunks, groups, sections));
     }
-    if groups.is_empty() {
-        return None;
-    }
-    let (group, groups) = first(groups);
+    let (group, groups, sections) = next_group(groups, sections)?;
     let (chunk, chunks) = first(chunks_of(group));
-    Some((pairs_of(chunk), chunks, groups))
+    Some((pairs_of(chunk), chunks, groups, sections))
+}
+
+/// The pairs of these chunks from the first key that is not below this one: those of the first chunk, and the chunks after it.
+fn in_chunks<'a, K: Ord + Shared, V: Shared>(
+    chunks: &'a [Chunk<K, V>],
+    from: &K,
+) -> (&'a [(K, V)], &'a [Chunk<K, V>])
+    requires whole { All IsWholeChunk chunks.now }
+    requires ascends { IsAscending K.cmp (flat_map chunk_pairs chunks.now) }
+    ensures pairs { result.0.now ++ flat_map chunk_pairs result.1.now ≡ entries_from (K.cmp from.now) (flat_map chunk_pairs chunks.now) }
+    ensures whole { All IsWholeChunk result.1.now }
+{
+    let Some((chunk, chunks)) = cut(chunks, from) else {
+        return (&[], &[]);
+    };
+    (pairs_from(pairs_of(chunk), from), chunks)
+}
+
+/// The pairs of these groups from the first key that is not below this one: those of the first chunk, and the chunks and
+/// groups after it.
+fn in_groups<'a, K: Ord + Shared, V: Shared>(
+    groups: &'a [Group<K, V>],
+    from: &K,
+) -> (&'a [(K, V)], &'a [Chunk<K, V>], &'a [Group<K, V>])
+    requires whole { All IsWholeGroup groups.now }
+    requires ascends { IsAscending K.cmp (flat_map group_pairs groups.now) }
+    ensures pairs { result.0.now ++ (flat_map chunk_pairs result.1.now ++ flat_map group_pairs result.2.now) ≡ entries_from (K.cmp from.now) (flat_map group_pairs groups.now) }
+    ensures chunks { All IsWholeChunk result.1.now }
+    ensures groups { All IsWholeGroup result.2.now }
+{
+    let Some((group, groups)) = cut(groups, from) else {
+        return (&[], &[], &[]);
+    };
+    let (pairs, chunks) = in_chunks(chunks_of(group), from);
+    (pairs, chunks, groups)
+}
+
+/// The pairs of these sections from the first key that is not below this one: those of the first chunk, and the chunks, groups
+/// and sections after it.
+fn in_sections<'a, K: Ord + Shared, V: Shared>(
+    sections: &'a [Section<K, V>],
+    from: &K,
+) -> Next<'a, K, V>
+    requires whole { All IsWholeSection sections.now }
+    requires ascends { IsAscending K.cmp (flat_map section_pairs sections.now) }
+    ensures pairs { result.0.now ++ (flat_map chunk_pairs result.1.now ++ (flat_map group_pairs result.2.now ++ flat_map section_pairs result.3.now)) ≡ entries_from (K.cmp from.now) (flat_map section_pairs sections.now) }
+    ensures chunks { All IsWholeChunk result.1.now }
+    ensures groups { All IsWholeGroup result.2.now }
+    ensures sections { All IsWholeSection result.3.now }
+{
+    let Some((section, sections)) = cut(sections, from) else {
+        return (&[], &[], &[], &[]);
+    };
+    let (pairs, chunks, groups) = in_groups(groups_of(section), from);
+    (pairs, chunks, groups, sections)
 }
 
 impl<'a, K: Ord + Shared, V: Shared> RangeIter<'a, K, V> {
-    /// A cursor over the pairs of these groups from the first key that is not below this one.
-    pub(crate) fn from(groups: &'a [Group<K, V>], from: &K) -> RangeIter<'a, K, V>
-        requires whole { All IsWholeGroup groups.now }
-        requires ascends { IsAscending K.cmp (flat_map group_pairs groups.now) }
-        ensures { result ≡ entries_from (K.cmp from.now) (flat_map group_pairs groups.now) }
+    /// A cursor over the pairs in these levels from the first key that is not below this one.
+    pub(crate) fn from(levels: &'a Levels<K, V>, from: &K) -> RangeIter<'a, K, V>
+        requires whole { AreWhole levels.now }
+        requires ascends { IsAscending K.cmp (pairs_in levels.now) }
+        ensures { result ≡ entries_from (K.cmp from.now) (pairs_in levels.now) }
     {
-        let Some((group, groups)) = cut(groups, from) else {
-            return RangeIter {
-                pairs: &[],
-                chunks: &[],
-                groups: &[],
-            };
-        };
-        let Some((chunk, chunks)) = cut(chunks_of(group), from) else {
-            return RangeIter {
-                pairs: &[],
-                chunks: &[],
-                groups,
-            };
-        };
-        RangeIter {
-            pairs: pairs_from(pairs_of(chunk), from),
-            chunks,
-            groups,
+        match levels {
+            Levels::Chunks(chunks) => {
+                let (pairs, chunks) = in_chunks(chunks.as_slice(), from);
+                RangeIter {
+                    pairs,
+                    chunks,
+                    groups: &[],
+                    sections: &[],
+                }
+            }
+            Levels::Groups(groups) => {
+                let (pairs, chunks, groups) = in_groups(groups.as_slice(), from);
+                RangeIter {
+                    pairs,
+                    chunks,
+                    groups,
+                    sections: &[],
+                }
+            }
+            Levels::Sections(sections) => {
+                let (pairs, chunks, groups, sections) = in_sections(sections.as_slice(), from);
+                RangeIter {
+                    pairs,
+                    chunks,
+                    groups,
+                    sections,
+                }
+            }
         }
     }
 
@@ -138,11 +249,16 @@ impl<'a, K: Ord + Shared, V: Shared> RangeIter<'a, K, V> {
                 Some((&first.0, &first.1))
             }
             None => {
-                let (pairs, chunks, groups) = next_chunk(self.chunks, self.groups)?;
+                let (pairs, chunks, groups, sections) = next_chunk(
+                    self.chunks,
+                    self.groups,
+                    self.sections,
+                )?;
                 let (first, rest) = pairs.split_first()?;
                 self.pairs = rest;
                 self.chunks = chunks;
                 self.groups = groups;
+                self.sections = sections;
                 Some((&first.0, &first.1))
             }
         }

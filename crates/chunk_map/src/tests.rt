@@ -3,6 +3,7 @@
 ghost use Rattle.std.specs.Prelude.{◌≡◌, ◌<◌};
 
 use super::*;
+use crate::levels::{Group, Levels};
 use rd_base::{Starved, Steps};
 use std::alloc::Global;
 use std::collections::BTreeMap;
@@ -143,6 +144,79 @@ fn as_a_plain_map(rt: HostRuntime) -> Result<(), Fail> {
     assert_eq!(rt; map.len(), 6000);
     for key in 0..6000 {
         map = map.take(&u64::wrapping_sub(5999, key))?;
+    }
+    assert_eq!(rt; map.len(), 0);
+    Ok(())
+}
+
+/// How many pairs are put, and how many of them are taken again.
+const PUTS: u64 = 10_000;
+
+const TAKES: u64 = 9_900;
+
+/// How many chunks groups have.
+fn chunks_in(groups: &[Group<u64, ()>]) -> usize {
+    let mut count = 0;
+    for group in groups {
+        count = usize::saturating_add(count, group.len());
+    }
+    count
+}
+
+/// How many chunks there are.
+fn count_chunks(levels: &Levels<u64, ()>) -> usize {
+    match levels {
+        Levels::Chunks(chunks) => chunks.len(),
+        Levels::Groups(groups) => chunks_in(groups.as_slice()),
+        Levels::Sections(sections) => {
+            let mut count = 0;
+            for section in sections {
+                count = usize::saturating_add(count, chunks_in(section.as_slice()));
+            }
+            count
+        }
+    }
+}
+
+/// Small chunks are joined: where most pairs were taken, chunks are at least a quarter full on the whole.
+#[test]
+fn chunks_are_joined(rt: HostRuntime) -> Result<(), Fail> {
+    let mut map = ChunkMap::empty(rt.alloc())?;
+    for key in 0..PUTS {
+        map = map.put(key, ())?;
+    }
+    for take in 0..TAKES {
+        map = map.take(&(u64::wrapping_mul(take, 7919) % PUTS))?;
+    }
+    assert_eq!(rt; map.len(), 100);
+    let chunks = count_chunks(map.levels());
+    assert!(rt; chunks <= 16, "{chunks}");
+    Ok(())
+}
+
+/// A map is as before where a put or a take of it runs out of memory, and the same call serves once there is some.
+#[test]
+fn as_before_out_of_memory(rt: HostRuntime) -> Result<(), Fail> {
+    let mut map = ChunkMap::empty(rt.alloc())?;
+    for key in 0..60 {
+        let more = match map.put(key, key) {
+            Ok(more) => more,
+            Err(Starved) => map.put(key, key)?,
+        };
+        assert_eq!(rt; map.len(), key);
+        assert_eq!(rt; map.get(&key), None);
+        assert_eq!(rt; more.get(&key), Some(&key));
+        map = more;
+    }
+    for key in 0..60 {
+        let fewer = match map.take(&key) {
+            Ok(fewer) => fewer,
+            Err(Starved) => map.take(&key)?,
+        };
+        assert_eq!(rt; map.len(), u64::wrapping_sub(60, key));
+        assert_eq!(rt; map.get(&key), Some(&key));
+        assert_eq!(rt; fewer.get(&key), None);
+        map = fewer;
     }
     assert_eq!(rt; map.len(), 0);
     Ok(())

@@ -1,20 +1,19 @@
 -- Lists of records of which one is made anew, taken out or put at the end: what is in order, what is live, and what they weigh.
-use Rattle.std.proofs.Common.{◌≡◌, ℕ, ◌+◌, ◌<◌, ◌==◌, ◌&&◌, ◌||◌, nat_lt, Bool, true, false, not, cond, List, [], ◌∷◌, ◌++◌, map, filter, find, length, sum_by, Option, Some, None, refl, sym, ap, ◌∙◌, subst, append-nil, arith, eqb-true, ne_eqb}
+use Rattle.std.proofs.Common.{◌≡◌, ℕ, ◌+◌, ◌<◌, ◌==◌, ◌&&◌, ◌||◌, nat_lt, Bool, true, false, not, cond, List, [], ◌∷◌, ◌++◌, map, filter, length, sum_by, Some, refl, sym, ap, ◌∙◌, subst, append-nil, arith, eqb-true, ne_eqb}
 use Rattle.std.specs.List.{AllByRecursion}
 use Rattle.std.proofs.lemmas.Bool.{true≢false}
 use Rattle.std.proofs.lemmas.Bool.Decides.{nat_tests}
 use Rattle.std.proofs.lemmas.List.Sums.{sum_by-cons}
 use Rattle.rd_base.specs.declared.records.Record.{Record}
-use Rattle.rd_base.proofs.lemmas.Each.{each_weaker, each_both, each_map, each_filter, each_one}
+use Rattle.rd_base.proofs.lemmas.Each.{each_weaker}
 use Rattle.rd_base.proofs.lemmas.Filters.{filter_all}
-use Rattle.rd_base.proofs.lemmas.Pairs.{PairsByRecursion, pairs_filter}
+use Rattle.rd_base.proofs.lemmas.Pairs.{PairsByRecursion}
 use Rattle.history_model.specs.Replay.{is_numbered, numbered, with_changed}
 use Rattle.history_model.proofs.NumberLaws.{IsBelow}
 use Rattle.directory_core.specs.AfterEntries.{renewed, without}
 use Rattle.directory_core.specs.LapseOrder.{stands_before, placed, in_order_of}
 use Rattle.directory_core.specs.NumberOrder.{with_record}
 use Rattle.directory_core.proofs.InOrderLaws.{DifferFrom, placed_swapped, in_order_middle, each_in_order}
-use Rattle.directory_core.proofs.SlotLaws.{below_differ}
 
 -- ---- the record of a number
 
@@ -58,7 +57,7 @@ known_of P number r (x ∷ xs) all found = by (is_numbered number x) found (know
 pub none_numbered : (number : ℕ) (rs : List Record) → AllByRecursion (λ x. is_numbered number x ≡ false) rs → without number rs ≡ rs
 none_numbered number rs all = filter_all (λ r. not (is_numbered number r)) rs (each_weaker (λ x. is_numbered number x ≡ false) (λ x. not (is_numbered number x) ≡ true) (λ x e. ap not e) rs all)
 
-unchanged : (number : ℕ) (new : Record → Record) (rs : List Record) → AllByRecursion (λ x. is_numbered number x ≡ false) rs → with_changed number new rs ≡ rs
+pub unchanged : (number : ℕ) (new : Record → Record) (rs : List Record) → AllByRecursion (λ x. is_numbered number x ≡ false) rs → with_changed number new rs ≡ rs
 unchanged number new [] all = refl
 unchanged number new (x ∷ xs) all = let here = all.0 in let more = unchanged number new xs all.1 in rw (here, more) refl
 

@@ -1,25 +1,34 @@
 -- The index of records: what it has of a record, and what it has after a change.
-use Rattle.std.proofs.Common.{◌≡◌, ℕ, ◌<◌, ◌==◌, ◌||◌, ◌&&◌, Bool, true, false, not, cond, List, [], ◌∷◌, ◌++◌, map, filter, bytes_eq, codes, Option, Some, None, Result, Ok, Err, refl, sym, ap, ap₂, ◌∙◌, subst, append_assoc, arith, eqb-true, ne_eqb}
+use Rattle.std.proofs.Common.{◌≡◌, ℕ, ◌==◌, ◌||◌, ◌&&◌, Bool, true, false, not, cond, List, [], ◌∷◌, ◌++◌, map, bytes_eq, codes, Some, Result, Ok, Err, refl, sym, ap, ap₂, ◌∙◌, subst, append_assoc, arith, eqb-true}
 use Rattle.std.specs.Prelude.{IfOk}
 use Rattle.std.specs.List.{AllByRecursion, list_any, flat_map}
 use Rattle.std.proofs.lemmas.Bool.{true≢false, and_parts}
 use Rattle.std.proofs.lemmas.Bool.Decides.{nat_tests}
-use Rattle.std.proofs.lemmas.List.Folds.{list_any-append}
+use Rattle.std.proofs.lemmas.Iterator.{YieldsList, YieldsList-from_slice}
+use Rattle.std.proofs.lemmas.List.Folds.{list_any-append, flat_map-map}
+use Rattle.std.proofs.lemmas.Fn.{fronts}
+use Rattle.std.proofs.lemmas.Slice.Eq.{bytes_eq-Decides, slice_eq-Decides}
+use Rattle.std.specs.Bool.{Decides}
+use Rattle.std.specs.Cmp.Lexicographic.{pointwise}
+use Rattle.std.specs.Iterator.{AlwaysYields}
+use Rattle.std.specs.declared.slice.Iter.{Iter}
+use Rattle.std.specs.Slice.Iter.{iter_rest}
 use Rattle.rd_base.specs.declared.attributes.Pair.{Pair}
 use Rattle.rd_base.specs.declared.records.Item.{Item}
+use Rattle.rd_base.specs.declared.records.Name.{Name}
 use Rattle.rd_base.specs.declared.records.Record.{Record}
-use Rattle.rd_base.proofs.lemmas.Each.{each_weaker, each_append, each_one, each_passes}
+use Rattle.rd_base.proofs.lemmas.Each.{each_append}
 use Rattle.rd_base.proofs.lemmas.Pairs.{PairsByRecursion}
 use Rattle.record_model.specs.ListingLines.{own_pairs}
 use Rattle.record_model.specs.Matching.{endpoint_type, sector_pairs, endpoint_pairs}
 use Rattle.attribute_index.specs.Entries.{Entry, IsAscending, is_same, has_entry, values_of, entries_of, entries_of_all}
-use Rattle.attribute_index.proofs.EntryLaws.{has_entry-all, has_entry-all_append}
-use Rattle.history_model.specs.Replay.{is_numbered, numbered, with_changed}
+use Rattle.attribute_index.proofs.EntryLaws.{has_entry-all_append}
+use Rattle.history_model.specs.Replay.{is_numbered, numbered}
 use Rattle.history_model.proofs.NumberLaws.{IsBelow}
 use Rattle.directory_core.specs.AfterEntries.{renewed, without}
 use Rattle.directory_core.specs.Bounds.{pairs_of, record_entries, AreEntriesOf}
 use Rattle.directory_core.specs.IndexedPairs.{item_pairs}
-use Rattle.directory_core.proofs.ChangeLaws.{others_behind, none_numbered}
+use Rattle.directory_core.proofs.ChangeLaws.{others_behind, none_numbered, unchanged}
 
 -- ---- pairs one after another
 
@@ -80,6 +89,46 @@ without_parts start one two three own attrs links all a b c d = c ∙ ap (λ x. 
     by true true t l = refl
     by true false true l = refl
     by true false false l = refl
+
+-- ---- records that carry the same attributes
+
+own_alike : (r old : Record) → r.name ≡ old.name → r.base ≡ old.base → own_pairs r ≡ own_pairs old
+own_alike r old name base = ap₂ own base name
+  where
+    own : List ℕ → Name → List Pair
+    own base name = record { name = codes "base"; value = base } ∷ record { name = codes "ep"; value = name.ep } ∷ (sector_pairs name.sector ++ (record { name = codes "rt"; value = endpoint_type } ∷ []))
+
+links_alike : (items others : List Item) → map (λ (i : Item). i.pairs) items ≡ map (λ (i : Item). i.pairs) others → item_pairs items ≡ item_pairs others
+links_alike items others same =
+    sym (flat_map-map (λ (ps : List Pair). ps) (λ (i : Item). i.pairs) items) ∙ ap (flat_map (λ (ps : List Pair). ps)) same ∙ flat_map-map (λ (ps : List Pair). ps) (λ (i : Item). i.pairs) others
+
+-- of one number and one name, with the same base, extra attributes and attributes of the links
+pub entries_alike : (old new : Record) → new.number ≡ old.number → new.name ≡ old.name → old.base ≡ new.base → old.attrs ≡ new.attrs → map (λ (i : Item). i.pairs) old.items ≡ map (λ (i : Item). i.pairs) new.items → record_entries new ≡ record_entries old
+entries_alike old new number name base attrs links =
+    let own : own_pairs old ≡ own_pairs new = own_alike old new (sym name) base in
+    let more : old.attrs ++ item_pairs old.items ≡ new.attrs ++ item_pairs new.items = ap₂ (λ (extra linked : List Pair). extra ++ linked) attrs (links_alike old.items new.items links) in
+    sym (ap₂ entries_of_all (sym (pairs_split old) ∙ ap₂ (λ (front end : List Pair). front ++ end) own more ∙ pairs_split new) (sym number))
+
+-- attributes that are compared one by one
+pub pairs_decided : (xs ys : List Pair) (same : Bool) → same ≡ pointwise (λ x y. bytes_eq x.name y.name && bytes_eq x.value y.value) xs ys → Decides same (xs ≡ ys)
+pairs_decided xs ys same is = slice_eq-Decides one xs ys same is
+  where
+    made : List ℕ → List ℕ → Pair
+    made name value = record { name = name; value = value }
+
+    one : (x y : Pair) → Decides (bytes_eq x.name y.name && bytes_eq x.value y.value) (x ≡ y)
+    one x y = (
+      λ same. let parts = and_parts (bytes_eq x.name y.name) (bytes_eq x.value y.value) same in ap₂ made ((bytes_eq-Decides x.name y.name).0 parts.0) ((bytes_eq-Decides x.value y.value).0 parts.1),
+      λ same. ap₂ (λ a b. a && b) ((bytes_eq-Decides x.name y.name).1 (ap (λ (p : Pair). p.name) same)) ((bytes_eq-Decides x.value y.value).1 (ap (λ (p : Pair). p.value) same)),
+    )
+
+-- what a slice of links gives, by their attributes
+pub pairs_from_slice : {s : Iter Item} (items : List Item) → iter_rest s ≡ items → YieldsList fronts (λ y. y.now.pairs) s (map (λ (i : Item). i.pairs) items)
+pairs_from_slice items e = let whole = YieldsList-from_slice items e in record { runs = seen items _ whole.runs }
+  where
+    seen : (items : List Item) (s : Iter Item) → AlwaysYields fronts (λ y. y.now) s items → AlwaysYields fronts (λ y. y.now.pairs) s (map (λ (i : Item). i.pairs) items)
+    seen [] s none = none
+    seen (item ∷ items) s more = (more.0, λ x j step. let next = more.1 x j step in (ap (λ (i : Item). i.pairs) next.0, seen items j next.1))
 
 -- ---- the number of an entry
 
@@ -194,11 +243,7 @@ entries_renewed rs r old index after up found are put once = record { once = onc
         joined false b c = refl
 
         same_rest : AllByRecursion (λ y. is_numbered r.number y ≡ false) xs → renewed r xs ≡ without r.number xs
-        same_rest none = unchanged_rest xs none ∙ sym (none_numbered r.number xs none)
-          where
-            unchanged_rest : (ys : List Record) → AllByRecursion (λ y. is_numbered r.number y ≡ false) ys → renewed r ys ≡ ys
-            unchanged_rest [] all = refl
-            unchanged_rest (y ∷ ys) all = let here = all.0 in let more = unchanged_rest ys all.1 in rw (here, more) refl
+        same_rest none = unchanged r.number (λ _. r) xs none ∙ sym (none_numbered r.number xs none)
 
         by : (n : Bool) → is_numbered r.number x ≡ n → cond n (Some x) (numbered r.number xs) ≡ Some old → (numbered r.number xs ≡ Some old → list_any (has e) (renewed r xs) ≡ (list_any (has e) (without r.number xs) || has e r))
             → (has e (cond n r x) || list_any (has e) (renewed r xs)) ≡ (list_any (has e) (cond (not n) (x ∷ without r.number xs) (without r.number xs)) || has e r)
@@ -207,6 +252,22 @@ entries_renewed rs r old index after up found are put once = record { once = onc
             ap (λ ys. has e r || list_any (has e) ys) (same_rest none) ∙ swapped (has e r) (list_any (has e) (without r.number xs))
         by false en f more = ap (λ b. has e x || b) (more f) ∙ joined (has e x) (list_any (has e) (without r.number xs)) (has e r)
 
+-- with a record in place of that of its number, where both have the same entries
+pub entries_kept : (rs : List Record) (r old : Record) (index : List Entry) → PairsByRecursion IsBelow rs → numbered r.number rs ≡ Some old → record_entries r ≡ record_entries old → AreEntriesOf rs index → AreEntriesOf (renewed r rs) index
+entries_kept rs r old index up found alike are = record { once = are.once; there = λ e. are.there e ∙ kept e rs up found }
+  where
+    kept : (e : Entry) (xs : List Record) → PairsByRecursion IsBelow xs → numbered r.number xs ≡ Some old → list_any (has e) xs ≡ list_any (has e) (renewed r xs)
+    kept e [] up found = refl
+    kept e (x ∷ xs) up found = by (is_numbered r.number x) refl found (kept e xs up.1)
+      where
+        by : (n : Bool) → is_numbered r.number x ≡ n → cond n (Some x) (numbered r.number xs) ≡ Some old → (numbered r.number xs ≡ Some old → list_any (has e) xs ≡ list_any (has e) (renewed r xs))
+            → (has e x || list_any (has e) xs) ≡ (has e (cond n r x) || list_any (has e) (renewed r xs))
+        by true en f more =
+            let same : x ≡ old = cc in
+            let none = others_behind r.number x xs (eqb-true x.number r.number en) up.0 in
+            ap₂ (λ a b. a || b) (ap (has e) same ∙ ap (λ es. has_entry es e) (sym alike)) (ap (list_any (has e)) (sym (unchanged r.number (λ _. r) xs none)))
+        by false en f more = ap (λ b. has e x || b) (more f)
+
 -- ---- where the index could be made
 
 pub ok_without : {E : Type 0} (r : Result (List Entry) E) (rs : List Record) (number : ℕ) (old shown : Record) (index : List Entry) → PairsByRecursion IsBelow rs → numbered number rs ≡ Some old → shown ≡ old → AreEntriesOf rs index
@@ -214,6 +275,13 @@ pub ok_without : {E : Type 0} (r : Result (List Entry) E) (rs : List Record) (nu
 ok_without (Ok after) rs number old shown index up found is are taken once =
     entries_without rs number old index after up found are (λ e. taken e ∙ ap (λ x. has_entry index e && not (has_entry (record_entries x) e)) is) once
 ok_without (Err error) rs number old shown index up found is are taken once = tt
+
+pub ok_renewed : {E : Type 0} (r : Result (List Entry) E) (rs : List Record) (new old : Record) (index left : List Entry) → PairsByRecursion IsBelow rs → numbered new.number rs ≡ Some old → AreEntriesOf rs index
+    → ((e : Entry) → has_entry left e ≡ (has_entry index e && not (has_entry (record_entries old) e))) → IsAscending left
+    → IfOk r (λ after. (e : Entry) → has_entry after e ≡ (has_entry left e || has_entry (record_entries new) e)) → IfOk r (λ after. IsAscending after) → IfOk r (AreEntriesOf (renewed new rs))
+ok_renewed (Ok after) rs new old index left up found are taken ascends put once =
+    entries_renewed rs new old left after up found (entries_without rs new.number old index left up found are taken ascends) put once
+ok_renewed (Err error) rs new old index left up found are taken ascends put once = tt
 
 pub ok_shared : {E : Type 0} (r : Result (List Entry) E) (rs left : List Record) (index : List Entry) → rs ≡ left → AreEntriesOf rs index → IfOk r (λ after. after ≡ index) → IfOk r (AreEntriesOf left)
 ok_shared (Ok after) rs left index same are is = subst (AreEntriesOf left) (sym is) (subst (λ xs. AreEntriesOf xs index) same are)

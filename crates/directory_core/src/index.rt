@@ -1,8 +1,13 @@
 //! Which values of which attributes a record carries, in the index of a version.
-ghost use Rattle.std.specs.Prelude.{◌≡◌, ◌||◌, ◌&&◌, not, IfOk};
+ghost use Rattle.std.specs.Prelude.{◌≡◌, ◌↔◌, ◌||◌, ◌&&◌, not, List, map, Some, IsTrue, IfOk};
 ghost use Rattle.attribute_index.specs.Entries.{Entry, IsAscending, has_entry, entries_of_all};
+ghost use Rattle.rd_base.specs.declared.records.Record.{Record};
+ghost use Rattle.rd_base.proofs.lemmas.Pairs.{PairsByRecursion};
 ghost use Rattle.record_model.specs.ListingLines.{own_pairs};
-ghost use Rattle.directory_core.specs.Bounds.{record_entries};
+ghost use Rattle.history_model.specs.Replay.{numbered};
+ghost use Rattle.history_model.proofs.NumberLaws.{IsBelow};
+ghost use Rattle.directory_core.specs.AfterEntries.{renewed};
+ghost use Rattle.directory_core.specs.Bounds.{record_entries, AreEntriesOf};
 ghost use Rattle.directory_core.specs.IndexedPairs.{item_pairs};
 
 use attribute_index::AttributeIndex;
@@ -143,4 +148,52 @@ pub(crate) fn index_without(
     let index = without_pairs(alloc, &index, record_of.attrs.as_slice(), number)?;
     let index = without_links(alloc, &index, record_of.items.as_slice(), number)?;
     Ok(index)
+}
+
+/// Whether two links carry the same attributes.
+fn carries_alike(item: &Item, other: &Item) -> bool
+    ensures { IsTrue result ↔ (item.now.pairs ≡ other.now.pairs) }
+{
+    item.pairs == other.pairs
+}
+
+/// Whether links carry the same attributes, one link after another.
+fn carry_alike(items: &[Item], others: &[Item]) -> bool
+    ensures { IsTrue result ↔ (map (λ item. item.pairs) items.now ≡ map (λ item. item.pairs) others.now) }
+{
+    items.len() == others.len()
+        && items
+            .iter()
+            .zip(others)
+            .all(|(item, other)| carries_alike(item, other))
+}
+
+/// Whether two records of one number and one name carry the same attributes, so that they have the same entries.
+fn is_indexed_alike(old: &Record, new: &Record) -> bool
+    requires numbered { new.now.number ≡ old.now.number }
+    requires named { new.now.name ≡ old.now.name }
+    ensures { IsTrue result → record_entries new.now ≡ record_entries old.now }
+{
+    old.base == new.base
+        && old.attrs == new.attrs
+        && carry_alike(old.items.as_slice(), new.items.as_slice())
+}
+
+/// The index with a record in place of one of its number and its name. Where both carry the same attributes, as where only a
+/// lease begins anew, that is the index as it is. `Starved`: out of memory.
+pub(crate) fn index_renewed(
+    alloc: Global,
+    index: &AttributeIndex,
+    old: &Record,
+    new: &Record,
+) -> Result<AttributeIndex, Starved>
+    requires numbered { new.now.number ≡ old.now.number }
+    requires named { new.now.name ≡ old.now.name }
+    ensures { (records : List Record) → PairsByRecursion IsBelow records → numbered old.now.number records ≡ Some old.now → AreEntriesOf records index.now → IfOk result (AreEntriesOf (renewed new.now records)) }
+{
+    if is_indexed_alike(old, new) {
+        return index.share(alloc);
+    }
+    let left = index_without(alloc, index, old)?;
+    index_with(alloc, &left, new)
 }

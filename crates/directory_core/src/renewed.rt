@@ -8,7 +8,7 @@ ghost use Rattle.directory_core.specs.AfterEntries.{renewed, without, after_entr
 ghost use Rattle.directory_core.specs.LiveCounts.{counts_of};
 
 use crate::counts::Counts;
-use crate::index::{index_with, index_without};
+use crate::index::{index_renewed, index_with, index_without};
 use crate::kept::Kept;
 use crate::room::{record_from, room_for_entry, text_with};
 use crate::{Directory, Refusal};
@@ -45,8 +45,7 @@ impl Directory {
         let leases = self.leases.take(old.lapse(), number)?;
         let leases = leases.put(kept.lapse(), number)?;
         let names = self.names.share()?;
-        let index = index_without(self.alloc, &self.index, old.as_record())?;
-        let index = index_with(self.alloc, &index, kept.as_record())?;
+        let index = index_renewed(self.alloc, &self.index, old.as_record(), kept.as_record())?;
         let records = self.records.put(kept)?;
         Ok(Directory {
             records,

@@ -113,6 +113,52 @@ upd 1008 1 L|||made
 record 1010 1|||node1 coap://h 60 1008 et=c <coap://h/light>;rt="light-lux";if="sensor"
 upd 1009 1 L|ep=x||refused
 empty - 0|||made
+reg 1 - P|ep=n&et=x|</s>;rt="a b";if=c,</t>;rt=a;ct=0|1
+reg 2 - P|ep=n&et=x|</s>;rt="a b";if=c,</t>;rt=a;ct=0|1
+record 2 1|||n coap://192.0.2.10 90000 2 et=x <coap://192.0.2.10/s>;rt="a b";if=c <coap://192.0.2.10/t>;rt=a;ct=0
+res 2|rt=a||<coap://192.0.2.10/s>;rt="a b";if=c,<coap://192.0.2.10/t>;rt=a;ct=0
+res 2|rt=b&if=c||<coap://192.0.2.10/s>;rt="a b";if=c
+res 2|ct=0&et=x&base=coap://192.0.2.10||<coap://192.0.2.10/t>;rt=a;ct=0
+reg 3 - P|ep=n&et=x|</s>;rt="a b";if=c,</t>;rt=d;ct=0|1
+res 3|rt=a||<coap://192.0.2.10/s>;rt="a b";if=c
+res 3|rt=d||<coap://192.0.2.10/t>;rt=d;ct=0
+reg 4 - P|ep=n&et=x|</t>;rt=d;ct=0,</s>;rt="a b";if=c|1
+res 4|rt=a||<coap://192.0.2.10/s>;rt="a b";if=c
+res 4|rt=*||<coap://192.0.2.10/t>;rt=d;ct=0,<coap://192.0.2.10/s>;rt="a b";if=c
+reg 5 - P|ep=n&et=x|</t>;rt=d;ct=0,</s>;rt=b;if=c|1
+res 5|rt=a||
+res 5|rt=b&if=c||<coap://192.0.2.10/s>;rt=b;if=c
+reg 6 - P|ep=n&et=x|</t>;rt=d,</s>;rt=b;if=c;ct=0|1
+res 6|ct=0||<coap://192.0.2.10/s>;rt=b;if=c;ct=0
+res 6|rt=d||<coap://192.0.2.10/t>;rt=d
+reg 7 - P|ep=n&et=y|</t>;rt=d,</s>;rt=b;if=c;ct=0|1
+ep 7|et=x||
+ep 7|et=y||</rd/1>;base="coap://192.0.2.10";ep="n";rt="core.rd-ep";et="y"
+reg 8 - P|ep=n&if=y|</t>;rt=d,</s>;rt=b;if=c;ct=0|1
+ep 8|et=y||
+ep 8|if=y&if=c||</rd/1>;base="coap://192.0.2.10";ep="n";rt="core.rd-ep";if="y"
+reg 9 - P|ep=n&if=y|</t>;rt=d,</u>;rt=b;if=c;ct=0|1
+res 9|rt=b||<coap://192.0.2.10/u>;rt=b;if=c;ct=0
+reg 10 - P|ep=n&if=y|</t>;rt=d|1
+res 10|rt=b||
+res 10|if=c||
+ep 10|ct||
+res 10|rt=d&if=y||<coap://192.0.2.10/t>;rt=d
+upd 11 1 P|lt=60||made
+record 11 1|||n coap://192.0.2.10 60 11 if=y <coap://192.0.2.10/t>;rt=d
+res 11|rt=d&if=y&base=coap://192.0.2.10||<coap://192.0.2.10/t>;rt=d
+upd 12 1 P|base=coap://h||made
+ep 12|base=coap://192.0.2.10||
+res 12|base=coap://h&rt=d||<coap://h/t>;rt=d
+upd 13 1 P|if=z||made
+ep 13|if=y||
+ep 13|if=z&rt=d||</rd/1>;base="coap://h";ep="n";rt="core.rd-ep";if="z"
+rem 14 1|||made
+res 14|rt=*||
+ep 14|if=*||
+back 14|||
+ep 14|if=z&rt=d||</rd/1>;base="coap://h";ep="n";rt="core.rd-ep";if="z"
+empty - 0|||made
 reg 1000 - P|ep=node1&lt=600&floor=3|</temp>;rt="temperature";ct=0,</light>;rt="light-lux";if="sensor"|1
 ep 1000|floor=3||</rd/1>;base="coap://192.0.2.10";ep="node1";rt="core.rd-ep";floor="3"
 upd 2000 1 P|floor=4&lt=60||made

@@ -17,6 +17,7 @@ mod listings;
 mod looks;
 mod maps;
 mod registrations;
+mod replays;
 mod sample_boards;
 mod sample_desks;
 mod tables;
@@ -38,6 +39,7 @@ fn measured<R: Threads + Wait + Net + Sync>(rt: &HostRuntime, threads: &R) -> Re
     listings::measured(rt)?;
     directories::measured(rt)?;
     desks::measured(rt)?;
+    replays::measured(rt)?;
     turns::measured(rt, threads)?;
     datagrams::measured(rt, threads)?;
     looks::measured(rt, threads)

@@ -4,6 +4,7 @@ pub mod AgainLaws
 pub mod AgainWalk
 pub mod RequestWalk
 pub mod NoticeWalk
+pub mod IdleTicks
 pub mod WholeTick
 pub mod PlanLaws
 pub mod SkipLaws

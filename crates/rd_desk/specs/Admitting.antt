@@ -1,5 +1,5 @@
 -- How a datagram is heard, and the job that it leaves.
-use Rattle.std.specs.Prelude.{◌≡◌, ℕ, Bool, true, false, List, [], ◌∷◌, Option, Some, None, Result, Ok, Err}
+use Rattle.std.specs.Prelude.{◌≡◌, ℕ, Bool, true, false, List, [], ◌∷◌, Option, Some, None, is_some, Result, Ok, Err}
 use Rattle.std.specs.List.{list_any}
 use Rattle.message_model.specs.declared.messages.Role.{Role}
 use Rattle.message_model.specs.declared.messages.Role.TheVariants as role
@@ -16,6 +16,7 @@ use Rattle.journal_model.specs.declared.rows.Row.{Row}
 use Rattle.journal_model.specs.Effects.{Effects, Reply, without_memory}
 use Rattle.journal_model.specs.Journal.{events}
 use Rattle.journal_model.specs.Requests.{refusal_of_request}
+use Rattle.journal_model.specs.Responses.{fetch_of}
 use Rattle.journal_model.specs.Rows.{row_moment}
 use Rattle.journal_model.specs.Writes.{write_effects}
 use Rattle.rd_desk.specs.declared.admissions.Admitted.{Admitted}
@@ -64,13 +65,17 @@ abbrev pub request_takes : Option Reply → List Row → ℕ → Step → Messag
 request_takes (Some refusal) rows moment s m = false
 request_takes None rows moment s m = served_takes (path_in m) rows moment s m
 
+-- a response takes memory where it belongs to a fetch
+abbrev pub response_takes : List Row → Step → Message → Bool
+response_takes rows s m = is_some (fetch_of s m (events rows))
+
 -- a message takes memory, by what it is for: no empty message does
 abbrev pub message_takes : Role → List Row → ℕ → Step → Message → Bool
 message_takes role.Ping rows moment s m = false
 message_takes role.Acknowledgement rows moment s m = false
 message_takes role.Reset rows moment s m = false
 message_takes role.Request rows moment s m = request_takes (refusal_of_request m) rows moment s m
-message_takes role.Response rows moment s m = true
+message_takes role.Response rows moment s m = response_takes rows s m
 message_takes role.Ignored rows moment s m = false
 
 -- what is read of a datagram takes memory after a journal

@@ -25,3 +25,4 @@ pub mod Watchers
 pub mod Responding
 pub mod Resending
 pub mod Planning
+pub mod Ticking

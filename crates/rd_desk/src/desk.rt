@@ -18,6 +18,7 @@ ghost use Rattle.rd_desk.specs.Desks.{StandsFor};
 ghost use Rattle.rd_desk.specs.Shown.{AreToldOf};
 ghost use Rattle.rd_desk.specs.Staging.{LeavesStaged};
 ghost use Rattle.rd_desk.specs.Stepping.{is_starved_step};
+ghost use Rattle.rd_desk.specs.Ticking.{tick_takes_memory};
 ghost use Rattle.rd_desk.specs.UnderWay.{IsCalled, Made};
 ghost use Rattle.rd_desk.specs.Watchers.{IsShown, IsObserverAfter};
 
@@ -117,7 +118,7 @@ impl<B: Board> Desk<B> {
         // The worker has the job of the write that the row admits, where it admits one.
         ensures held { (rows : List Row) (s : Step) → s.kind ≡ step.Admit → s.peer ≡ peer → s.datagram ≡ datagram.now → IsCalled rows s now mids.old self.old.tables
             → IsHeldFor result (row rows s (is_starved_admission result)).notes s (row_moment rows s) }
-        // Refusals, repeats and empty messages take no memory.
+        // Refusals, repeats, empty messages, and responses that belong to no fetch take no memory.
         ensures unstarved { (rows : List Row) (s : Step) → s.peer ≡ peer → s.datagram ≡ datagram.now → IsCalled rows s now mids.old self.old.tables
             → takes_memory rows (row_moment rows s) s (reading datagram.now) ≡ false → is_starved_admission result ≡ false }
         // Its version is staged where it makes an entry, and else nothing is.
@@ -184,13 +185,17 @@ impl<B: Board> Desk<B> {
 
     /// The step in which time passes, at a moment in milliseconds that is at most 10^15; one below that of the directory is lifted to it. Notices and requests whose wait has ended
     /// are sent again, and observers that are due are told, 64 at most; the first waits of what goes out are made from the word. Then what is old or has lapsed is dropped. `out` is
-    /// empty, and gets what is sent. `Starved`: out of memory; then nobody is told anew, and the rest is done (RFC 7252 section 4.2, RFC 7641 sections 4.2 and 4.5).
+    /// empty, and gets what is sent. `Starved`: out of memory; then nobody is told anew, and the rest is done (RFC 7252 section 4.2, RFC 7641 sections 4.2 and 4.5). Only notices
+    /// that are formed need memory: what has lapsed stays stored where there is none to drop it, and is listed no more all the same.
     pub fn tick(&mut self, now: Moment, word: u32, mids: &mut Mids, out: &mut Outbox) -> Stepped
         requires moment { now.0 ≤ 10 ^ 15 }
         requires empty { out.old ≡ [] }
         // The desk stands for the journal with the row of the step, which is what was sent and drawn.
         ensures made { (rows : List Row) (s : Step) → s.kind ≡ step.Tick → s.word ≡ word → IsCalled rows s now mids.old self.old.tables
             → Made rows (row rows s (is_starved_step result)) self.new.tables out.new mids.old mids.new }
+        // Where no observer is due whose peer waits for no notice, it takes no memory.
+        ensures unstarved { (rows : List Row) (s : Step) → s.kind ≡ step.Tick → IsCalled rows s now mids.old self.old.tables → tick_takes_memory rows (row_moment rows s) s ≡ false
+            → is_starved_step result ≡ false }
         ensures board { self.new.board ≡ self.old.board }
     {
         self.tables.tick(self.alloc, now, word, mids, out)
@@ -203,9 +208,13 @@ impl<B: Board> Desk<B> {
         &self.tables.version
     }
 
-    /// The greatest moment that was handed in, in milliseconds.
+    /// The greatest moment that was handed in, in milliseconds, at most 10^15. It is not before the last entry of the version of the registrations, and not before its last
+    /// sweep, so that the version can be asked at it.
     pub fn moment(&self) -> Moment
-        ensures { result.0 ≡ self.now.tables.moment }
+        ensures value { result.0 ≡ self.now.tables.moment }
+        ensures most { result.0 ≤ 10 ^ 15 }
+        ensures after_at { self.now.tables.version.at ≤ result.0 }
+        ensures after_sweep { self.now.tables.version.swept ≤ result.0 }
     {
         self.tables.moment
     }

@@ -18,6 +18,7 @@ ghost use Rattle.journal_model.specs.Responses.{strange, acknowledgement, reques
 ghost use Rattle.journal_model.specs.Rows.{row_moment};
 ghost use Rattle.simple_registration.specs.Table.{belongs_among};
 ghost use Rattle.rd_desk.specs.declared.mids.Mids.{Mids};
+ghost use Rattle.rd_desk.specs.Admitting.{response_takes};
 ghost use Rattle.rd_desk.specs.Outboxes.{most_datagrams};
 ghost use Rattle.rd_desk.specs.Outcomes.{IsPlanned, IsTimely};
 ghost use Rattle.rd_desk.specs.Responding.{asking_next, unless_starved, response_heard};
@@ -184,7 +185,8 @@ impl Tables {
     }
 
     /// A response that is heard: one that belongs to no fetch is rejected or ignored; of one that does, the next block is asked for, or the whole body is
-    /// registered, or the fetch ends (RFC 9176 section 5.1). Its first wait is made from the word. `Starved`: out of memory; then nothing is done.
+    /// registered, or the fetch ends (RFC 9176 section 5.1). Its first wait is made from the word. `Starved`: out of memory; then nothing is done. One that belongs to no
+    /// fetch takes no memory.
     pub(crate) fn hear_response<B: Board>(
         &mut self,
         alloc: Global,
@@ -200,6 +202,8 @@ impl Tables {
         requires told { AreToldOf self.old.version (B.told board.old) }
         ensures way { (rows : List Row) (s : Step) → s.peer ≡ peer → s.word ≡ word → UnderWay rows s (is_starved_step result) nothing self.old out.old mids.old
             → UnderWay rows s (is_starved_step result) (response_heard (is_starved_step result) rows s (message_in view.now)) self.new out.new mids.new }
+        ensures unstarved { (rows : List Row) (s : Step) → s.peer ≡ peer → UnderWay rows s false nothing self.old out.old mids.old → response_takes rows s (message_in view.now) ≡ false
+            → is_starved_step result ≡ false }
         ensures laid { IsLaid self.old.version self.new.version (B.staged board.old) (B.staged board.new) }
         ensures name { B.name board.new ≡ B.name board.old }
         ensures told { B.told board.new ≡ B.told board.old }

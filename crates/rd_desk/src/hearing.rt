@@ -161,7 +161,7 @@ impl Tables {
 
     /// The step that hears a datagram which does not only look ([`is_look`](crate::is_look)), at a moment that is at most 10^15; one below that of the
     /// tables is lifted to it. `out` is empty. A write that is admitted leaves the worker with a job. What is refused for itself, what is no request and no
-    /// response, a repeat of a write, and one for which there is no room take no memory.
+    /// response, a response that belongs to no fetch, a repeat of a write, and one for which there is no room take no memory.
     pub(crate) fn admit<B: Board>(
         &mut self,
         alloc: Global,

@@ -31,7 +31,7 @@ impl Mids {
     pub(crate) fn upcoming(&self) -> u16
         ensures { result ≡ mid_of self.now.worker self.now.drawn }
     {
-        u16::from(self.worker) * WORKER_MIDS + (self.drawn % u64::from(WORKER_MIDS)) as u16
+        self.after(0)
     }
 
     /// The one that is drawn after so many more.

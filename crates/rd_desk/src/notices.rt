@@ -23,6 +23,7 @@ ghost use Rattle.coap_message.specs.PartialMessages.{longest_datagram};
 ghost use Rattle.rd_desk.specs.Outboxes.{most_datagrams};
 ghost use Rattle.rd_desk.specs.Planning.{PlannedUpTo, AreDone, CarryingOut, with_answers, notices_done};
 ghost use Rattle.rd_desk.specs.Stepping.{is_starved_step};
+ghost use Rattle.rd_desk.specs.Ticking.{tick_takes_memory};
 ghost use Rattle.rd_desk.specs.UnderWay.{UnderWay};
 ghost use Rattle.rd_desk.specs.Watching.{WatchingStandsFor};
 
@@ -208,8 +209,8 @@ impl Tables {
         }
     }
 
-    /// The second part of a tick: observers that are due get a notice, one after the other, at most 64 in all. What takes memory comes before anything changes.
-    pub(crate) fn notices(
+    /// Observers of whom at least one is due and free get a notice, one after the other, at most 64 in all. What takes memory comes before anything changes.
+    fn send_notices(
         &mut self,
         alloc: Global,
         word: u32,
@@ -224,15 +225,36 @@ impl Tables {
         if self.plan_all(alloc, word, tag, mids, &mut plan).is_err() {
             return Stepped::Starved;
         }
-        let Plan { items, peers, kept } = plan;
-        if peers.is_empty() && items.is_empty() {
-            return Stepped::Done;
-        }
+        let Plan {
+            items,
+            peers: _,
+            kept,
+        } = plan;
         let Ok(ready) = self.transfers.ready(alloc, self.moment, Answers::of(kept)) else {
             return Stepped::Starved;
         };
         self.carry_out(items, mids, out);
         self.transfers.adopt(ready);
         Stepped::Done
+    }
+
+    /// The second part of a tick: observers that are due get a notice, one after the other, at most 64 in all. Where none is due whose peer waits for no notice, it takes no
+    /// memory.
+    pub(crate) fn notices(
+        &mut self,
+        alloc: Global,
+        word: u32,
+        mids: &mut Mids,
+        out: &mut Outbox,
+    ) -> Stepped
+        ensures way { (rows : List Row) (s : Step) → s.word ≡ word → UnderWay rows s (is_starved_step result) (ticks_of.notices_again rows (row_moment rows s)) self.old out.old mids.old
+            → UnderWay rows s (is_starved_step result) (notices_done (is_starved_step result) rows s) self.new out.new mids.new }
+        ensures unstarved { (rows : List Row) (s : Step) (starved : Bool) → UnderWay rows s starved (ticks_of.notices_again rows (row_moment rows s)) self.old out.old mids.old
+            → tick_takes_memory rows (row_moment rows s) s ≡ false → is_starved_step result ≡ false }
+    {
+        if self.watching.next_due(0).is_none() {
+            return Stepped::Done;
+        }
+        self.send_notices(alloc, word, mids, out)
     }
 }

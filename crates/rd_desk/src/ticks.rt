@@ -1,5 +1,5 @@
 //! The tick: what time makes due (RFC 7252 section 4.2, RFC 7641 sections 1.3 and 4.5, RFC 9176 section 5).
-ghost use Rattle.std.specs.Prelude.{◌≡◌, ◌<◌, ◌≤◌, ◌^◌, [], ℕ, Bool, List, IfOk};
+ghost use Rattle.std.specs.Prelude.{◌≡◌, ◌<◌, ◌≤◌, ◌^◌, [], ℕ, Bool, false, List, IfOk};
 ghost use Rattle.std.specs.Arc.{arc_value};
 ghost use Rattle.rd_base.specs.declared.peers.Peer.{Peer as Endpoint};
 ghost use Rattle.history_model.specs.declared.entries.Entry.{Entry};
@@ -7,10 +7,11 @@ ghost use Rattle.history_model.specs.Versions.{VersionStandsFor};
 ghost use Rattle.journal_model.specs.declared.steps.Step.{Step};
 ghost use Rattle.journal_model.specs.declared.steps.StepKind.TheVariants as step;
 ghost use Rattle.journal_model.specs.declared.rows.Row.{Row};
-ghost use Rattle.journal_model.specs.Rows.{row};
+ghost use Rattle.journal_model.specs.Rows.{row, row_moment};
 ghost use Rattle.journal_model.specs.Effects.{Effects};
 ghost use Rattle.rd_desk.specs.declared.mids.Mids.{Mids as Drawn};
 ghost use Rattle.rd_desk.specs.Stepping.{is_starved_step};
+ghost use Rattle.rd_desk.specs.Ticking.{tick_takes_memory};
 ghost use Rattle.rd_desk.specs.UnderWay.{UnderWay, IsCalled, Made};
 
 use crate::tables::Tables;
@@ -63,7 +64,8 @@ impl Tables {
     }
 
     /// The step of a tick, at a moment that is at most 10^15; one below that of the tables is lifted to it. Notices are sent again, due observers get new ones, and
-    /// requests of fetches are sent again; what is old or has lapsed is dropped. `Starved`: out of memory, and then there are no new notices. `out` is empty.
+    /// requests of fetches are sent again; what is old or has lapsed is dropped. `Starved`: out of memory, and then there are no new notices. Where no observer is due
+    /// whose peer waits for no notice, no memory is needed: a sweep that finds none leaves what has lapsed. `out` is empty.
     pub(crate) fn tick(
         &mut self,
         alloc: Global,
@@ -76,6 +78,8 @@ impl Tables {
         requires empty { out.old ≡ [] }
         ensures made { (rows : List Row) (s : Step) → s.kind ≡ step.Tick → s.word ≡ word → IsCalled rows s now mids.old self.old
             → Made rows (row rows s (is_starved_step result)) self.new out.new mids.old mids.new }
+        ensures unstarved { (rows : List Row) (s : Step) → s.kind ≡ step.Tick → IsCalled rows s now mids.old self.old → tick_takes_memory rows (row_moment rows s) s ≡ false
+            → is_starved_step result ≡ false }
     {
         self.pass(now);
         self.notices_again(out);

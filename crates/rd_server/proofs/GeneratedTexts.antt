@@ -1,5 +1,5 @@
 -- The lines of a generated trace: no printed line has a line feed, so what is read of the text line by line are the lines that were printed.
-use Rattle.std.proofs.Common.{◌≡◌, ◌≢◌, ℕ, zero, suc, lit<, ◌+◌, ◌*◌, ◌/◌, ◌%◌, ◌<◌, ◌≤◌, ◌^◌, ◌==◌, inl, inr, Bool, true, false, cond, List, [], ◌∷◌, ◌++◌, length, map, codes, decimal, slice_index, Option, Some, None, refl, sym, ap, subst, ◌∙◌, arith, append_assoc}
+use Rattle.std.proofs.Common.{◌≡◌, ◌≢◌, ℕ, zero, suc, lit<, ◌+◌, ◌*◌, ◌/◌, ◌%◌, ◌<◌, ◌≤◌, ◌^◌, ◌==◌, inl, inr, Bool, true, false, cond, List, [], ◌∷◌, ◌++◌, map, codes, decimal, slice_index, Some, None, refl, ap, ◌∙◌, arith, append_assoc}
 use Rattle.std.specs.Prelude.{option_map}
 use Rattle.std.specs.List.{AllByRecursion}
 use Rattle.std.specs.Net.Text.{ipv4_text}
@@ -12,13 +12,12 @@ use Rattle.std.proofs.lemmas.Str.Parse.{digit_at}
 use Rattle.hex.specs.Hex.{encode_with, encode_lower, lower_digits}
 use Rattle.rd_base.proofs.lemmas.Each.{each_append}
 use Rattle.rd_base.specs.declared.peers.Host.TheVariants as host
-use Rattle.rd_base.specs.declared.peers.Peer.{Peer}
 use Rattle.rd_base.specs.Peers.{peer_text}
 use Rattle.message_model.specs.Spelling.{spelling}
 use Rattle.line_model.specs.declared.lines.Line.{Line}
 use Rattle.line_model.specs.declared.lines.Line.TheVariants as line
 use Rattle.line_model.specs.Datagrams.{datagram_text}
-use Rattle.line_model.specs.Generator.{pace, device, onlooker, device_registration, observation, divides, observer_lines, tick_lines, device_lines, lines_up_to, generated_lines, text_of, generated}
+use Rattle.line_model.specs.Generator.{pace, device_registration, observation, divides, observer_lines, tick_lines, device_lines, lines_up_to, generated_lines, text_of, generated}
 use Rattle.line_model.specs.Lines.{space, joined, printed_fields, line_text}
 use Rattle.line_model.specs.Texts.{line_feed, lines_of}
 use Rattle.rd_server.specs.Fields.{cut, onto_first}
@@ -140,8 +139,7 @@ onlooker_fits k = at_index (λ x. x < 2 ^ 8) (10 ∷ 1 ∷ 0 ∷ 1 ∷ []) (lit<
 device_feedless : (workers i : ℕ) → 0 < workers → workers ≤ 16 → i ≤ 4_000 → AllByRecursion IsFeedless (device_lines workers i)
 device_feedless workers i some few low =
     let turn = mod_below i workers some in
-    let worker : i % workers < 2 ^ 64 = omega (arith, turn, few) in
-    (
+    let worker : i % workers < 2 ^ 64 = omega (arith, turn, few) in (
       come_feedless (i % workers) (pace * i) (10 ∷ 0 ∷ i / 256 ∷ i % 256 ∷ []) 5_683 (spelling (device_registration i)) worker (omega (arith, low)) (device_fits i (omega (arith, low))) (lit< tt),
       (
         go_feedless (i % workers) (pace * i + 1) worker (omega (arith, low)),

@@ -9,7 +9,7 @@ use Rattle.journal_model.specs.declared.steps.Step.{Step}
 use Rattle.journal_model.specs.Rows.{row}
 use Rattle.journal_model.specs.Machine.{run, unstarved}
 use Rattle.trace_model.specs.Output.{output}
-use Rattle.trace_model.specs.Steps.{Trace, trace_line, trace_from, step_of_line}
+use Rattle.trace_model.specs.Steps.{Trace, trace_line, trace_from, step_of_line, first_bad, journal as journal_of}
 use Rattle.rd_server.specs.Journal.{Journal, journal, goes_on, rows_after, whole_output}
 
 -- the journal that goes on with steps after rows, and a bad line

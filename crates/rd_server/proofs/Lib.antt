@@ -8,6 +8,8 @@ pub mod OtherWorkers
 pub mod EachWorker
 pub mod MachineLaws
 pub mod GeneratedTexts
+pub mod GeneratedMessages
+pub mod GeneratedTraces
 pub mod Cuts
 pub mod WrittenPieces
 pub mod LineDone
@@ -28,3 +30,5 @@ pub mod WordSteps
 pub mod WordValues
 pub mod WordShapes
 pub mod MadeCounts
+pub mod MadeTexts
+mod examples

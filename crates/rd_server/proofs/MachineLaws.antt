@@ -1,5 +1,5 @@
 -- The machine after a step of one of its workers.
-use Rattle.std.proofs.Common.{◌≡◌, ℕ, ◌<◌, ◌≤◌, ◌^◌, max, true, false, List, [], ◌∷◌, ◌++◌, codes, decimal, append_assoc, set, get_or, length, vec_len, Option, Some, None, Ok, refl, sym, ap, subst, ◌∙◌, is_some, IfSome, slice_get, nat_lt, arith}
+use Rattle.std.proofs.Common.{◌≡◌, ℕ, ◌<◌, ◌≤◌, ◌^◌, max, true, false, List, [], ◌∷◌, ◌++◌, codes, decimal, append_assoc, set, get_or, length, vec_len, Option, Some, None, Result, Ok, Err, refl, sym, ap, subst, ◌∙◌, is_some, IfSome, slice_get, nat_lt, arith}
 use Rattle.std.proofs.lemmas.Bool.{false≢true, ne_eqb, lt-ltb}
 use Rattle.std.proofs.lemmas.List.{length-set}
 use Rattle.std.proofs.lemmas.Option.{slice_get_within, slice_get_read}
@@ -10,6 +10,7 @@ use Rattle.history_model.specs.declared.entries.Entry.{Entry}
 use Rattle.history_model.specs.Live.{live}
 use Rattle.history_model.specs.Versions.{VersionStandsFor}
 use Rattle.event_model.specs.Observers.{observers}
+use Rattle.line_model.specs.declared.lines.Reason.{Reason}
 use Rattle.journal_model.specs.declared.rows.Row.{Row}
 use Rattle.journal_model.specs.declared.steps.Step.{Step}
 use Rattle.journal_model.specs.declared.steps.StepKind.TheVariants as step
@@ -26,7 +27,9 @@ use Rattle.rd_desk.specs.Desks.{StandsFor}
 use Rattle.rd_desk.proofs.observers.TickLaws.{length-StandsFor}
 use Rattle.rd_server.specs.declared.workers.Worker.{Worker}
 use Rattle.rd_server.specs.declared.machine.Machine.{Machine}
-use Rattle.rd_server.specs.Machines.{HoldsJob, IsWorkerAt, IsMachineAt, IsMachine, MayStep, Steps, Performs}
+use Rattle.rd_server.specs.declared.troubles.Trouble.{Trouble}
+use Rattle.rd_server.specs.declared.troubles.Trouble.TheVariants as trouble
+use Rattle.rd_server.specs.Machines.{HoldsJob, IsWorkerAt, IsMachineAt, IsMachine, MayStep, Steps, Performs, rows_with}
 use Rattle.rd_server.proofs.DeskSteps.{row-IsDeskJournal}
 use Rattle.rd_server.proofs.JobRows.{held-more}
 use Rattle.rd_server.proofs.OtherWorkers.{job_of-other, mids_drawn-other, latest-after}
@@ -164,7 +167,7 @@ came workers rows number moment peer datagram heard now old new before after at 
 pub went : (workers : ℕ) (rows : List Row) (number : ℕ) (moment : Moment) (now : Moment) (old new : Machine) (before after : Worker) → IsMachineAt workers rows old
     → Lent number moment.0 now old new before after → ((rows : List Row) (number : ℕ) → IsWorkerAt rows number before → true ≡ is_some (job_of number rows))
     → ((rows : List Row) (s : Step) → job_of s.worker rows ≡ Some (record { kind = s.kind; peer = s.peer; datagram = s.datagram }) → s.word ≡ 0 → MayStep rows s now old.desk.tables before
-        → Steps rows s new.desk.tables after new.sent)
+    → Steps rows s new.desk.tables after new.sent)
     → Performs workers rows (step_of_line workers rows (Ok (line.Go number moment))) new (Ok tt)
 went workers rows number moment now old new before after at lent busy does =
     by (job_of number rows) refl (busy rows number (worker_at workers rows old number before at lent.found))
@@ -213,3 +216,13 @@ end_is workers rows machine entered lives watchers at enters lives_are watch =
     ∙ (ap (λ n. ended (codes "end " ++ (decimal n ++ (codes " " ++ (decimal lives ++ (codes " " ++ decimal watchers)))))) entries_are
     ∙ (ap (λ n. ended (codes "end " ++ (decimal (length (entries rows)) ++ (codes " " ++ (decimal n ++ (codes " " ++ decimal watchers)))))) live_are
     ∙ ap (λ n. ended (codes "end " ++ (decimal (length (entries rows)) ++ (codes " " ++ (decimal (length (live (entries rows) (latest rows))) ++ (codes " " ++ decimal n)))))) observers_are))
+
+-- after a line the machine stands for some journal, unless memory ran out
+-- An end theorem, for programs that go on after a bad line: nothing here cites it.
+pub performs-IsMachine : (workers : ℕ) (rows : List Row) (said : Result (Option Step) Reason) (machine : Machine) (result : Result Unit Trouble) → (result ≡ Err trouble.Starved → ⊥) → Performs workers rows said machine result
+    → IsMachine machine
+performs-IsMachine workers rows (Ok made) machine (Ok done) kept h = (workers, rows_with rows made, h.0)
+performs-IsMachine workers rows (Err why) machine (Ok done) kept h = absurd h
+performs-IsMachine workers rows (Ok made) machine (Err (trouble.Bad said)) kept h = absurd h
+performs-IsMachine workers rows (Err why) machine (Err (trouble.Bad said)) kept h = (workers, rows, h.1)
+performs-IsMachine workers rows said machine (Err trouble.Starved) kept h = absurd (kept refl)

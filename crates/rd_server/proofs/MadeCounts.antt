@@ -1,19 +1,17 @@
 -- What is counted of lines that are done one after the other.
-use Rattle.std.proofs.Common.{◌≡◌, ℕ, zero, suc, ◌+◌, ◌≤◌, false, List, [], ◌∷◌, ◌++◌, drop, length, map, Option, Some, None, Result, Ok, Err, append_assoc, codes, decimal, refl, sym, ap, ap₂, ◌∙◌, subst, arith}
+use Rattle.std.proofs.Common.{◌≡◌, ℕ, zero, suc, ◌+◌, ◌≤◌, false, List, [], ◌∷◌, ◌++◌, drop, length, Option, Some, None, Result, Ok, Err, append_assoc, codes, decimal, refl, sym, ap, ap₂, ◌∙◌, subst, arith}
 use Rattle.std.specs.Prelude.{slice_get}
 use Rattle.std.proofs.lemmas.List.{drop_all, length-append}
 use Rattle.std.proofs.lemmas.Option.{none-some, same_Some}
 use Rattle.std.proofs.lemmas.List.Sums.{sum-map, sum_by-append, sum_by-cons}
 use Rattle.rd_base.specs.declared.peers.Peer.{Peer}
 use Rattle.line_model.specs.declared.lines.Reason.{Reason}
-use Rattle.line_model.specs.Lines.{line_of}
 use Rattle.line_model.specs.Texts.{lines_of}
 use Rattle.journal_model.specs.declared.rows.Row.{Row}
 use Rattle.journal_model.specs.declared.steps.Step.{Step}
 use Rattle.journal_model.specs.Rows.{row}
 use Rattle.trace_model.specs.Made.{datagrams, octets_sent}
 use Rattle.trace_model.specs.Output.{last_line}
-use Rattle.trace_model.specs.Steps.{step_of_line}
 use Rattle.rd_server.specs.declared.machine.Machine.{Machine}
 use Rattle.rd_server.specs.declared.made.Count.{Count}
 use Rattle.rd_server.specs.declared.troubles.Trouble.{Trouble}
@@ -22,7 +20,7 @@ use Rattle.rd_server.specs.Fields.{cut}
 use Rattle.rd_server.specs.Journal.{Journal, after_line, goes_on, journal, rows_after}
 use Rattle.rd_server.specs.Machines.{PerformsFor}
 use Rattle.rd_server.specs.MadeRuns.{CountsLine, CountsLines, IsCountedAt, summary}
-use Rattle.rd_server.proofs.LineFeeds.{cut_pieces, lines_first, lines_last, one_line}
+use Rattle.rd_server.proofs.LineFeeds.{cut_pieces, lines_first, lines_last}
 
 abbrev octets_in : Peer × List ℕ → ℕ
 octets_in d = length d.1
@@ -109,6 +107,7 @@ led_more workers rows lines trace rest line more before count led e h = by (afte
   where
     texts : lines_of rest ≡ line ∷ lines_of more
     texts = first_line rest line more e
+
     by : (after : Result (List Row) Reason) → after_line workers led.more line ≡ after → CountsLine workers led.done after count (Ok tt) → Led workers rows lines trace more count
     by (Err why) a h = absurd h
     by (Ok next) a h = record {
@@ -157,6 +156,7 @@ led_last workers rows lines trace (b ∷ bs) before count (Ok done) led e some h
   where
     texts : lines_of (b ∷ bs) ≡ (b ∷ bs) ∷ []
     texts = lines_last (b ∷ bs) e
+
     by : (after : Result (List Row) Reason) → after_line workers led.more (b ∷ bs) ≡ after → CountsLine workers led.done after count (Ok done)
         → CountsLines workers (lines + length (lines_of trace)) (journal workers rows (lines + 1) (lines_of trace)) count (Ok done)
     by (Err why) a h = absurd h
@@ -170,8 +170,13 @@ led_last workers rows lines trace (b ∷ bs) before count (Ok done) led e some h
               (subst (λ (more : List Row). IsCountedAt workers more (led.done + 1) count) (sym (ap (λ (j : Journal). j.rows) same)) h),
         )
 
+-- three lines by their parts
+parted : (a b c d e f feed last : List ℕ) → ((a ++ (b ++ feed)) ++ (c ++ (d ++ (e ++ (f ++ feed))))) ++ last ≡ ((a ++ b) ++ feed) ++ (((c ++ (d ++ (e ++ f))) ++ feed) ++ last)
+parted a b c d e f feed last = simp append_assoc
+
 -- the lines that say what was counted, and the line that ends the output
 pub summary_is : (workers : ℕ) (rows : List Row) (lines : ℕ) (count : Count) → IsCountedAt workers rows lines count → (made sent end text : List ℕ)
     → made ≡ codes "made " ++ (decimal count.lines ++ codes "\n") → sent ≡ codes "sent " ++ (decimal count.datagrams ++ (codes " " ++ (decimal count.octets ++ codes "\n")))
     → end ≡ last_line rows → text ≡ (made ++ sent) ++ end → text ≡ summary lines rows
-summary_is workers rows lines count at made sent end text m s e t = rw (t, m, s, e, at.lines_are, at.datagrams_are, at.octets_are) (simp append_assoc)
+summary_is workers rows lines count at made sent end text m s e t = rw (t, m, s, e, at.lines_are, at.datagrams_are, at.octets_are)
+    (parted (codes "made ") (decimal lines) (codes "sent ") (decimal (length (datagrams rows))) (codes " ") (decimal (octets_sent (datagrams rows))) (codes "\n") (last_line rows))

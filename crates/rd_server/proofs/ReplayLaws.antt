@@ -1,5 +1,5 @@
 -- What a whole replay writes, by what was read.
-use Rattle.std.proofs.Common.{◌≡◌, ℕ, List, [], ◌++◌, Option, Some, None, refl, sym, ap, ◌∙◌, subst, append-nil}
+use Rattle.std.proofs.Common.{◌≡◌, ℕ, List, [], ◌++◌, Option, Some, None, sym, ap, ◌∙◌, subst, append-nil}
 use Rattle.std.specs.Prelude.{IfSome}
 use Rattle.std.specs.Io.KnownBytes.{Appends, Consumes, IsAtEnd}
 use Rattle.std.proofs.KnownBytes.{Appends-trans, Consumes-trans}
@@ -8,7 +8,7 @@ use Rattle.rd_server.specs.declared.endings.Stop.{Stop}
 use Rattle.rd_server.specs.declared.endings.Stop.TheVariants as stop
 use Rattle.rd_server.specs.declared.endings.Status.TheVariants as status
 use Rattle.rd_server.specs.declared.sessions.Session.{Session}
-use Rattle.trace_model.specs.Output.{Output, text, last_line, written, output}
+use Rattle.trace_model.specs.Output.{Output, text, written, output}
 use Rattle.rd_server.specs.Journal.{Journal, whole_output, whole_text}
 use Rattle.line_model.specs.Texts.{lines_of}
 use Rattle.rd_server.specs.Endings.{IsWritten, IsFrontOf, status_of}

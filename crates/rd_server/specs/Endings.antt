@@ -1,5 +1,5 @@
 -- How a replay ends: its status, what stands in the output and on the error sink, and why.
-use Rattle.std.specs.Prelude.{◌≡◌, ◌⊎◌, ℕ, ◌≤◌, List, [], ◌∷◌, ◌++◌, codes, decimal, Bool, true, false, Option, Some, None, bytes_eq}
+use Rattle.std.specs.Prelude.{◌≡◌, ◌⊎◌, ℕ, ◌≤◌, List, [], ◌++◌, codes, decimal, Option, Some, None}
 use Rattle.std.specs.Io.KnownBytes.{Appends}
 use Rattle.rd_base.specs.Outside.{Rose}
 use Rattle.line_model.specs.declared.lines.Reason.{Reason}

@@ -1,5 +1,5 @@
 -- How a replay goes from one place in a trace to another.
-use Rattle.std.specs.Prelude.{◌≡◌, ℕ, ◌≤◌, List, [], ◌++◌, Bool, true, false, Option, Some, None, Result, Ok, Err, IsOkAnd, IsErrAnd, ◌+◌, take}
+use Rattle.std.specs.Prelude.{◌≡◌, ℕ, ◌≤◌, List, [], ◌++◌, Bool, true, false, Option, Some, None, IsOkAnd, IsErrAnd, ◌+◌, take}
 use Rattle.std.specs.Io.KnownBytes.{Appends, Consumes, IsAtEnd}
 use Rattle.rd_base.specs.Outside.{Rose}
 use Rattle.rd_server.specs.declared.endings.Stop.{Stop}

@@ -95,35 +95,95 @@ fn traces_give_their_output(rt: HostRuntime) -> Result<(), Fail> {
     Ok(())
 }
 
-/// How a registration is replayed where the calls of these numbers fail at the source and at the output.
-fn status_of(alloc: Global, unread: &[u8], unwritten: &[u8]) -> Result<Status, Starved> {
-    let mut source = MemSource::of(
-        Bytes::copy_of(alloc, REGISTRATION)?,
-        Bytes::copy_of(alloc, unread)?,
-    );
+/// How a trace is replayed where the calls of these numbers fail at the source and at the output, and how many octets are written.
+fn ends_with(
+    alloc: Global,
+    trace: Bytes,
+    unread: &[u8],
+    unwritten: &[u8],
+) -> Result<(Status, usize), Starved> {
+    let mut source = MemSource::of(trace, Bytes::copy_of(alloc, unread)?);
     let mut out = MemSink::of(alloc, Bytes::copy_of(alloc, unwritten)?);
     let mut err = SureSink::new();
-    Ok(replay(alloc, &[], &mut source, &mut out, &mut err))
+    let status = replay(alloc, &[], &mut source, &mut out, &mut err);
+    Ok((status, out.as_slice().len()))
+}
+
+/// Whether the first octets of a registration, so many, are lines of a trace: none, or whole octets of the datagram after its peer.
+fn is_trace(length: usize) -> bool {
+    length == 0 || length > 77 || (length > 23 && length % 2 == 1)
+}
+
+/// How a registration is replayed that ends after so many octets.
+fn cut_after(alloc: Global, length: usize) -> Result<Status, Starved> {
+    let trace = Bytes::copy_of(alloc, &REGISTRATION[..length.min(REGISTRATION.len())])?;
+    let (status, _) = ends_with(alloc, trace, b"", b"")?;
+    Ok(status)
 }
 
 #[test]
-fn ends_decide_the_status(rt: HostRuntime) -> Result<(), Fail> {
-    assert_eq!(rt; status_of(rt.alloc(), b"", b"")?, Status::Done);
-    assert_eq!(rt; status_of(rt.alloc(), &[0], b"")?, Status::ReadFault);
-    assert_eq!(rt; status_of(rt.alloc(), b"", &[0])?, Status::WriteFault);
+fn lines_are_cut(rt: HostRuntime) -> Result<(), Fail> {
+    let form = Status::Line(LineBad {
+        line: 1,
+        why: Reason::Form,
+    });
+    for length in 0..79 {
+        let status = if is_trace(length) { Status::Done } else { form };
+        assert_eq!(rt; cut_after(rt.alloc(), length)?, status);
+    }
     Ok(())
 }
 
-/// How some words and octets that go on without a line feed are taken.
-fn status_with(alloc: Global, words: &[&str], length: usize) -> Result<Status, Starved> {
+/// A line so many times.
+fn repeated(alloc: Global, line: &[u8], times: u32) -> Result<Bytes, Starved> {
+    let mut trace = Bytes::new(alloc);
+    for _ in 0..times {
+        trace.append(line)?;
+    }
+    Ok(trace)
+}
+
+/// What comes of a trace that is read in 20 calls, of which one fails.
+fn unread_at(alloc: Global, call: u8) -> Result<(Status, usize), Starved> {
+    let trace = repeated(alloc, b"go 0 6\n", 11_000)?;
+    ends_with(alloc, trace, &[call], b"")
+}
+
+/// What comes of 19 pings, each answered by a line of 31 octets, and the last line, where one of the 20 calls that write them fails.
+fn unwritten_at(alloc: Global, call: u8) -> Result<(Status, usize), Starved> {
+    let trace = repeated(alloc, b"in 0 5 192.0.2.10:5683 40001234\n", 19)?;
+    ends_with(alloc, trace, b"", &[call])
+}
+
+#[test]
+fn each_call_may_fail(rt: HostRuntime) -> Result<(), Fail> {
+    for call in 0..20 {
+        assert!(rt; unread_at(rt.alloc(), call)? == (Status::ReadFault, 0));
+        assert!(rt;
+            unwritten_at(rt.alloc(), call)? == (Status::WriteFault, usize::from(call) * 31)
+        );
+    }
+    assert!(rt; unread_at(rt.alloc(), 20)? == (Status::Done, 10));
+    assert!(rt; unwritten_at(rt.alloc(), 20)? == (Status::Done, 599));
+    Ok(())
+}
+
+/// Words of a command line.
+fn owned(alloc: Global, words: &[&str]) -> Result<Vec<String>, Starved> {
     let mut owned = Vec::new(alloc);
     for word in words {
         owned.push(String::from_str(alloc, word)?)?;
     }
+    Ok(owned)
+}
+
+/// How some words and octets that go on without a line feed are taken.
+fn status_with(alloc: Global, words: &[&str], length: usize) -> Result<Status, Starved> {
+    let words = owned(alloc, words)?;
     let mut source = SureSource::of(Bytes::of(vec![in alloc; b'x'; length]?));
     let mut out = SureSink::new();
     let mut err = SureSink::new();
-    Ok(replay(alloc, owned.as_slice(), &mut source, &mut out, &mut err))
+    Ok(replay(alloc, words.as_slice(), &mut source, &mut out, &mut err))
 }
 
 /// Words that are those of the program.
@@ -164,12 +224,60 @@ fn words_are_read(rt: HostRuntime) -> Result<(), Fail> {
     Ok(())
 }
 
+/// How a line of so many octets is taken that says nothing.
+fn long_line(alloc: Global, length: usize) -> Result<Option<Reason>, Starved> {
+    match status_with(alloc, &["--workers=1"], length)? {
+        Status::Line(bad) => Ok(Some(bad.why)),
+        _ => Ok(None),
+    }
+}
+
 #[test]
 fn long_lines_are_bad(rt: HostRuntime) -> Result<(), Fail> {
-    let long = Status::Line(LineBad {
-        line: 1,
-        why: Reason::Long,
-    });
-    assert_eq!(rt; status_with(rt.alloc(), &["--workers=1"], 20_000)?, long);
+    assert_eq!(rt; long_line(rt.alloc(), 8_600)?, Some(Reason::Form));
+    assert_eq!(rt; long_line(rt.alloc(), 8_601)?, Some(Reason::Long));
+    assert_eq!(rt; long_line(rt.alloc(), 20_000)?, Some(Reason::Long));
+    Ok(())
+}
+
+/// Words that ask for a trace that is made, and what is written for them.
+struct MakeCase {
+    /// The words.
+    words: &'static [&'static str],
+    /// What is written.
+    output: &'static [u8],
+}
+
+/// Traces of one device, and of ten with one worker or two.
+static MAKES: [MakeCase; 3] = [
+    MakeCase {
+        words: &["--make", "1"],
+        output: b"made 3\nsent 1 10\nend 1 1 0\n",
+    },
+    MakeCase {
+        words: &["--make=10"],
+        output: b"made 22\nsent 11 185\nend 10 10 1\n",
+    },
+    MakeCase {
+        words: &["--workers=2", "--make", "10"],
+        output: b"made 22\nsent 11 185\nend 10 10 1\n",
+    },
+];
+
+/// Whether words that ask for a trace give what their case says, from a source whose one line is bad.
+fn makes(alloc: Global, case: &MakeCase) -> Result<bool, Starved> {
+    let words = owned(alloc, case.words)?;
+    let mut source = SureSource::of(Bytes::copy_of(alloc, b"x\n")?);
+    let mut out = MemSink::of(alloc, Bytes::new(alloc));
+    let mut err = SureSink::new();
+    let status = replay(alloc, words.as_slice(), &mut source, &mut out, &mut err);
+    Ok(status == Status::Done && out.as_slice() == case.output)
+}
+
+#[test]
+fn traces_are_made(rt: HostRuntime) -> Result<(), Fail> {
+    for case in &MAKES {
+        assert!(rt; makes(rt.alloc(), case)?);
+    }
     Ok(())
 }

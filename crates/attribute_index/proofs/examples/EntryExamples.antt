@@ -1,8 +1,7 @@
 -- Entries and carriers, computed.
-use Rattle.std.proofs.Common.{◌≡◌, ℕ, Bool, true, false, List, [], ◌∷◌, refl, codes}
-use Rattle.rd_base.specs.declared.attributes.Pair.{Pair}
+use Rattle.std.proofs.Common.{◌≡◌, ℕ, true, false, List, [], ◌∷◌, refl, codes}
 use Rattle.record_model.specs.Matching.{matches_value}
-use Rattle.attribute_index.specs.Entries.{Entry, carriers_of, entries_of, has_entry, has_number, values_of}
+use Rattle.attribute_index.specs.Entries.{Entry, carriers_of, entries_of, has_entry, values_of}
 
 -- an entry of texts
 abbrev entry : List ℕ → List ℕ → ℕ → Entry

@@ -1,5 +1,7 @@
 -- The second part of a tick, observer after observer: who is not looked at is passed over, up to the next that is due and free.
 use Rattle.std.proofs.Common.{◌≡◌, ℕ, zero, suc, ◌+◌, ◌-◌, ◌≤◌, ◌&&◌, nat_le, Bool, true, false, not, cond, List, [], ◌∷◌, ◌++◌, length, drop, fold, slice_get, Some, None, refl, sym, ap, ap₂, ◌∙◌, arith, append-nil}
+use Rattle.std.specs.List.{list_any}
+use Rattle.std.proofs.lemmas.Bool.{or_parts}
 use Rattle.rd_base.proofs.lemmas.Options.{some_same}
 use Rattle.history_model.specs.declared.entries.Entry.{Entry}
 use Rattle.event_model.specs.declared.notes.Observer.{Observer}
@@ -17,6 +19,7 @@ use Rattle.journal_model.specs.UnfinishedRow.{making}
 use Rattle.journal_model.proofs.EntriesNoted.{entries_in}
 use Rattle.journal_model.proofs.RowEquations.{transitions-row}
 use Rattle.rd_desk.specs.Noticing.{first_observer, next_noticed}
+use Rattle.rd_desk.specs.Ticking.{looks_at_any}
 use Rattle.rd_desk.proofs.parts.EffectLaws.{joined-nothing}
 
 -- ---- what a tick is made from, and the journal with the row so far
@@ -98,6 +101,13 @@ to_end t d test says from (x ∷ os) is = by (test x) refl is (λ h. to_end t d 
     by true e h more = absurd (let some_is : Some from ≡ None = h in cc)
     by false e h more = ap (λ (f : Effects). fold (notice_next t) f os) (passed t d x (says x ∙ e)) ∙ more h
 
+-- where nobody is looked at, nobody passes the test
+unlooked : (t : Ticking) (d : Effects) (test : Observer → Bool) → Says t d test → (from : ℕ) (os : List Observer) → list_any (is_looked_at t d) os ≡ false → first_observer test from os ≡ None
+unlooked t d test says from [] none = refl
+unlooked t d test says from (o ∷ os) none =
+    let parts = or_parts (is_looked_at t d o) (list_any (is_looked_at t d) os) none in
+    ap (λ (b : Bool). cond b (Some from) (first_observer test (from + 1) os)) (sym (says o) ∙ parts.0) ∙ unlooked t d test says (from + 1) os parts.1
+
 -- lists from an index on
 pub drop-drop : {X : Type 0} (xs : List X) (n k : ℕ) → drop (suc k) (drop n xs) ≡ drop (suc (n + k)) xs
 drop-drop [] zero k = refl
@@ -136,3 +146,14 @@ notices-end rows s starved d from desk none few is =
     let past = events (making rows s starved d) in
     let seen = transitions (making rows s starved d) in
     to_end (ticking rows (row_moment rows s) s) d (λ x. is_due x past seen && not (is_waited_for x.peer past)) (λ x. looked_when rows s starved d x desk none ∙ rw few refl) from (drop from (observers past)) is
+
+-- Where nobody is looked at, none is due and free.
+pub next-unlooked : (rows : List Row) (s : Step) (starved : Bool) (d : Effects) → is_look s.kind ≡ false → entries_in d.notes ≡ [] → nat_le max_notices d.drew ≡ false
+    → looks_at_any (ticking rows (row_moment rows s) s) d ≡ false → next_noticed 0 (events (making rows s starved d)) (transitions (making rows s starved d)) ≡ None
+unfolding next_noticed
+next-unlooked rows s starved d desk none few silent =
+    let past = events (making rows s starved d) in
+    let seen = transitions (making rows s starved d) in
+    let t = ticking rows (row_moment rows s) s in
+    unlooked t d (λ x. is_due x past seen && not (is_waited_for x.peer past)) (λ x. looked_when rows s starved d x desk none ∙ rw few refl) 0 (observers past)
+    (ap (λ (es : List Event). list_any (is_looked_at t d) (observers es)) (sym (events-with rows s starved d)) ∙ silent)

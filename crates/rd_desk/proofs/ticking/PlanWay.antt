@@ -1,5 +1,5 @@
--- While a plan is made: the step is under way as before, the tag is that of the tick, and where nothing is planned nothing more is done.
-use Rattle.std.proofs.Common.{◌≡◌, ℕ, ◌==◌, Bool, true, List, [], ◌++◌, Result, Ok, Err, OnOk, is_ok, sym, ap, ap₂, subst, ◌∙◌, eqb-true, append-nil}
+-- While a plan is made: the step is under way as before, and the tag is that of the tick.
+use Rattle.std.proofs.Common.{◌≡◌, ℕ, Bool, true, List, ◌++◌, Result, Ok, Err, OnOk, is_ok, sym, ap, ap₂, subst, ◌∙◌, append-nil}
 use Rattle.std.proofs.lemmas.Bool.{false≢true}
 use Rattle.rd_base.specs.declared.peers.Peer.{Peer}
 use Rattle.history_model.specs.declared.entries.Entry.{Entry}
@@ -15,11 +15,8 @@ use Rattle.journal_model.specs.UnfinishedRow.{making}
 use Rattle.journal_model.proofs.NoteKinds.{again_tick, tick-entries_in}
 use Rattle.journal_model.proofs.StepNotes.{notices_again-notes}
 use Rattle.journal_model.proofs.UnfinishedRowLaws.{now-making}
-use Rattle.transfers.specs.Keeping.{NamedAnswer}
 use Rattle.rd_desk.specs.declared.mids.Mids.{Mids}
-use Rattle.rd_desk.specs.declared.planning.Planned.{Planned}
 use Rattle.rd_desk.specs.Desks.{Seen, StandsFor}
-use Rattle.rd_desk.specs.Planning.{AreDone}
 use Rattle.rd_desk.specs.UnderWay.{UnderWay}
 
 -- nothing is entered where notices are sent again
@@ -53,9 +50,6 @@ pub when_ok : {X E A : Type 0} (r : Result X E) → is_ok r ≡ true → OnOk r 
 when_ok (Ok x) is h = h
 when_ok (Err e) is h = absurd (false≢true is)
 
-pub zero_by : (n : ℕ) → (n == 0) ≡ true → n ≡ 0
-zero_by n h = eqb-true n 0 h
-
 -- ---- with the plan made
 
 -- what the desk tells of the tag of its version
@@ -72,10 +66,3 @@ pub tag_again : (rows : List Row) (s : Step) (starved : Bool) (b d : Seen) (out 
 tag_again rows s starved b d out mids current seen says way =
     says 0 (entries (making rows s starved (notices_again rows (row_moment rows s)))) (subst (λ (y : Seen). VersionStandsFor 0 (entries (making rows s starved (notices_again rows (row_moment rows s)))) y.version) (sym seen) way.stands.directory.history)
     ∙ ap₂ (λ (es : List Entry) (m : ℕ). tag es m) (entries-again rows s starved) (moment_again rows s starved b d out mids seen way)
-
--- where nothing is planned, nothing more is done
-pub nothing_planned : (rows : List Row) (s : Step) (starved : Bool) (current : List ℕ) (whole first : Effects) (ps : List Planned) (kept : List NamedAnswer) (d : Seen) (out : List (Peer × List ℕ)) (mids : Mids) → ps ≡ [] → AreDone rows s starved current whole first 0 ps kept
-    → UnderWay rows s starved first d out mids → UnderWay rows s starved whole d out mids
-nothing_planned rows s starved current whole first ps kept d out mids none done way =
-    let all : (first ≡ whole) × (kept ≡ []) = subst (λ (qs : List Planned). AreDone rows s starved current whole first 0 qs kept) none done in
-    subst (λ (f : Effects). UnderWay rows s starved f d out mids) all.0 way

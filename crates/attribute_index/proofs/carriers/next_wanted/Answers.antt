@@ -1,4 +1,4 @@
-use Rattle.std.proofs.Common.{rules, ◌≡◌, false, ap, sym, ◌∙◌, subst}
+use Rattle.std.proofs.Common.{rules, ◌≡◌, false, ap, ◌∙◌, subst}
 use Rattle.attribute_index.specs.Rows.{Row, WantedFirst, is_wanted, wanted_numbers}
 use Rattle.attribute_index.proofs.WantedLaws.{wanted_rest, wanted_end}
 use Rattle.attribute_index.proofs.carriers.next_wanted.Goals as goal

@@ -1,4 +1,4 @@
-use Rattle.std.proofs.Common.{rules, ◌≡◌, ◌||◌, not, map, ap, ◌∙◌}
+use Rattle.std.proofs.Common.{rules, ◌≡◌, ◌||◌, map, ap, ◌∙◌}
 use Rattle.attribute_index.specs.Entries.{entries_of, has_entry, values_of}
 use Rattle.attribute_index.specs.Rows.{entries_of_rows, entries_under}
 use Rattle.attribute_index.proofs.RowLaws.{under_pair}

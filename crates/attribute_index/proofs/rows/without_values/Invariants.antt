@@ -1,4 +1,4 @@
-use Rattle.std.proofs.Common.{◌≡◌, ◌&&◌, not, take}
+use Rattle.std.proofs.Common.{◌≡◌, ◌&&◌, not, ◌+◌, take}
 use Rattle.chunk_map.specs.Sorted.{IsAscending}
 use Rattle.attribute_index.specs.Entries.{Entry, has_entry}
 use Rattle.attribute_index.specs.Rows.{AreRows, entries_of_rows, entries_under, value_cmp}
@@ -7,7 +7,7 @@ use Rattle.attribute_index.proofs.rows.without_values.Given as goal
 abbrev pub invariant-values : goal.invariant-values
 invariant-values l =
     record {
-      entries : (e : Entry) → has_entry (entries_of_rows l.fewer) e ≡ (has_entry (entries_of_rows l.rows) e && not (has_entry (entries_under (take l.value-index l.values) l.number) e));
+      entries : (e : Entry) → has_entry (entries_of_rows l.fewer) e ≡ (has_entry (entries_of_rows l.rows) e && not (has_entry (entries_under (take (l.value-index + 1) l.values) l.number) e));
       ascends : IsAscending value_cmp l.fewer;
       whole : AreRows l.fewer;
     }

@@ -1,4 +1,4 @@
-use Rattle.std.proofs.Common.{◌≡◌, ◌+◌, suc, length, refl, sym, ap, ◌∙◌, rules, arith}
+use Rattle.std.proofs.Common.{◌≡◌, ◌+◌, length, sym, ◌∙◌, rules, arith}
 use Rattle.rd_server.proofs.MadeCounts.{octets_next}
 use Rattle.rd_server.proofs.made.octets_of.Goals as goal
 

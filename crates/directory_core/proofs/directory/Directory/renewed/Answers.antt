@@ -1,30 +1,22 @@
-use Rattle.std.proofs.Common.{refl, ◌≡◌, ℕ, ◌+◌, ◌-◌, ◌<◌, ◌≤◌, ◌^◌, List, Ok, Err, Result, sym, ap, ap₂, ◌∙◌, subst, arith, Some, ◌||◌, ◌&&◌, not}
+use Rattle.std.proofs.Common.{refl, ◌≡◌, ◌≤◌, ◌^◌, Err, sym, ap, ap₂, ◌∙◌, subst, arith, Some}
 use Rattle.rd_base.specs.declared.moments.Moment.{Moment}
 use Rattle.rd_base.specs.declared.records.Record.{Record}
-use Rattle.rd_base.proofs.lemmas.Pairs.{PairsByRecursion}
 use Rattle.record_model.specs.ListingLines.{weight}
 use Rattle.registration.specs.Drafts.{recorded}
 use Rattle.registration.specs.Weights.{capped}
 use Rattle.history_model.specs.Versions.{Version}
 use Rattle.history_model.specs.Leases.{lapse, live_among}
-use Rattle.history_model.specs.Refusals.{max_text, text_of}
-use Rattle.history_model.proofs.NumberLaws.{IsBelow}
+use Rattle.history_model.specs.Refusals.{text_of}
 use Rattle.lease_queue.specs.Leases.{with_lease, without_lease}
-use Rattle.lease_queue.specs.declared.leases.Lease.{Lease}
 use Rattle.directory_core.specs.declared.counts.Counts.{Counts}
-use Rattle.directory_core.specs.declared.names.NameSlot.{NameSlot}
-use Rattle.directory_core.specs.declared.refusals.Refusal.{Refusal}
-use Rattle.directory_core.specs.AfterEntries.{renewed, after_entry, HasRoom, IsMadeWithRoom}
+use Rattle.directory_core.specs.AfterEntries.{renewed, after_entry, HasRoom}
 use Rattle.directory_core.specs.NumberOrder.{with_record}
 use Rattle.directory_core.specs.Shown.{IsKept, lease_of}
 use Rattle.directory_core.proofs.KeptLaws.{live_light}
-use Rattle.directory_core.proofs.RenewLaws.{Renewal, record_granted, record_number, lease_is, text_is, lost_below, renewal_kept, renewal_records, room_refused}
-use Rattle.attribute_index.specs.Entries.{has_entry}
-use Rattle.directory_core.specs.Bounds.{record_entries, AreEntriesOf}
+use Rattle.directory_core.proofs.RenewLaws.{Renewal, record_granted, record_number, record_name, lease_is, text_is, lost_below, renewal_kept, renewal_records, room_refused}
+use Rattle.directory_core.specs.Bounds.{AreEntriesOf}
 use Rattle.history_model.specs.Replay.{numbered}
-use Rattle.directory_core.specs.AfterEntries.{without}
 use Rattle.directory_core.proofs.ChangeLaws.{with_record-renewed}
-use Rattle.directory_core.proofs.IndexLaws.{entries_without, entries_renewed}
 use Rattle.directory_core.proofs.directory.Directory.renewed.Goals as goal
 
 pub overflow_sub-counts : goal.overflow_sub-counts
@@ -64,6 +56,17 @@ of-requires-clause-granted c =
     let granted : c.record_from.result.granted ≡ c.args.now = ap (λ (x : Record). x.granted) c.record_from.ensures ∙ record_granted c.as_record.result.now.number c.args.now c.args.draft in
     subst (λ (m : Moment). m.0 ≤ 10 ^ 15) (sym granted) c.requires.moment
 
+pub index_renewed-requires-clause-numbered : goal.index_renewed-requires-clause-numbered
+index_renewed-requires-clause-numbered c =
+    let made : c.in_ok-kept.kept ≡ recorded c.as_record.result.now.number c.args.now c.args.draft = c.in_ok-kept.ensures ∙ c.record_from.ensures in
+    let number : c.as_record.result.now.number ≡ c.args.old.now.number = ap (λ (x : Record). x.number) c.as_record.ensures in
+    ap (λ (x : Record). x.number) (c.as_record-3.ensures ∙ made) ∙ record_number c.as_record.result.now.number c.args.now c.args.draft ∙ number ∙ sym (ap (λ (x : Record). x.number) c.as_record-2.ensures)
+
+pub index_renewed-requires-clause-named : goal.index_renewed-requires-clause-named
+index_renewed-requires-clause-named c =
+    let made : c.in_ok-kept.kept ≡ recorded c.as_record.result.now.number c.args.now c.args.draft = c.in_ok-kept.ensures ∙ c.record_from.ensures in
+    ap (λ (x : Record). x.name) (c.as_record-3.ensures ∙ made) ∙ record_name c.as_record.result.now.number c.args.now c.args.draft ∙ c.requires.named ∙ sym (ap (λ (x : Record). x.name) c.as_record-2.ensures)
+
 pub invariant_of-result : goal.invariant_of-result
 invariant_of-result c =
     let v = c.args.self.now in
@@ -90,13 +93,12 @@ invariant_of-result c =
     let whole = renewal_kept v i.names i.leases i.live i.text now c.args.counts old draft kept a (omega (arith, few, entries)) c.in-Ok.text (room.0 ∙ text) (omega (arith, room.0, room.1)) c.in_ok-records.records records c.in_ok-records.ensures.rising c.in_ok-leases-2.leases begun in
     let indexed : AreEntriesOf v.records i.index = subst (λ (w : Version). AreEntriesOf w.records i.index) c.self.view_is c.self.invariant.1 in
     let found : numbered new.number v.records ≡ Some old = ap (λ n. numbered n v.records) (record_number old.number now draft) ∙ r.stored in
-    let taken : AreEntriesOf (without new.number v.records) c.in_ok-index.index
-    = entries_without v.records new.number old i.index c.in_ok-index.index kept.rising found indexed (λ e. c.in_ok-index.ensures.entries e ∙ ap (λ x. has_entry i.index e && not (has_entry (record_entries x) e)) c.as_record-2.ensures) c.in_ok-index.ensures.ascends in
-    let placed : AreEntriesOf (renewed new v.records) c.in_ok-index-2.index
-    = entries_renewed v.records new old c.in_ok-index.index c.in_ok-index-2.index kept.rising found taken (λ e. c.in_ok-index-2.ensures.entries e ∙ ap (λ x. has_entry c.in_ok-index.index e || has_entry (record_entries x) e) (c.as_record-3.ensures ∙ made)) c.in_ok-index-2.ensures.ascends in (
+    let placed : AreEntriesOf (renewed new v.records) c.in_ok-index.index
+    = subst (λ x. AreEntriesOf (renewed x v.records) c.in_ok-index.index) (c.as_record-3.ensures ∙ made)
+    (c.in_ok-index.ensures v.records kept.rising (ap (λ (x : Record). numbered x.number v.records) c.as_record-2.ensures ∙ r.stored ∙ ap Some (sym c.as_record-2.ensures)) indexed) in (
       subst (λ (w : Version). IsKept (after_entry w now.0 c.in_ok-records.records w.last_number) c.in_ok-names.names c.in_ok-leases-2.leases c.args.counts.live c.in-Ok.text) (sym c.self.view_is)
           (subst (λ n. IsKept (after_entry v now.0 c.in_ok-records.records v.last_number) n c.in_ok-leases-2.leases c.args.counts.live c.in-Ok.text) (sym c.in_ok-names.ensures) whole),
-      subst (λ rs. AreEntriesOf rs c.in_ok-index-2.index) (sym (records ∙ with_record-renewed new old v.records kept.rising found)) placed,
+      subst (λ rs. AreEntriesOf rs c.in_ok-index.index) (sym (records ∙ with_record-renewed new old v.records kept.rising found)) placed,
     )
 
 pub returns : goal.returns

@@ -59,3 +59,15 @@ invariant_of-result c =
       subst (λ (w : Version). IsKept (after_entry w now.0 c.in_ok-records.records w.last_number) c.in_ok-names.names c.in_ok-leases.leases (c.args.counts.live - 1) (c.args.counts.text - c.octets.result)) (sym c.self.view_is) whole,
       subst (λ rs. AreEntriesOf rs c.in_ok-index.index) (sym records) taken,
     )
+
+pub returns : goal.returns
+returns c =
+    let v = c.args.self.now in
+    let number : c.as_record.result.now.number ≡ c.args.old.now.number = ap (λ (x : Record). x.number) c.as_record.ensures in
+    let records : c.in_ok-records.records ≡ without c.args.old.now.number v.records = c.in_ok-records.ensures.records ∙ ap₂ without number (ap (λ (w : Version). w.records) c.self.view_is) in
+    let entries : c.self.inside.entries ≡ v.entries = ap (λ (w : Version). w.entries) c.self.view_is in
+    let room = c.in_ok-room_for_entry.ensures in (
+      ap (λ (w : Version). after_entry w c.args.now.0 c.in_ok-records.records w.last_number) c.self.view_is ∙ ap (λ rs. after_entry v c.args.now.0 rs v.last_number) records,
+      omega arith,
+      omega (arith, room, entries),
+    )

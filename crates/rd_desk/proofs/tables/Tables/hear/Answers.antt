@@ -1,4 +1,4 @@
-use Rattle.std.proofs.Common.{◌≡◌, true, false, refl, sym, subst, ◌∙◌}
+use Rattle.std.proofs.Common.{false, refl, sym, ap, subst, ◌∙◌}
 use Rattle.message_model.specs.declared.messages.Role.{Role}
 use Rattle.message_model.specs.declared.messages.Role.TheVariants as role
 use Rattle.coap_message.specs.Views.{message_in}
@@ -6,7 +6,7 @@ use Rattle.journal_model.specs.Effects.{resetting}
 use Rattle.journal_model.specs.Rows.{message_effects, row_moment}
 use Rattle.rd_desk.specs.Admitting.{is_starved_admission, IsHeldFor}
 use Rattle.rd_desk.specs.Responding.{response_heard}
-use Rattle.rd_desk.proofs.parts.HearingLaws.{hears_as, held_as, takes_as, other_as, response_is, response_admits, acknowledged_admits, reset_admits, jobless_way, jobless_held}
+use Rattle.rd_desk.proofs.parts.HearingLaws.{hears_as, held_as, takes_as, other_as, response_is, response_admits, acknowledged_admits, reset_admits, jobless_starved, jobless_way, jobless_held}
 use Rattle.rd_desk.proofs.changes.StagingLaws.{laid_none}
 use Rattle.rd_desk.proofs.parts.PartLaws.{only_silent}
 use Rattle.rd_desk.proofs.tables.Tables.hear.Goals as goal
@@ -72,7 +72,8 @@ returns-in-Response-clause-held g c rows s of datagram way =
 
 pub returns-in-Response-clause-unstarved : goal.returns-in-Response-clause-unstarved
 returns-in-Response-clause-unstarved g c rows s of way silent =
-    absurd (let no : true ≡ false = takes_as rows s role.Response (message_in c.args.view.now) (sym (c.role_of.ensures) ∙ c.in-Response.is) silent in cc)
+    ap is_starved_admission c.without_job.ensures
+    ∙ (jobless_starved c.hear_response.result ∙ c.hear_response.ensures.unstarved rows s of way (takes_as rows s role.Response (message_in c.args.view.now) (sym (c.role_of.ensures) ∙ c.in-Response.is) silent))
 
 pub returns-in-Ignored-clause-way : goal.returns-in-Ignored-clause-way
 returns-in-Ignored-clause-way g c rows s of worded way =

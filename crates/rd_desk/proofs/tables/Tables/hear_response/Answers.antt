@@ -1,4 +1,4 @@
-use Rattle.std.proofs.Common.{false, refl, subst, ◌∙◌}
+use Rattle.std.proofs.Common.{◌≡◌, true, false, is_some, refl, sym, ap, subst, ◌∙◌}
 use Rattle.message_model.specs.Message.{Message}
 use Rattle.coap_message.specs.Views.{message_in}
 use Rattle.journal_model.specs.Effects.{nothing, joined}
@@ -35,3 +35,11 @@ returns-clause-way g c =
 
 pub returns-in_default-clause-laid : goal.returns-in_default-clause-laid
 returns-in_default-clause-laid g c = laid_none c.args.self.now.version _ _ refl
+
+pub returns-clause-unstarved : goal.returns-clause-unstarved
+returns-clause-unstarved g c =
+    λ rows s of way silent.
+    let stands = stands_begun rows s false _ c.args.self.now c.args.out.now c.args.mids.now c.self.view_is way in
+    let there = request_there rows s false (message_in c.in-Some.meaning.view) c.args.peer _ c.args.self.now c.args.out.now c.args.mids.now c.self.view_is c.in-Some.ensures.belongs way in
+    let fetched = c.in-Some.ensures.fetch (octets_sent (making rows s false nothing)) (events rows) s stands of ∙ there.1 in
+    absurd (let yes : true ≡ false = sym (ap is_some fetched) ∙ silent in cc)

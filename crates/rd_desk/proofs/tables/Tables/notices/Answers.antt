@@ -1,43 +1,12 @@
-use Rattle.std.proofs.Common.{◌≡◌, List, not, true, false, is_ok, map, sym, ap, subst, ◌∙◌}
-use Rattle.history_model.specs.Versions.{VersionStandsFor}
-use Rattle.event_model.specs.Events.{noted}
-use Rattle.journal_model.specs.Rows.{row_moment}
-use Rattle.journal_model.specs.Ticks.{ticking, notices_again, notices}
-use Rattle.transfers.specs.Keeping.{NamedAnswer}
-use Rattle.transfers.specs.TransferEvents.{AnswersStandFor, kept_note}
-use Rattle.rd_desk.specs.Desks.{Seen}
-use Rattle.rd_desk.proofs.ticking.PlanLaws.{planned_begins}
-use Rattle.rd_desk.proofs.ticking.PlanWay.{way_kept, when_ok, zero_by, tag_again, moment_again, nothing_planned}
-use Rattle.rd_desk.proofs.ticking.CarryLaws.{carrying_begins, adopted, none_planned}
+use Rattle.std.proofs.Common.{◌≡◌, true, false, not, sym, ap, ◌∙◌}
+use Rattle.rd_desk.proofs.ticking.IdleTicks.{way_idle, none_comes}
 use Rattle.rd_desk.proofs.tables.Tables.notices.Goals as goal
 
-pub returns-then-is_empty-2 : goal.returns-then-is_empty-2
-returns-then-is_empty-2 c = record {
-  way = λ rows s word way.
-      let first = notices_again rows (row_moment rows s) in
-      let whole = notices (ticking rows (row_moment rows s) s) first in
-      let yes : is_ok c.plan_all.result ≡ true = c.is_err.ensures.negation ∙ ap not c.if-is_err.false in
-      let tagged = tag_again rows s false _ c.args.self.now c.args.out.now c.args.mids.now c.tag-tag.result.0 c.self.view_is (λ n history stands. c.tag-tag.ensures n history (subst (VersionStandsFor n history) (sym c.deref.ensures) stands)) way in
-      let begun = planned_begins rows s false c.tag-tag.result.0 c.args.self.now c.empty-plan.result c.args.out.now c.args.mids.now c.empty-plan.ensures.items c.empty-plan.ensures.peers c.empty-plan.ensures.kept way in
-      let plan = when_ok c.plan_all.result yes (c.plan_all.ensures.planned rows s false whole first c.args.out.now word way tagged begun) in
-      let after = way_kept rows s false first c.args.self.now c.plan_all.new.self c.args.out.now c.args.mids.now (λ past stands. c.plan_all.ensures.stands past stands) way in
-      let none = none_planned c.plan_all.new.plan.items.items c.plan_all.new.plan.items.len c.plan_all.new.plan.items.ok.0 (zero_by c.plan_all.new.plan.items.len (sym c.is_empty-then-is_empty.ensures ∙ c.if-is_empty-2.true)) in
-      nothing_planned rows s false c.tag-tag.result.0 whole first c.plan_all.new.plan.items.items c.plan_all.new.plan.kept.items c.plan_all.new.self c.args.out.now c.args.mids.now none plan after;
-}
+pub returns-then-is_none-clause-way : goal.returns-then-is_none-clause-way
+returns-then-is_none-clause-way c rows s word way =
+    way_idle rows s _ c.args.self.now c.args.out.now c.args.mids.now c.next_due.result c.self.view_is c.next_due.ensures.next (c.is_none.ensures ∙ ap not c.if-is_none.true) way
 
-pub returns : goal.returns
-returns c = record {
-  way = λ rows s word way.
-      let first = notices_again rows (row_moment rows s) in
-      let whole = notices (ticking rows (row_moment rows s) s) first in
-      let yes : is_ok c.plan_all.result ≡ true = c.is_err.ensures.negation ∙ ap not c.if-is_err.false in
-      let tagged = tag_again rows s false _ c.args.self.now c.args.out.now c.args.mids.now c.tag-tag.result.0 c.self.view_is (λ n history stands. c.tag-tag.ensures n history (subst (VersionStandsFor n history) (sym c.deref.ensures) stands)) way in
-      let begun = planned_begins rows s false c.tag-tag.result.0 c.args.self.now c.empty-plan.result c.args.out.now c.args.mids.now c.empty-plan.ensures.items c.empty-plan.ensures.peers c.empty-plan.ensures.kept way in
-      let plan = when_ok c.plan_all.result yes (c.plan_all.ensures.planned rows s false whole first c.args.out.now word way tagged begun) in
-      let after = way_kept rows s false first c.args.self.now c.plan_all.new.self c.args.out.now c.args.mids.now (λ past stands. c.plan_all.ensures.stands past stands) way in
-      let carrying = carrying_begins rows s false c.tag-tag.result.0 whole first c.in-Ok.ready c.plan_all.new.self c.args.out.now c.args.mids.now c.plan_all.new.plan.items.items c.plan_all.new.plan.kept.items c.self-2.inside.moment.0
-      (moment_again rows s false _ c.plan_all.new.self c.args.out.now c.args.mids.now c.self-2.view_is after) plan
-      (λ past place spoken stands. subst (λ (ks : List NamedAnswer). AnswersStandFor (noted place c.self-2.inside.moment.0 spoken (map kept_note ks) past) c.in-Ok.ready) c.of.ensures (c.in-Ok.ensures past place spoken (subst (AnswersStandFor past) (sym (ap (λ (d : Seen). d.transfers.answers) c.self-2.view_is)) stands))) after in
-      adopted rows s false whole c.in-Ok.ready _ c.carry_out.new.self c.adopt.new.self c.carry_out.new.out c.carry_out.new.mids c.self-3.view_is c.adopt.ensures.uploads c.adopt.ensures.answers
-      (c.carry_out.ensures rows s false c.tag-tag.result.0 whole c.in-Ok.ready carrying);
-}
+pub returns-clause-unstarved : goal.returns-clause-unstarved
+returns-clause-unstarved c rows s starved way silent =
+    absurd (let yes : false ≡ true =
+    sym (none_comes rows s starved _ c.args.self.now c.args.out.now c.args.mids.now c.next_due.result c.self.view_is c.next_due.ensures.next way silent) ∙ (c.is_none.ensures ∙ ap not c.if-is_none.false) in cc)

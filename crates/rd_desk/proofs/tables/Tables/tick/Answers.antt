@@ -1,3 +1,4 @@
+use Rattle.std.proofs.Common.{false}
 use Rattle.journal_model.specs.Effects.{joined}
 use Rattle.journal_model.specs.Rows.{row_moment}
 use Rattle.journal_model.specs.Ticks.{requests_again}
@@ -18,4 +19,8 @@ returns c = record {
       let aged = c.drop_old_exchanges.ensures rows s starved whole c.requests_again.new.out c.notices-stepped.new.mids asked in
       tick_made rows s starved c.args.now c.args.self.now c.sweep.new.self c.requests_again.new.out c.args.mids.now c.notices-stepped.new.mids kind call
       (c.sweep.ensures rows s starved whole c.requests_again.new.out c.notices-stepped.new.mids aged);
+  unstarved = λ rows s kind call silent.
+      let passed = c.pass.ensures.way rows s false c.args.out.now c.args.mids.now c.requires.empty call in
+      let again = c.notices_again.ensures rows s false c.args.mids.now passed in
+      c.notices-stepped.ensures.unstarved rows s false again silent;
 }

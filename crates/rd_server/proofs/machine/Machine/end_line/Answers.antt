@@ -18,6 +18,6 @@ pub returns : goal.returns
 returns c = λ workers rows at.
     c.of.ensures ∙ (ap vec_items c.into_bytes.ensures.value ∙ (c.in_ok-text.ensures.ok
     ∙ end_is workers rows c.args.self.now c.entries-entries.result c.live_count-live.result c.watchers-observers.result at
-        (c.entries-entries.ensures ∙ ap (λ (v : Version). v.entries) (c.deref.ensures ∙ c.version-version.ensures))
-        (λ first history stands. c.live_count-live.ensures first history (subst (VersionStandsFor first history) (sym (c.deref-2.ensures ∙ c.version-version.ensures)) stands))
-        c.watchers-observers.ensures))
+    (c.entries-entries.ensures ∙ ap (λ (v : Version). v.entries) (c.deref.ensures ∙ c.version-version.ensures))
+    (λ first history stands. c.live_count-live.ensures first history (subst (VersionStandsFor first history) (sym (c.deref-2.ensures ∙ c.version-version.ensures)) stands))
+    c.watchers-observers.ensures))

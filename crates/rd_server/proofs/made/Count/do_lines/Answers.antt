@@ -1,4 +1,4 @@
-use Rattle.std.proofs.Common.{◌≡◌, ℕ, ◌+◌, List, [], length, Err, ap, sym, arith, rules}
+use Rattle.std.proofs.Common.{◌≡◌, ◌+◌, [], length, Err, ap, sym, arith, rules}
 use Rattle.std.proofs.lemmas.Bool.Decides.{nat_tests}
 use Rattle.std.proofs.lemmas.List.{nil_from_length}
 use Rattle.line_model.specs.Texts.{lines_of}

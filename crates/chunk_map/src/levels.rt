@@ -1,0 +1,154 @@
+//! The pairs of a map in as many levels of parts as they need.
+ghost use Rattle.std.specs.Prelude.{◌≡◌, ◌<◌, length, IfOk, option_map};
+ghost use Rattle.std.specs.List.{All, flat_map};
+ghost use Rattle.std.specs.Map.{lookup};
+ghost use Rattle.std.specs.BTreeMap.{is_at};
+ghost use Rattle.chunk_map.specs.Changes.{IsChanged, IsCounted};
+ghost use Rattle.chunk_map.specs.Sorted.{IsAscending};
+ghost use Rattle.chunk_map.specs.Groups.{chunk_pairs, group_pairs, list_pairs, IsWholeChunk, IsWholeGroup, IsWholeList};
+ghost use Rattle.chunk_map.specs.Levels.{AreWhole, pairs_in};
+
+use crate::change::Tally;
+use crate::part::Part;
+use crate::parts::{MOST_PARTS, changed, copied, get, split};
+use crate::{Change, Shared};
+use rd_base::Starved;
+use std::alloc::Global;
+use std::sync::Arc;
+
+/// A chunk: one to 24 pairs, in ascending order of their keys.
+pub(crate) type Chunk<K, V> = Arc<Vec<(K, V)>>;
+
+/// A group: one to 24 chunks, whose pairs ascend from chunk to chunk.
+pub(crate) type Group<K, V> = Arc<Vec<Chunk<K, V>>>;
+
+/// A section: one to 24 groups, whose pairs ascend from group to group.
+pub(crate) type Section<K, V> = Arc<Vec<Group<K, V>>>;
+
+/// The pairs of a map, in the levels that they need: with too many parts for one list comes one level more.
+#[derive(Drop)]
+pub(crate) enum Levels<K: Ord + Shared, V: Shared> {
+    /// At most 24 chunks.
+    Chunks(Vec<Chunk<K, V>>),
+    /// At most 24 groups of chunks.
+    Groups(Vec<Group<K, V>>),
+    /// Sections of groups of chunks, as many as there are.
+    Sections(Vec<Section<K, V>>),
+}
+
+/// Two parts that have these parts, one half of them each; or one, where they are not too many for one.
+fn raised<K: Ord + Drop, V: Drop, P: Part<K, V>>(
+    alloc: Global,
+    parts: Vec<P>,
+) -> Result<Vec<Arc<Vec<P>>>, Starved>
+    requires any { 0 < length parts.items }
+    requires whole { All P.is_whole parts.items }
+    ensures pairs { IfOk result (λ raised. flat_map (list_pairs P.pairs) raised.items ≡ flat_map P.pairs parts.items) }
+    ensures whole { IfOk result (λ raised. All (IsWholeList P.is_whole) raised.items) }
+{
+    let (front, back) = split(parts)?;
+    let front = Arc::new(alloc, front)?;
+    let mut raised = Vec::with_capacity(alloc, 2)?;
+    raised.push(front)?;
+    match back {
+        None => Ok(raised),
+        Some(back) => {
+            let back = Arc::new(alloc, back)?;
+            raised.push(back)?;
+            Ok(raised)
+        }
+    }
+}
+
+/// Levels over these chunks.
+fn over_chunks<K: Ord + Shared, V: Shared>(
+    alloc: Global,
+    chunks: Vec<Chunk<K, V>>,
+) -> Result<Levels<K, V>, Starved>
+    requires whole { All IsWholeChunk chunks.items }
+    ensures pairs { IfOk result (λ levels. pairs_in levels ≡ flat_map chunk_pairs chunks.items) }
+    ensures whole { IfOk result AreWhole }
+{
+    if chunks.len() <= MOST_PARTS {
+        return Ok(Levels::Chunks(chunks));
+    }
+    let groups = raised(alloc, chunks)?;
+    Ok(Levels::Groups(groups))
+}
+
+/// Levels over these groups.
+fn over_groups<K: Ord + Shared, V: Shared>(
+    alloc: Global,
+    groups: Vec<Group<K, V>>,
+) -> Result<Levels<K, V>, Starved>
+    requires whole { All IsWholeGroup groups.items }
+    ensures pairs { IfOk result (λ levels. pairs_in levels ≡ flat_map group_pairs groups.items) }
+    ensures whole { IfOk result AreWhole }
+{
+    if groups.len() <= MOST_PARTS {
+        return Ok(Levels::Groups(groups));
+    }
+    let sections = raised(alloc, groups)?;
+    Ok(Levels::Sections(sections))
+}
+
+impl<K: Ord + Shared, V: Shared> Levels<K, V> {
+    /// Levels that show the same pairs, and share all parts.
+    pub(crate) fn again(&self, alloc: Global) -> Result<Levels<K, V>, Starved>
+        requires whole { AreWhole self.now }
+        ensures pairs { IfOk result (λ levels. pairs_in levels ≡ pairs_in self.now) }
+        ensures whole { IfOk result AreWhole }
+    {
+        match self {
+            Levels::Chunks(chunks) => Ok(Levels::Chunks(copied(alloc, chunks.as_slice())?)),
+            Levels::Groups(groups) => Ok(Levels::Groups(copied(alloc, groups.as_slice())?)),
+            Levels::Sections(sections) => {
+                Ok(Levels::Sections(copied(alloc, sections.as_slice())?))
+            }
+        }
+    }
+
+    /// The value at this key, where the key is there.
+    pub(crate) fn get(&self, key: &K) -> Option<&V>
+        requires whole { AreWhole self.now }
+        requires ascends { IsAscending K.cmp (pairs_in self.now) }
+        ensures { option_map (λ v. v.now) result ≡ lookup (is_at (K.cmp key.now)) (pairs_in self.now) }
+    {
+        match self {
+            Levels::Chunks(chunks) => get(chunks.as_slice(), key),
+            Levels::Groups(groups) => get(groups.as_slice(), key),
+            Levels::Sections(sections) => get(sections.as_slice(), key),
+        }
+    }
+
+    /// Levels that show the pairs after a change of the value at this key, and what it does to their number.
+    pub(crate) fn change<C: Change<V>>(
+        &self,
+        alloc: Global,
+        key: &K,
+        change: C,
+    ) -> Result<(Levels<K, V>, Tally), Starved>
+        requires whole { AreWhole self.now }
+        requires ascends { IsAscending K.cmp (pairs_in self.now) }
+        ensures pairs { IfOk result (λ changed. IsChanged K.cmp (C.gives change) (pairs_in self.now) key.now (pairs_in changed.0)) }
+        ensures counted { IfOk result (λ changed. IsCounted changed.1 (length (pairs_in self.now)) (length (pairs_in changed.0))) }
+        ensures whole { IfOk result (λ changed. AreWhole changed.0) }
+    {
+        match self {
+            Levels::Chunks(chunks) => {
+                let (chunks, tally) = changed(alloc, chunks.as_slice(), key, change)?;
+                let levels = over_chunks(alloc, chunks)?;
+                Ok((levels, tally))
+            }
+            Levels::Groups(groups) => {
+                let (groups, tally) = changed(alloc, groups.as_slice(), key, change)?;
+                let levels = over_groups(alloc, groups)?;
+                Ok((levels, tally))
+            }
+            Levels::Sections(sections) => {
+                let (sections, tally) = changed(alloc, sections.as_slice(), key, change)?;
+                Ok((Levels::Sections(sections), tally))
+            }
+        }
+    }
+}
