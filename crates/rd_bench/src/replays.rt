@@ -64,7 +64,10 @@ fn lines_a_second(rt: &HostRuntime) -> Result<(), Trouble> {
 /// What is measured of replays, printed.
 pub fn measured(rt: &HostRuntime) -> Result<(), Trouble> {
     let alloc = rt.alloc();
-    let mut costs = Costs::new(alloc, "rd_server replay, a line of a trace of so many devices");
+    let mut costs = Costs::new(
+        alloc,
+        "rd_server replay, a line of a trace of so many devices",
+    );
     let mut lines = 0u64;
     for devices in DEVICES {
         let mut rounds = Rounds::new(alloc);
