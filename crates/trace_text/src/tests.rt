@@ -2,6 +2,7 @@
 use super::*;
 use rd_base::{Bytes, Host, Peer, base_of, peer_read, peer_text};
 use std::alloc::Global;
+use std::str;
 use std::test::*;
 
 /// What becomes of a line: its text as it is printed, or why it is bad.
@@ -160,30 +161,35 @@ fn sent_and_peers(rt: HostRuntime) -> Result<(), Fail> {
     Ok(())
 }
 
-/// How many lines a trace has; nothing where one is not printed as it was read, or the last lacks its line feed.
-fn lines_read_back(alloc: Global, trace: &[u8]) -> Result<Option<usize>, Fail> {
+/// The trace of a number of devices, where there can be one.
+fn trace_of(alloc: Global, devices: u32, workers: u8) -> Option<Bytes> {
+    if devices == 0 || devices > 4000 || workers == 0 || workers > 16 {
+        return None;
+    }
+    make(alloc, devices, workers).ok()
+}
+
+/// How many lines a trace has; nothing where one is not printed as it was read.
+fn lines_read_back(alloc: Global, trace: &str) -> Result<Option<usize>, Fail> {
     let mut count = 0usize;
-    let mut rest = trace;
-    while let Some(at) = rest.iter().position(|b| *b == b'\n') {
-        let line = &rest[..at];
-        let shown = outcome(alloc, line)?;
-        if shown.as_slice() != line {
+    for line in trace.lines() {
+        let shown = outcome(alloc, line.as_bytes())?;
+        if shown.as_slice() != line.as_bytes() {
             return Ok(None);
         }
-        rest = &rest[at + 1..];
         count = count.checked_add(1).ok_or("few lines")?;
     }
-    Ok(rest.is_empty().then_some(count))
+    Ok(Some(count))
 }
 
 #[test]
 fn lines_of_generated_traces(rt: HostRuntime) -> Result<(), Fail> {
     for (devices, workers, want) in [(1, 1, 3), (10, 2, 22), (100, 3, 212), (4000, 16, 8441)] {
-        let trace = make(rt.alloc(), devices, workers)
-            .ok()
-            .ok_or("there is memory")?;
+        let trace = trace_of(rt.alloc(), devices, workers).ok_or("there is memory")?;
+        let text = str::from_utf8(trace.as_slice()).ok().ok_or("it is text")?;
+        assert!(rt; text.ends_with("\n"));
         assert_eq!(rt;
-            lines_read_back(rt.alloc(), trace.as_slice())?,
+            lines_read_back(rt.alloc(), text)?,
             Some(want),
             "of {devices}"
         );
