@@ -17,7 +17,7 @@ pub fn value_of(alloc: Global, param: &Param<'_>) -> Result<Text, Starved>
     ensures { IfOk result (λ text. text ≡ quoting.value_of (parameter_seen param.now)) }
 {
     match param.value {
-        None => Ok(Text::new(alloc)),
+        None => Ok(Text::new()),
         Some(value) => unquoted(alloc, value),
     }
 }
@@ -28,7 +28,7 @@ fn unquoted(alloc: Global, value: &str) -> Result<Text, Starved>
 {
     let mut characters = value.chars();
     let Some(first) = characters.next() else {
-        return Ok(Text::new(alloc));
+        return Ok(Text::new());
     };
     if first != '"' {
         return Text::copy_of(alloc, value);
@@ -40,25 +40,25 @@ fn unquoted(alloc: Global, value: &str) -> Result<Text, Starved>
 fn content(alloc: Global, inner: &str) -> Result<Text, Starved>
     ensures { IfOk result (λ text. text ≡ quoting.content_up_to_quote false inner.now) }
 {
-    let mut text = String::with_capacity(alloc, inner.len())?;
+    let mut text = Text::new();
     let mut escaped = false;
     let mut characters = inner.chars();
     'characters: while let Some(character) = characters.next() {
         if escaped {
-            text.push(character)?;
+            text.push(alloc, character)?;
             escaped = false;
             continue;
         }
         if character == '"' {
-            return Ok(Text::of(text));
+            return Ok(text);
         }
         if character == '\\' {
             escaped = true;
             continue;
         }
-        text.push(character)?;
+        text.push(alloc, character)?;
     }
-    Ok(Text::of(text))
+    Ok(text)
 }
 
 /// The text in quotes, a backslash before each quote and backslash in it. An error says that memory ran out.

@@ -40,7 +40,7 @@ fn registration_of(alloc: Global, given: Given) -> RegParams
     } = given;
     RegParams {
         name: Name {
-            ep: ep.unwrap_or(Text::new(alloc)),
+            ep: ep.unwrap_or(Text::new()),
             sector,
         },
         lt: lifetime.unwrap_or(DEFAULT_LIFETIME),

@@ -1,3 +1,4 @@
+pub mod Spelled
 pub mod Outside
 pub mod Peers
 pub mod Bases

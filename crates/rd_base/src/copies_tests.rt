@@ -18,7 +18,7 @@ fn pairs(alloc: Global) -> Result<Pairs, Starved> {
     })?;
     pairs.push(Pair {
         name: text(alloc, "x")?,
-        value: Text::new(alloc),
+        value: Text::new(),
     })?;
     Ok(pairs)
 }
@@ -45,7 +45,7 @@ fn item(alloc: Global) -> Result<Item, Starved> {
         anchor_ref: None,
         target: text(alloc, "coap://h/s")?,
         anchor: None,
-        raw: Text::new(alloc),
+        raw: Text::new(),
         pairs: pairs(alloc)?,
     })
 }
@@ -90,7 +90,7 @@ fn lists_grow_at_their_end(rt: HostRuntime) -> Result<(), Fail> {
     octets.push(7)?;
     assert_eq!(rt; octets.as_slice(), [7u8].as_slice());
     let mut word = text(alloc, "a")?;
-    word.push('b')?;
+    word.push(alloc, 'b')?;
     assert_eq!(rt; word.as_str(), "ab");
     assert_eq!(rt; pairs(alloc)?.len(), 2);
     assert_eq!(rt; criteria(alloc)?.is_empty(), false);

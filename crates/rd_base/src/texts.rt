@@ -2,6 +2,7 @@
 ghost use Rattle.std.specs.Prelude.{◌≡◌, ◌↔◌, ◌^◌, ◌<◌, [], ◌++◌, length, IsTrue, IfOk, OnOk, OnErr, nat_eq, encode_utf8};
 ghost use Rattle.std.specs.String.{string_bytes};
 ghost use Rattle.std.proofs.Common.{rules};
+ghost use Rattle.rd_base.specs.Spelled.{octets_of};
 ghost use Rattle.std.specs.Cmp.{partial_order_from_own_ties};
 ghost use Rattle.std.specs.Cmp.Rules.{comparing, hashing};
 ghost use Rattle.std.specs.Ordering.{nat_cmp, as_partial_cmp};
@@ -11,24 +12,59 @@ ghost use lib.Pointwise.{pointwise};
 ghost use Rattle.std.specs.Hash as fed;
 
 use crate::Starved;
+use arrayvec::ArrayString;
 use std::alloc::Global;
 use std::cmp::Ordering;
 use std::hash::{Hash, Hasher};
 use std::marker::Model;
 
-/// A text that is owned.
+/// How many octets a text has at most that stands in the value itself.
+const SHORT: usize = 16;
+
+/// Where the octets of a text stand.
+#[derive(Debug, Drop)]
+enum Spelled {
+    /// In the value itself, which takes no memory.
+    Short(ArrayString<SHORT>),
+    /// In memory of its own.
+    Long(String),
+}
+
+/// A text that is owned. A copy of at most 16 octets takes no memory.
 #[derive(Debug, Drop)]
 pub struct Text {
-    text: String,
+    spelled: Spelled,
 }
 
 impl Model for Text {
     ghost use Rattle.std.specs.Prelude.{ℕ, List};
-    ghost use Rattle.std.specs.String.{string_bytes};
+    ghost use Rattle.rd_base.specs.Spelled.{octets_of};
 
     ghost Value = { List ℕ };
 
-    ghost view = { λ t. string_bytes t.text };
+    ghost view = { λ t. octets_of t.spelled };
+}
+
+impl Spelled {
+    /// The text.
+    fn as_str(&self) -> &str
+        ensures { result.now ≡ octets_of self.now }
+    {
+        match self {
+            Spelled::Short(text) => text.as_str(),
+            Spelled::Long(text) => text.as_str(),
+        }
+    }
+}
+
+/// Two texts, one after the other, in memory of their own.
+fn joined(alloc: Global, text: &str, more: &str) -> Result<String, Starved>
+    ensures { IfOk result (λ whole. string_bytes whole ≡ text.now ++ more.now) }
+{
+    let mut whole = String::with_capacity(alloc, usize::saturating_add(text.len(), more.len()))?;
+    whole.push_str(text)?;
+    whole.push_str(more)?;
+    Ok(whole)
 }
 
 impl Text {
@@ -36,15 +72,17 @@ impl Text {
     pub fn of(text: String) -> Text
         ensures { result ≡ string_bytes text }
     {
-        Text { text }
+        Text {
+            spelled: Spelled::Long(text),
+        }
     }
 
     /// The empty text. Takes no memory.
-    pub fn new(alloc: Global) -> Text
+    pub fn new() -> Text
         ensures { result ≡ [] }
     {
         Text {
-            text: String::new(alloc),
+            spelled: Spelled::Short(ArrayString::new()),
         }
     }
 
@@ -52,8 +90,11 @@ impl Text {
     pub fn copy_of(alloc: Global, text: &str) -> Result<Text, Starved>
         ensures { IfOk result (λ t. t ≡ text.now) }
     {
-        let text = String::from_str(alloc, text)?;
-        Ok(Text { text })
+        let spelled = match ArrayString::from(text) {
+            Ok(short) => Spelled::Short(short),
+            Err(_) => Spelled::Long(String::from_str(alloc, text)?),
+        };
+        Ok(Text { spelled })
     }
 
     /// An equal text. `Starved`: out of memory.
@@ -67,14 +108,14 @@ impl Text {
     pub fn as_str(&self) -> &str
         ensures { result.now ≡ self.now }
     {
-        self.text.as_str()
+        self.spelled.as_str()
     }
 
     /// The octets of the text.
     pub fn as_bytes(&self) -> &[u8]
         ensures { result.now ≡ self.now }
     {
-        self.text.as_bytes()
+        self.as_str().as_bytes()
     }
 
     /// How many octets the text has.
@@ -82,39 +123,43 @@ impl Text {
         ensures value { result ≡ length self.now }
         ensures counted { length self.now < 2 ^ 63 }
     {
-        self.text.as_bytes().len()
+        self.as_str().len()
     }
 
     /// Whether the text is empty.
     pub fn is_empty(&self) -> bool
         ensures { IsTrue result ↔ (self.now ≡ []) }
     {
-        self.text.as_bytes().is_empty()
-    }
-
-    /// Gives the string back. Takes no memory.
-    pub fn into_string(self) -> String
-        ensures { string_bytes result ≡ self }
-    {
-        let Text { text } = self;
-        text
+        self.as_bytes().is_empty()
     }
 
     /// Appends a character. `Starved`: out of memory, and the text is as before.
-    pub fn push(&mut self, character: char) -> Result<(), Starved>
+    pub fn push(&mut self, alloc: Global, character: char) -> Result<(), Starved>
         ensures ok { OnOk result (self.new ≡ self.old ++ encode_utf8 character) }
         ensures err { OnErr result (self.new ≡ self.old) }
     {
-        self.text.push(character)?;
-        Ok(())
+        let mut octets = [0; 4];
+        self.append(alloc, character.encode_utf8(&mut octets))
     }
 
     /// Appends a text. `Starved`: out of memory, and this text is as before.
-    pub fn append(&mut self, more: &str) -> Result<(), Starved>
+    pub fn append(&mut self, alloc: Global, more: &str) -> Result<(), Starved>
         ensures ok { OnOk result (self.new ≡ self.old ++ more.now) }
         ensures err { OnErr result (self.new ≡ self.old) }
     {
-        self.text.push_str(more)?;
+        match &mut self.spelled {
+            Spelled::Long(text) => {
+                text.push_str(more)?;
+                return Ok(());
+            }
+            Spelled::Short(text) => {
+                if text.try_push_str(more).is_ok() {
+                    return Ok(());
+                }
+            }
+        }
+        let whole = joined(alloc, self.as_str(), more)?;
+        self.spelled = Spelled::Long(whole);
         Ok(())
     }
 }
@@ -125,7 +170,7 @@ impl PartialEq for Text {
     ghost laws = { Prim.search (comparing, rules) };
 
     fn eq(&self, other: &Text) -> bool {
-        self.text.as_str() == other.text.as_str()
+        self.as_str() == other.as_str()
     }
 }
 
@@ -139,7 +184,7 @@ impl Hash for Text {
     ghost respects_eq = { Prim.search (hashing, rules) };
 
     fn hash<H: Hasher>(&self, state: &mut H) {
-        self.text.as_str().hash(state);
+        self.as_str().hash(state);
     }
 }
 
@@ -153,7 +198,7 @@ impl Ord for Text {
     ghost matches_eq = { Prim.search (comparing, rules) };
 
     fn cmp(&self, other: &Text) -> Ordering {
-        self.text.as_str().cmp(other.text.as_str())
+        self.as_str().cmp(other.as_str())
     }
 }
 

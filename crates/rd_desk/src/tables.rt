@@ -49,16 +49,6 @@ impl Model for Tables {
     ghost invariant = { λ t. (t.moment.0 ≤ 10 ^ 15) × (t.exchanges.moment ≤ t.moment.0) × ((arc_value t.version).at ≤ t.moment.0) × ((arc_value t.version).swept ≤ t.moment.0) };
 }
 
-/// The later of two moments.
-fn later(one: Moment, other: Moment) -> Moment
-    ensures { result.0 ≡ max other.0 one.0 }
-{
-    if one.0 < other.0 {
-        return other;
-    }
-    one
-}
-
 impl Tables {
     /// Tables of a directory in which nothing was done, at the moment 0, with all the room that they take. `Starved`: out of memory.
     pub(crate) fn make(alloc: Global) -> Result<Tables, Starved>
@@ -87,7 +77,7 @@ impl Tables {
         ensures way { (rows : List Row) (s : Step) (starved : Bool) (out : List (Peer × List ℕ)) (mids : Mids) → out ≡ [] → IsCalled rows s now mids self.old → UnderWay rows s starved nothing self.new out mids }
         ensures version { self.new.version ≡ self.old.version }
     {
-        let to = later(self.moment, now);
+        let to = self.moment.later(now);
         self.watching.pass(&*self.version, self.moment, to);
         self.moment = to;
     }

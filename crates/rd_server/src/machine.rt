@@ -33,16 +33,6 @@ pub struct Machine {
     sent: Outbox,
 }
 
-/// The later of two moments.
-fn later(one: Moment, other: Moment) -> Moment
-    ensures { result.0 ≡ max other.0 one.0 }
-{
-    if one.0 < other.0 {
-        return other;
-    }
-    one
-}
-
 /// Workers that heard nothing yet, numbered from 0.
 fn workers_of(alloc: Global, number: u8) -> Result<Vec<Worker>, Starved>
     requires { number ≤ max_workers }
@@ -91,7 +81,7 @@ impl Machine {
         if hearer.is_busy() {
             return Err(Trouble::Bad(Reason::Busy));
         }
-        self.latest = later(self.latest, moment);
+        self.latest = self.latest.later(moment);
         Ok(hearer.hear(
             self.alloc,
             &mut self.desk,
@@ -116,7 +106,7 @@ impl Machine {
         if !goer.is_busy() {
             return Ok(());
         }
-        self.latest = later(self.latest, moment);
+        self.latest = self.latest.later(moment);
         Ok(goer.go(&mut self.desk, self.latest, &mut self.sent)?)
     }
 
@@ -131,7 +121,7 @@ impl Machine {
         let Some(ticker) = self.workers.get_mut(usize::from(worker)) else {
             return Err(Trouble::Bad(Reason::Worker));
         };
-        self.latest = later(self.latest, moment);
+        self.latest = self.latest.later(moment);
         Ok(ticker.tick(&mut self.desk, self.latest, word, &mut self.sent)?)
     }
 

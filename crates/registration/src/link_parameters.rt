@@ -80,7 +80,7 @@ impl Gathered {
     {
         Gathered {
             anchor: None,
-            raw: Text::new(alloc),
+            raw: Text::new(),
             pairs: Vec::new(alloc),
             end: start,
         }
@@ -95,7 +95,7 @@ impl Gathered {
         let raw = whole(param);
         self.end += raw.len();
         if !is_anchor(param) {
-            self.raw.append(raw)?;
+            self.raw.append(alloc, raw)?;
             self.pairs.push(pair_of(alloc, param)?)?;
             return Ok(());
         }

@@ -176,7 +176,7 @@ fn weights(rt: HostRuntime) -> Result<(), Fail> {
     let name = Text::copy_of(alloc, "lit")?;
     attrs.push(Pair {
         name,
-        value: Text::new(alloc),
+        value: Text::new(),
     })?;
     draft.attrs = Pairs::of(attrs);
     assert_eq!(rt; weight(&draft, 1), 184);
