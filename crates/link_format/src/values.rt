@@ -1,5 +1,5 @@
 //! What values say, and texts in quotes (RFC 6690 section 2).
-ghost use Rattle.std.specs.Prelude.{◌≡◌, ◌==◌, ◌||◌, ◌++◌, IfOk, false, true, flat_map};
+ghost use Rattle.std.specs.Prelude.{◌≡◌, ◌==◌, ◌||◌, ◌++◌, IfOk, IfSome, false, true, flat_map};
 ghost use Rattle.std.specs.Char.{encode_utf8};
 ghost use Rattle.std.specs.String.{string_bytes};
 ghost use Rattle.std.specs.List.{list_all};
@@ -8,6 +8,7 @@ ghost use Rattle.link_model.specs.Documents.{is_quoted_string};
 ghost use Rattle.link_model.specs.Quoting as quoting;
 ghost use Rattle.link_format.specs.Views.{parameter_seen};
 
+use crate::cuts::{Quotes, cut};
 use crate::parameters::Param;
 use rd_base::{Starved, Text};
 use std::alloc::Global;
@@ -36,8 +37,30 @@ fn unquoted(alloc: Global, value: &str) -> Result<Text, Starved>
     content(alloc, characters.as_str())
 }
 
+/// The characters up to a closing quote, where no backslash is among them.
+#[tactic(auto, using(crate::proofs::ValueLemmas::content_as_written))]
+fn content_as_written(inner: &str) -> Option<&str>
+    ensures { IfSome result (λ text. text.now ≡ quoting.content_up_to_quote false inner.now) }
+{
+    let (front, _) = cut(b'"', Quotes::Unread, inner);
+    if front.as_bytes().contains(&b'\\') {
+        return None;
+    }
+    Some(front)
+}
+
 /// The characters up to a closing quote, each escape replaced by the character that it escapes.
 fn content(alloc: Global, inner: &str) -> Result<Text, Starved>
+    ensures { IfOk result (λ text. text ≡ quoting.content_up_to_quote false inner.now) }
+{
+    match content_as_written(inner) {
+        Some(text) => Text::copy_of(alloc, text),
+        None => unescaped(alloc, inner),
+    }
+}
+
+/// The same of characters among which a backslash is, one after the other.
+fn unescaped(alloc: Global, inner: &str) -> Result<Text, Starved>
     ensures { IfOk result (λ text. text ≡ quoting.content_up_to_quote false inner.now) }
 {
     let mut text = Text::new();

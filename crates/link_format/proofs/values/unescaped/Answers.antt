@@ -1,7 +1,7 @@
 -- The content of a quoted string, character by character.
 use Rattle.std.specs.Str.Iter.{chars_rest}
 use Rattle.link_format.proofs.ValueLemmas.{content_plain_step, content_escaped_step}
-use Rattle.link_format.proofs.values.content.Goals as goal
+use Rattle.link_format.proofs.values.unescaped.Goals as goal
 
 pub characters-preserved-then-escaped : goal.characters-preserved-then-escaped
 characters-preserved-then-escaped c =
