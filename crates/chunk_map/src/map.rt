@@ -50,7 +50,7 @@ impl<K: Ord + Shared, V: Shared> ChunkMap<K, V> {
         })
     }
 
-    /// An equal map, which shares all groups.
+    /// An equal map, which shares all parts.
     pub fn share(&self) -> Result<ChunkMap<K, V>, Starved>
         ensures same { IfOk result (λ map. map ≡ self.now) }
         ensures ascends { IsAscending K.cmp self.now }

@@ -4,6 +4,7 @@ ghost use Rattle.std.specs.List.{All, flat_map};
 ghost use Rattle.std.specs.Map.{lookup};
 ghost use Rattle.std.specs.BTreeMap.{is_at};
 ghost use Rattle.std.specs.Arc.{arc_value};
+ghost use Rattle.chunk_map.specs.declared.change.Tally.TheVariants.{Same, More};
 ghost use Rattle.chunk_map.specs.Changes.{IsChanged, IsCounted};
 ghost use Rattle.chunk_map.specs.Sorted.{IsAscending, HasAny, begins_by, option_flat};
 
@@ -26,8 +27,32 @@ pub(crate) struct Changed<P: Drop> {
     pub(crate) tally: Tally,
 }
 
+impl<P: Drop> Changed<P> {
+    /// One part with as many pairs as before.
+    fn same(part: P) -> Changed<P>
+        ensures { result ≡ record { first = Some part; second = None; tally = Same } }
+    {
+        Changed {
+            first: Some(part),
+            second: None,
+            tally: Tally::Same,
+        }
+    }
+
+    /// Two parts, with one pair more than before.
+    fn more(first: P, second: P) -> Changed<P>
+        ensures { result ≡ record { first = Some first; second = Some second; tally = More } }
+    {
+        Changed {
+            first: Some(first),
+            second: Some(second),
+            tally: Tally::More,
+        }
+    }
+}
+
 /// A part of a map. It shows one pair or more, in ascending order of their keys. A pair is the smallest part, a list of
-/// parts is a part, and so is an `Arc` of one: chunks, groups and all groups share this one code.
+/// parts is a part, and so is an `Arc` of one: chunks, groups, sections and lists of them share this one code.
 pub(crate) trait Part<K: Ord + Drop, V: Drop>: Drop {
     /// The pairs that it shows.
     ghost pairs: { Self → List (K × V) };
@@ -94,11 +119,23 @@ fn changed_at<K: Ord + Shared, V: Shared, C: Change<V>>(
         }),
         Some(value) => {
             let key = pair.0.share()?;
-            Ok(Changed {
-                first: Some((key, value)),
-                second: None,
-                tally: Tally::Same,
-            })
+            Ok(Changed::same((key, value)))
+        }
+    }
+}
+
+/// The pair that a change brings to a key that is not there, where it brings one.
+fn begun<K: Ord + Shared, V: Shared, C: Change<V>>(
+    key: &K,
+    change: C,
+) -> Result<Option<(K, V)>, Starved>
+    ensures { IfOk result (λ begun. (new : Option V) × C.gives change None new × (option_flat (λ p. p ∷ []) begun ≡ option_flat (λ v. (key.now, v) ∷ []) new)) }
+{
+    match change.begin()? {
+        None => Ok(None),
+        Some(value) => {
+            let key = key.share()?;
+            Ok(Some((key, value)))
         }
     }
 }
@@ -113,20 +150,9 @@ fn changed_before<K: Ord + Shared, V: Shared, C: Change<V>>(
     ensures counted { IfOk result (λ changed. IsCounted changed.tally 1 (length (option_flat (λ p. p ∷ []) changed.first ++ option_flat (λ p. p ∷ []) changed.second))) }
 {
     let old = (pair.0.share()?, pair.1.share()?);
-    match change.begin()? {
-        None => Ok(Changed {
-            first: Some(old),
-            second: None,
-            tally: Tally::Same,
-        }),
-        Some(value) => {
-            let key = key.share()?;
-            Ok(Changed {
-                first: Some((key, value)),
-                second: Some(old),
-                tally: Tally::More,
-            })
-        }
+    match begun(key, change)? {
+        None => Ok(Changed::same(old)),
+        Some(new) => Ok(Changed::more(new, old)),
     }
 }
 
@@ -140,20 +166,9 @@ fn changed_behind<K: Ord + Shared, V: Shared, C: Change<V>>(
     ensures counted { IfOk result (λ changed. IsCounted changed.tally 1 (length (option_flat (λ p. p ∷ []) changed.first ++ option_flat (λ p. p ∷ []) changed.second))) }
 {
     let old = (pair.0.share()?, pair.1.share()?);
-    match change.begin()? {
-        None => Ok(Changed {
-            first: Some(old),
-            second: None,
-            tally: Tally::Same,
-        }),
-        Some(value) => {
-            let key = key.share()?;
-            Ok(Changed {
-                first: Some(old),
-                second: Some((key, value)),
-                tally: Tally::More,
-            })
-        }
+    match begun(key, change)? {
+        None => Ok(Changed::same(old)),
+        Some(new) => Ok(Changed::more(old, new)),
     }
 }
 

@@ -1,4 +1,4 @@
-//! Lists of parts: the parts of a chunk, of a group and of a map.
+//! Lists of parts: the parts of a chunk, of a group, of a section and of a map.
 ghost use Rattle.std.specs.Prelude.{◌≡◌, ◌<◌, ◌+◌, List, [], ◌∷◌, ◌++◌, length, take, drop, IfOk, OnOk, IfSome, IfNone, option_map};
 ghost use Rattle.std.specs.List.{All, flat_map};
 ghost use Rattle.std.specs.Map.{lookup, remove_entry};
@@ -6,12 +6,14 @@ ghost use Rattle.std.specs.BTreeMap.{insert_entry, is_at};
 ghost use Rattle.std.specs.BTreeMap.Range.{entries_from};
 ghost use Rattle.chunk_map.specs.Changes.{IsChanged, IsCounted};
 ghost use Rattle.chunk_map.specs.Sorted.{IsAscending, AllGreater, AllLess, option_flat};
+ghost use Rattle.chunk_map.specs.Groups.{list_pairs, IsWholeList};
 
 use crate::Change;
 use crate::change::Tally;
 use crate::part::{Changed, Part};
 use rd_base::Starved;
 use std::alloc::Global;
+use std::sync::Arc;
 
 /// The greatest number of parts that a list keeps: with one more it is split in two.
 pub(crate) const MOST_PARTS: usize = 24;
@@ -55,9 +57,10 @@ fn append<K: Ord + Drop, V: Drop, P: Part<K, V>>(
     ensures whole { OnOk result (All P.is_whole parts.new.items) }
     ensures length { OnOk result (length parts.new.items ≡ length parts.old.items + length more.now) }
 {
+    parts.reserve(more.len())?;
     for part in more {
         let part = part.again()?;
-        parts.push(part)?;
+        parts.push_reserved(part);
     }
     Ok(())
 }
@@ -120,6 +123,16 @@ pub(crate) fn first<'a, K: Ord + Drop, V: Drop, P: Part<K, V>>(parts: &'a [P]) -
     ensures whole { P.is_whole result.0.now × All P.is_whole result.1.now }
 {
     (&parts[0], &parts[1..])
+}
+
+/// The parts of a list that is shared.
+pub(crate) fn parts_of<'a, K: Ord + Drop, V: Drop, P: Part<K, V>>(list: &'a Arc<Vec<P>>) -> &'a [P]
+    requires { IsWholeList P.is_whole list.now }
+    ensures pairs { flat_map P.pairs result.now ≡ list_pairs P.pairs list.now }
+    ensures any { 0 < length result.now }
+    ensures whole { All P.is_whole result.now }
+{
+    list.as_slice()
 }
 
 /// The part where this key stands or would stand, and those after it; None if and only if there is no part.

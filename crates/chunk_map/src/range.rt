@@ -8,7 +8,7 @@ ghost use Rattle.chunk_map.specs.Levels.{AreWhole, pairs_in};
 
 use crate::Shared;
 use crate::levels::{Chunk, Group, Levels, Section};
-use crate::parts::{cut, find, first};
+use crate::parts::{cut, find, first, parts_of};
 use rd_base::Steps;
 use std::cmp::Ordering;
 use std::marker::Model;
@@ -65,26 +65,6 @@ fn pairs_of<'a, K: Ord + Shared, V: Shared>(chunk: &'a Chunk<K, V>) -> &'a [(K, 
     chunk.as_slice()
 }
 
-/// The chunks of a group.
-fn chunks_of<'a, K: Ord + Shared, V: Shared>(group: &'a Group<K, V>) -> &'a [Chunk<K, V>]
-    requires { IsWholeGroup group.now }
-    ensures pairs { flat_map chunk_pairs result.now ≡ group_pairs group.now }
-    ensures any { 0 < length result.now }
-    ensures whole { All IsWholeChunk result.now }
-{
-    group.as_slice()
-}
-
-/// The groups of a section.
-fn groups_of<'a, K: Ord + Shared, V: Shared>(section: &'a Section<K, V>) -> &'a [Group<K, V>]
-    requires { IsWholeSection section.now }
-    ensures pairs { flat_map group_pairs result.now ≡ section_pairs section.now }
-    ensures any { 0 < length result.now }
-    ensures whole { All IsWholeGroup result.now }
-{
-    section.as_slice()
-}
-
 /// The next group, and the groups and sections after it; None if and only if there is none.
 fn next_group<'a, K: Ord + Shared, V: Shared>(
     groups: &'a [Group<K, V>],
@@ -106,7 +86,7 @@ fn next_group<'a, K: Ord + Shared, V: Shared>(
         return None;
     }
     let (section, sections) = first(sections);
-    let (group, groups) = first(groups_of(section));
+    let (group, groups) = first(parts_of(section));
     Some((group, groups, sections))
 }
 
@@ -139,7 +119,7 @@ fn next_chunk<'a, K: Ord + Shared, V: Shared>(
         return Some((pairs_of(chunk), chunks, groups, sections));
     }
     let (group, groups, sections) = next_group(groups, sections)?;
-    let (chunk, chunks) = first(chunks_of(group));
+    let (chunk, chunks) = first(parts_of(group));
     Some((pairs_of(chunk), chunks, groups, sections))
 }
 
@@ -174,7 +154,7 @@ fn in_groups<'a, K: Ord + Shared, V: Shared>(
     let Some((group, groups)) = cut(groups, from) else {
         return (&[], &[], &[]);
     };
-    let (pairs, chunks) = in_chunks(chunks_of(group), from);
+    let (pairs, chunks) = in_chunks(parts_of(group), from);
     (pairs, chunks, groups)
 }
 
@@ -194,7 +174,7 @@ fn in_sections<'a, K: Ord + Shared, V: Shared>(
     let Some((section, sections)) = cut(sections, from) else {
         return (&[], &[], &[], &[]);
     };
-    let (pairs, chunks, groups) = in_groups(groups_of(section), from);
+    let (pairs, chunks, groups) = in_groups(parts_of(section), from);
     (pairs, chunks, groups, sections)
 }
 
