@@ -13,8 +13,9 @@ use Rattle.std.proofs.lemmas.Map.Made.{is_some-lookup}
 use Rattle.rd_base.proofs.lemmas.Each.{each_one}
 use Rattle.rd_base.proofs.lemmas.Filters.{filter_all}
 use Rattle.chunk_map.specs.Sorted.{IsAscending}
+use Rattle.attribute_index.specs.declared.rows.Edit.TheVariants.{Put}
 use Rattle.attribute_index.specs.Entries.{has_number}
-use Rattle.attribute_index.specs.Rows.{NumbersAscend, HasNumber, IsRow, IsWith}
+use Rattle.attribute_index.specs.Rows.{NumbersAscend, HasNumber, IsRow, IsEdited}
 use Rattle.attribute_index.proofs.Lookups.{lookup-insert_entry, lookup-remove_entry}
 
 any_alike : (p q : ℕ → Bool) → ((m : ℕ) → p m ≡ q m) → (ns : List ℕ) → list_any p ns ≡ list_any q ns
@@ -95,5 +96,5 @@ unfolding NumbersAscend
 row_one n = (tt, (tt, tt))
 
 -- a number that comes where none was
-pub with_one : (number : ℕ) (numbers : List ℕ) → numbers ≡ number ∷ [] → IsWith number None (Some numbers)
-with_one number numbers is = subst (λ ns. IsWith number None (Some ns)) (sym is) ((λ n. or-false (nat_eq n number)), row_one number)
+pub put_first : (number : ℕ) (numbers : List ℕ) → numbers ≡ number ∷ [] → IsEdited Put number None (Some numbers)
+put_first number numbers is = subst (λ ns. IsEdited Put number None (Some ns)) (sym is) ((λ n. or-false (nat_eq n number)), row_one number)

@@ -18,8 +18,10 @@ use Rattle.rd_base.proofs.lemmas.Each.{each_append}
 use Rattle.rd_base.specs.declared.attributes.Pair.{Pair}
 use Rattle.chunk_map.specs.Changes.{IsChanged, with_value}
 use Rattle.chunk_map.specs.Sorted as sorted
+use Rattle.attribute_index.specs.declared.rows.Edit.{Edit}
+use Rattle.attribute_index.specs.declared.rows.Edit.TheVariants.{Put, Take}
 use Rattle.attribute_index.specs.Entries.{Entry, IsAscending, entries_of, values_of, entry_cmp, has_entry, has_number, is_same, is_carrier, carriers_of}
-use Rattle.attribute_index.specs.Rows.{Row, AreRows, IsRow, IsWith, IsWithout, NumbersAscend, value_cmp, entries_in, entries_of_rows, entries_under, number_in, is_wanted, wanted_numbers}
+use Rattle.attribute_index.specs.Rows.{Row, AreRows, IsRow, IsEdited, NumbersAscend, value_cmp, entries_in, entries_of_rows, entries_under, number_in, is_after, is_wanted, wanted_numbers}
 use Rattle.attribute_index.proofs.Lookups.{none_behind, lookup_alike, lookup-insert_entry, lookup-remove_entry}
 
 -- the order of values is total
@@ -82,11 +84,6 @@ has_in_rows (row ∷ rows) e up =
         ∙ or_none (has_number row.1 e.number)
     by false same = refl
 
--- where a row has one number more
-or_once : (t a b : Bool) (o : Option (List ℕ)) (ns : List ℕ) (n : ℕ) → has_number ns n ≡ (a || b) → (t ≡ true → number_in o n ≡ a) → number_in (cond t (Some ns) o) n ≡ (number_in o n || (t && b))
-or_once true a b o ns n h same = h ∙ ap (λ x. x || b) (sym (same refl))
-or_once false a b o ns n h same = sym (or_none (number_in o n))
-
 and_same : (a b c : Bool) → ((a && b) && c) ≡ (a && (b && c))
 and_same true b c = refl
 and_same false b c = refl
@@ -95,39 +92,15 @@ and_same false b c = refl
 found_alike : (q k : List ℕ × List ℕ) (rows : List Row) (n : ℕ) → is_at (value_cmp q) k ≡ true → number_in (lookup (is_at (value_cmp q)) rows) n ≡ number_in (lookup (is_at (value_cmp k)) rows) n
 found_alike q k rows n same = ap (λ o. number_in o n) (lookup_alike value_total q k rows same)
 
--- rows in which a value has one number more have one entry more
-has_with : (rows : List Row) (value : List ℕ × List ℕ) (number : ℕ) (numbers : List ℕ) → sorted.IsAscending value_cmp rows → sorted.IsAscending value_cmp (insert_entry value_cmp rows value numbers)
-    → ((n : ℕ) → has_number numbers n ≡ (number_in (lookup (is_at (value_cmp value)) rows) n || nat_eq n number))
-    → (e : Entry) → has_entry (entries_of_rows (insert_entry value_cmp rows value numbers)) e ≡ (has_entry (entries_of_rows rows) e || is_same e (entry_at value number))
-has_with rows value number numbers up up' more e =
-    has_in_rows (insert_entry value_cmp rows value numbers) e up'
-    ∙ ap (λ o. number_in o e.number) (lookup-insert_entry value_total (value_of e) value numbers rows)
-    ∙ or_once (is_at (value_cmp (value_of e)) value) (number_in (lookup (is_at (value_cmp value)) rows) e.number) (nat_eq e.number number) (lookup (is_at (value_cmp (value_of e))) rows) numbers e.number (more e.number) (found_alike (value_of e) value rows e.number)
-    ∙ ap (λ t. t || (is_at (value_cmp (value_of e)) value && nat_eq e.number number)) (sym (has_in_rows rows e up))
-    ∙ ap (λ t. has_entry (entries_of_rows rows) e || (t && nat_eq e.number number)) (same_at (value_of e) value)
-    ∙ ap (λ t. has_entry (entries_of_rows rows) e || t) (and_same (bytes_eq e.name value.0) (bytes_eq e.value value.1) (nat_eq e.number number))
-
--- where a row has one number less
-not_once : (t a b : Bool) (o left : Option (List ℕ)) (n : ℕ) → number_in left n ≡ (a && not b) → (t ≡ true → number_in o n ≡ a) → number_in (cond t left o) n ≡ (number_in o n && not (t && b))
-not_once true a b o left n h same = h ∙ ap (λ x. x && not b) (sym (same refl))
-not_once false a b o left n h same = sym (and_all (number_in o n))
+-- where the numbers of one row are edited
+edited_once : (edit : Edit) (t a b : Bool) (o new : Option (List ℕ)) (n : ℕ) → number_in new n ≡ is_after edit a b → (t ≡ true → number_in o n ≡ a) → number_in (cond t new o) n ≡ is_after edit (number_in o n) (t && b)
+edited_once edit true a b o new n h same = h ∙ ap (λ x. is_after edit x b) (sym (same refl))
+edited_once edit false a b o new n h same = sym (as_before edit (number_in o n))
   where
-    and_all : (x : Bool) → (x && true) ≡ x
-    and_all true = refl
-    and_all false = refl
-
--- rows in which a value has one number less have one entry less: what is left of its numbers, where there is some
-has_less : (rows rows' : List Row) (value : List ℕ × List ℕ) (number : ℕ) (left : Option (List ℕ)) → sorted.IsAscending value_cmp rows → sorted.IsAscending value_cmp rows'
-    → ((q : List ℕ × List ℕ) → lookup (is_at (value_cmp q)) rows' ≡ cond (is_at (value_cmp q) value) left (lookup (is_at (value_cmp q)) rows))
-    → ((n : ℕ) → number_in left n ≡ (number_in (lookup (is_at (value_cmp value)) rows) n && not (nat_eq n number)))
-    → (e : Entry) → has_entry (entries_of_rows rows') e ≡ (has_entry (entries_of_rows rows) e && not (is_same e (entry_at value number)))
-has_less rows rows' value number left up up' found less e =
-    has_in_rows rows' e up'
-    ∙ ap (λ o. number_in o e.number) (found (value_of e))
-    ∙ not_once (is_at (value_cmp (value_of e)) value) (number_in (lookup (is_at (value_cmp value)) rows) e.number) (nat_eq e.number number) (lookup (is_at (value_cmp (value_of e))) rows) left e.number (less e.number) (found_alike (value_of e) value rows e.number)
-    ∙ ap (λ t. t && not (is_at (value_cmp (value_of e)) value && nat_eq e.number number)) (sym (has_in_rows rows e up))
-    ∙ ap (λ t. has_entry (entries_of_rows rows) e && not (t && nat_eq e.number number)) (same_at (value_of e) value)
-    ∙ ap (λ t. has_entry (entries_of_rows rows) e && not t) (and_same (bytes_eq e.name value.0) (bytes_eq e.value value.1) (nat_eq e.number number))
+    as_before : (edit : Edit) (x : Bool) → is_after edit x false ≡ x
+    as_before Put x = or_none x
+    as_before Take true = refl
+    as_before Take false = refl
 
 -- what is found where the numbers of a value are changed
 found_changed : (rows rows' : List Row) (value : List ℕ × List ℕ) (new : Option (List ℕ)) → sorted.IsAscending value_cmp rows → rows' ≡ with_value value_cmp rows value new
@@ -135,22 +108,16 @@ found_changed : (rows rows' : List Row) (value : List ℕ × List ℕ) (new : Op
 found_changed rows rows' value None up is q = ap (λ some. lookup (is_at (value_cmp q)) some) is ∙ lookup-remove_entry value_total q value rows up
 found_changed rows rows' value (Some numbers) up is q = ap (λ some. lookup (is_at (value_cmp q)) some) is ∙ lookup-insert_entry value_total q value numbers rows
 
--- where a number comes to a value, one entry comes
-pub has_put : (rows rows' : List Row) (value : List ℕ × List ℕ) (number : ℕ) → sorted.IsAscending value_cmp rows → sorted.IsAscending value_cmp rows' → IsChanged value_cmp (IsWith number) rows value rows'
-    → (e : Entry) → has_entry (entries_of_rows rows') e ≡ (has_entry (entries_of_rows rows) e || is_same e (entry_at value number))
-has_put rows rows' value number up up' h e = by h.0 h.1 h.2
-  where
-    by : (new : Option (List ℕ)) → IsWith number (lookup (is_at (value_cmp value)) rows) new → rows' ≡ with_value value_cmp rows value new
-        → has_entry (entries_of_rows rows') e ≡ (has_entry (entries_of_rows rows) e || is_same e (entry_at value number))
-    by None more is = absurd more
-    by (Some numbers) more is =
-        ap (λ some. has_entry (entries_of_rows some) e) is
-        ∙ has_with rows value number numbers up (subst (λ some. sorted.IsAscending value_cmp some) is up') more.0 e
-
--- where a number goes from a value, one entry goes
-pub has_taken : (rows rows' : List Row) (value : List ℕ × List ℕ) (number : ℕ) → sorted.IsAscending value_cmp rows → sorted.IsAscending value_cmp rows' → IsChanged value_cmp (IsWithout number) rows value rows'
-    → (e : Entry) → has_entry (entries_of_rows rows') e ≡ (has_entry (entries_of_rows rows) e && not (is_same e (entry_at value number)))
-has_taken rows rows' value number up up' h e = has_less rows rows' value number h.0 up up' (found_changed rows rows' value h.0 up h.2) h.1.0 e
+-- where the numbers of a value are edited, one entry is
+pub has_edited : (edit : Edit) (rows rows' : List Row) (value : List ℕ × List ℕ) (number : ℕ) → sorted.IsAscending value_cmp rows → sorted.IsAscending value_cmp rows' → IsChanged value_cmp (IsEdited edit number) rows value rows'
+    → (e : Entry) → has_entry (entries_of_rows rows') e ≡ is_after edit (has_entry (entries_of_rows rows) e) (is_same e (entry_at value number))
+has_edited edit rows rows' value number up up' h e =
+    has_in_rows rows' e up'
+    ∙ ap (λ o. number_in o e.number) (found_changed rows rows' value h.0 up h.2 (value_of e))
+    ∙ edited_once edit (is_at (value_cmp (value_of e)) value) (number_in (lookup (is_at (value_cmp value)) rows) e.number) (nat_eq e.number number) (lookup (is_at (value_cmp (value_of e))) rows) h.0 e.number (h.1.0 e.number) (found_alike (value_of e) value rows e.number)
+    ∙ ap (λ t. is_after edit t (is_at (value_cmp (value_of e)) value && nat_eq e.number number)) (sym (has_in_rows rows e up))
+    ∙ ap (λ t. is_after edit (has_entry (entries_of_rows rows) e) (t && nat_eq e.number number)) (same_at (value_of e) value)
+    ∙ ap (λ t. is_after edit (has_entry (entries_of_rows rows) e) t) (and_same (bytes_eq e.name value.0) (bytes_eq e.value value.1) (nat_eq e.number number))
 
 -- ---- the entries of values under a number, one value after another
 
@@ -187,15 +154,13 @@ module _ (values : List (List ℕ × List ℕ)) (first : List ℕ × List ℕ) (
       ∙ sym (or_assoc (is_same e (entry_at first number)) (has_entry (entries_under (take i rest) number) e) (is_same e (entry_at value number)))
       ∙ ap (λ vs. has_entry (entries_under vs number) e || is_same e (entry_at value number)) (sym (take_behind i))
 
--- a loop that puts values: with one more, and that takes values: with one less
-pub put_next : (all before here next one : Bool) → next ≡ (before || one) → here ≡ (all || before) → (here || one) ≡ (all || next)
-put_next true before here next one n h = ap (λ t. t || one) h
-put_next false before here next one n h = ap (λ t. t || one) h ∙ sym n
-
-pub take_next : (all before here next one : Bool) → next ≡ (before || one) → here ≡ (all && not before) → (here && not one) ≡ (all && not next)
-take_next true true here next one n h = ap (λ t. t && not one) h ∙ ap not (sym n)
-take_next true false here next one n h = ap (λ t. t && not one) h ∙ ap not (sym n)
-take_next false before here next one n h = ap (λ t. t && not one) h
+-- a loop that edits values: after one more
+pub edited_next : (edit : Edit) (all before here next one : Bool) → next ≡ (before || one) → here ≡ is_after edit all before → is_after edit here one ≡ is_after edit all next
+edited_next Put true before here next one n h = ap (λ t. t || one) h
+edited_next Put false before here next one n h = ap (λ t. t || one) h ∙ sym n
+edited_next Take true true here next one n h = ap (λ t. t && not one) h ∙ ap not (sym n)
+edited_next Take true false here next one n h = ap (λ t. t && not one) h ∙ ap not (sym n)
+edited_next Take false before here next one n h = ap (λ t. t && not one) h
 
 -- the values of an attribute are those under its name
 pub under_name : (name : List ℕ) (values : List (List ℕ)) (number : ℕ) → entries_under (map (λ value. (name, value)) values) number ≡ map (λ value. record { name = name; value = value; number = number }) values
@@ -270,17 +235,13 @@ rows_without test (row ∷ rows) all = by (test row.0) (rows_without test rows a
     by true more = all.1
     by false more = (all.0, more)
 
--- each value has numbers after a change that leaves it some or takes it
-pub rows_changed : (gives : Option (List ℕ) → Option (List ℕ) → Type 0) → ((old new : Option (List ℕ)) → gives old new → IfSome new IsRow) → (rows rows' : List Row) (value : List ℕ × List ℕ) → AreRows rows → IsChanged value_cmp gives rows value rows' → AreRows rows'
-rows_changed gives leaves rows rows' value all h = subst AreRows (sym h.2) (by h.0 (leaves (lookup (is_at (value_cmp value)) rows) h.0 h.1))
+-- each value has numbers after an edit of those of one
+pub rows_edited : (edit : Edit) (number : ℕ) (rows rows' : List Row) (value : List ℕ × List ℕ) → AreRows rows → IsChanged value_cmp (IsEdited edit number) rows value rows' → AreRows rows'
+rows_edited edit number rows rows' value all h = subst AreRows (sym h.2) (by h.0 h.1.1)
   where
     by : (new : Option (List ℕ)) → IfSome new IsRow → AreRows (with_value value_cmp rows value new)
     by None whole = rows_without (is_at (value_cmp value)) rows all
     by (Some numbers) whole = rows_with value numbers rows whole all
-
-pub with_leaves : (number : ℕ) (old new : Option (List ℕ)) → IsWith number old new → IfSome new IsRow
-with_leaves number old None h = absurd h
-with_leaves number old (Some numbers) h = h.1
 
 -- ---- whom a pattern finds
 

@@ -166,7 +166,3 @@ unfolding WantedFirst
 wanted_end name pattern row rows first not_wanted =
     let none = first.0 not_wanted in
     (nothing name pattern (row ∷ rows) (not_wanted, none), nothing name pattern rows none)
-
--- where a row is wanted, its numbers come next
-pub wanted_next : (name pattern : List ℕ) (row : Row) (rows : List Row) → is_wanted name pattern row.0 ≡ true → wanted_numbers name pattern (row ∷ rows) ≡ row.1 ++ wanted_numbers name pattern rows
-wanted_next name pattern row rows wanted = ap (λ t. flat_map (λ (row : Row). row.1) (cond t (row ∷ filter (λ row. is_wanted name pattern row.0) rows) (filter (λ row. is_wanted name pattern row.0) rows))) wanted

@@ -8,6 +8,8 @@ use Rattle.std.specs.Ordering.{nat_cmp, ordering_then}
 use Rattle.std.specs.Map.{keys_of}
 use Rattle.std.specs.Cmp.Lexicographic.{slice_cmp}
 use Rattle.record_model.specs.Matching.{before_wildcard, matches_value}
+use Rattle.attribute_index.specs.declared.rows.Edit.{Edit}
+use Rattle.attribute_index.specs.declared.rows.Edit.TheVariants.{Put, Take}
 use Rattle.attribute_index.specs.Entries.{Entry, has_number}
 
 -- a name with a value: values are ordered by their names, those of one name by their octets
@@ -78,11 +80,11 @@ abbrev pub numbers_left : Option (List (ℕ × Unit {0})) → List ℕ
 numbers_left None = []
 numbers_left (Some left) = keys_of left
 
--- a value has this number too, beside those that it had
-abbrev pub IsWith : ℕ → Option (List ℕ) → Option (List ℕ) → Type 0
-IsWith number old None = ⊥
-IsWith number old (Some numbers) = ((n : ℕ) → has_number numbers n ≡ (number_in old n || (n == number))) × IsRow numbers
+-- whether an entry is there after an edit: where it was there before, or not, and is one of those that come or go, or not
+abbrev pub is_after : Edit → Bool → Bool → Bool
+is_after Put before edited = before || edited
+is_after Take before edited = before && not edited
 
--- a value has not this number, and has the others that it had; with the last one, the value is gone
-abbrev pub IsWithout : ℕ → Option (List ℕ) → Option (List ℕ) → Type 0
-IsWithout number old left = ((n : ℕ) → number_in left n ≡ (number_in old n && not (n == number))) × IfSome left IsRow
+-- what an edit of a number makes of the numbers of a value: with the last one, the value is gone
+abbrev pub IsEdited : Edit → ℕ → Option (List ℕ) → Option (List ℕ) → Type 0
+IsEdited edit number old new = ((n : ℕ) → number_in new n ≡ is_after edit (number_in old n) (n == number)) × IfSome new IsRow

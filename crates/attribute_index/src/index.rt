@@ -6,7 +6,7 @@ ghost use Rattle.attribute_index.specs.Rows as spec;
 ghost use Rattle.attribute_index.specs.Entries.{Entry, IsAscending, has_entry, entries_of, carriers_of};
 
 use crate::Carriers;
-use crate::rows::{Rows, with_pair, without_pair};
+use crate::rows::{Edit, Rows, edited};
 use crate::values::Value;
 use chunk_map::ChunkMap;
 use rd_base::{Bytes, Pair, Starved};
@@ -86,7 +86,7 @@ impl AttributeIndex {
         ensures ascends { IfOk result (λ index. IsAscending index) }
     {
         Ok(AttributeIndex {
-            rows: with_pair(alloc, &self.rows, pair, number)?,
+            rows: edited(alloc, &self.rows, pair, number, Edit::Put)?,
         })
     }
 
@@ -97,7 +97,7 @@ impl AttributeIndex {
         ensures ascends { IfOk result (λ index. IsAscending index) }
     {
         Ok(AttributeIndex {
-            rows: without_pair(alloc, &self.rows, pair, number)?,
+            rows: edited(alloc, &self.rows, pair, number, Edit::Take)?,
         })
     }
 

@@ -1,10 +1,10 @@
-//! The rows of an index: put and taken, one value of a name at a time.
-ghost use Rattle.std.specs.Prelude.{◌≡◌, ◌||◌, ◌&&◌, not, map, IfOk};
+//! The rows of an index: edited one value of a name at a time.
+ghost use Rattle.std.specs.Prelude.{◌≡◌, map, IfOk};
 ghost use Rattle.chunk_map.specs.Sorted.{IsAscending};
 ghost use Rattle.record_model.specs.Matching as model;
 ghost use Rattle.attribute_index.specs.Entries as entries;
 ghost use Rattle.attribute_index.specs.Entries.{Entry, entries_of, has_entry, is_same};
-ghost use Rattle.attribute_index.specs.Rows.{AreRows, IsWith, IsWithout, entries_of_rows, entries_under, value_cmp};
+ghost use Rattle.attribute_index.specs.Rows.{AreRows, IsEdited, entries_of_rows, entries_under, is_after, value_cmp};
 
 use crate::numbers::Numbers;
 use crate::values::Value;
@@ -43,139 +43,113 @@ fn values_of(alloc: Global, name: &[u8], value: &[u8]) -> Result<Vec<Value>, Sta
     Ok(values)
 }
 
-/// This number comes to those of a value.
-#[derive(Drop)]
-struct With {
-    alloc: Global,
-    number: u64,
+/// What is done to the entries of values.
+#[derive(Clone, Copy, Drop)]
+pub(crate) enum Edit {
+    /// They come.
+    Put,
+    /// They go.
+    Take,
 }
 
-impl Change<Numbers> for With {
-    ghost gives = { λ with old new. IsWith with.number old new };
+/// An edit of the numbers of a value. The value goes with its last number.
+#[derive(Drop)]
+struct EditOfNumbers {
+    /// The allocator of what it makes.
+    alloc: Global,
+    /// The number that comes or goes.
+    number: u64,
+    /// Whether it comes or goes.
+    edit: Edit,
+}
+
+impl Change<Numbers> for EditOfNumbers {
+    ghost gives = { λ change old new. IsEdited change.edit change.number old new };
 
     fn begin(self) -> Result<Option<Numbers>, Starved> {
-        let numbers = Numbers::one(self.alloc, self.number)?;
-        Ok(Some(numbers))
+        match self.edit {
+            Edit::Put => {
+                let numbers = Numbers::one(self.alloc, self.number)?;
+                Ok(Some(numbers))
+            }
+            Edit::Take => Ok(None),
+        }
     }
 
     fn follow(self, old: &Numbers) -> Result<Option<Numbers>, Starved> {
-        let numbers = old.with(self.alloc, self.number)?;
-        Ok(Some(numbers))
+        match self.edit {
+            Edit::Put => {
+                let numbers = old.with(self.alloc, self.number)?;
+                Ok(Some(numbers))
+            }
+            Edit::Take => old.without(self.alloc, self.number),
+        }
     }
 }
 
-/// This number goes from those of a value, and the value goes with the last one.
-#[derive(Drop)]
-struct Without {
+/// Rows in which the record with this number carries this value too, or carries it no longer. `Starved`: out of memory.
+fn edited_value(
     alloc: Global,
+    rows: &Rows,
+    value: &Value,
     number: u64,
-}
-
-impl Change<Numbers> for Without {
-    ghost gives = { λ without old new. IsWithout without.number old new };
-
-    fn begin(self) -> Result<Option<Numbers>, Starved> {
-        Ok(None)
-    }
-
-    fn follow(self, old: &Numbers) -> Result<Option<Numbers>, Starved> {
-        old.without(self.alloc, self.number)
-    }
-}
-
-/// Rows in which the record with this number carries this value too. `Starved`: out of memory.
-fn with_value(alloc: Global, rows: &Rows, value: &Value, number: u64) -> Result<Rows, Starved>
+    edit: Edit,
+) -> Result<Rows, Starved>
     requires ascends { IsAscending value_cmp rows.now }
     requires whole { AreRows rows.now }
-    ensures entries { IfOk result (λ more. (e : Entry) → has_entry (entries_of_rows more) e ≡ (has_entry (entries_of_rows rows.now) e || is_same e (record { name = value.now.0; value = value.now.1; number = number }))) }
-    ensures ascends { IfOk result (λ more. IsAscending value_cmp more) }
-    ensures whole { IfOk result (λ more. AreRows more) }
+    ensures entries { IfOk result (λ after. (e : Entry) → has_entry (entries_of_rows after) e ≡ is_after edit (has_entry (entries_of_rows rows.now) e) (is_same e (record { name = value.now.0; value = value.now.1; number = number }))) }
+    ensures ascends { IfOk result (λ after. IsAscending value_cmp after) }
+    ensures whole { IfOk result (λ after. AreRows after) }
 {
-    Ok(rows.change(value, With { alloc, number })?)
+    Ok(rows.change(
+        value,
+        EditOfNumbers {
+            alloc,
+            number,
+            edit,
+        },
+    )?)
 }
 
-/// Rows in which the record with this number does not carry this value. `Starved`: out of memory.
-fn without_value(alloc: Global, rows: &Rows, value: &Value, number: u64) -> Result<Rows, Starved>
-    requires ascends { IsAscending value_cmp rows.now }
-    requires whole { AreRows rows.now }
-    ensures entries { IfOk result (λ fewer. (e : Entry) → has_entry (entries_of_rows fewer) e ≡ (has_entry (entries_of_rows rows.now) e && not (is_same e (record { name = value.now.0; value = value.now.1; number = number })))) }
-    ensures ascends { IfOk result (λ fewer. IsAscending value_cmp fewer) }
-    ensures whole { IfOk result (λ fewer. AreRows fewer) }
-{
-    Ok(rows.change(value, Without { alloc, number })?)
-}
-
-/// Rows in which the record with this number carries these values too. `Starved`: out of memory.
-fn with_values(alloc: Global, rows: &Rows, values: &[Value], number: u64) -> Result<Rows, Starved>
-    requires ascends { IsAscending value_cmp rows.now }
-    requires whole { AreRows rows.now }
-    ensures entries { IfOk result (λ more. (e : Entry) → has_entry (entries_of_rows more) e ≡ (has_entry (entries_of_rows rows.now) e || has_entry (entries_under values.now number) e)) }
-    ensures ascends { IfOk result (λ more. IsAscending value_cmp more) }
-    ensures whole { IfOk result (λ more. AreRows more) }
-{
-    let Some((first, rest)) = values.split_first() else {
-        return Ok(rows.share()?);
-    };
-    let mut more = with_value(alloc, rows, first, number)?;
-    'values: for value in rest {
-        more = with_value(alloc, &more, value, number)?;
-    }
-    Ok(more)
-}
-
-/// Rows in which the record with this number carries none of these values. `Starved`: out of memory.
-fn without_values(
+/// Rows in which the record with this number carries these values too, or carries none of them. `Starved`: out of memory.
+fn edited_values(
     alloc: Global,
     rows: &Rows,
     values: &[Value],
     number: u64,
+    edit: Edit,
 ) -> Result<Rows, Starved>
     requires ascends { IsAscending value_cmp rows.now }
     requires whole { AreRows rows.now }
-    ensures entries { IfOk result (λ fewer. (e : Entry) → has_entry (entries_of_rows fewer) e ≡ (has_entry (entries_of_rows rows.now) e && not (has_entry (entries_under values.now number) e))) }
-    ensures ascends { IfOk result (λ fewer. IsAscending value_cmp fewer) }
-    ensures whole { IfOk result (λ fewer. AreRows fewer) }
+    ensures entries { IfOk result (λ after. (e : Entry) → has_entry (entries_of_rows after) e ≡ is_after edit (has_entry (entries_of_rows rows.now) e) (has_entry (entries_under values.now number) e)) }
+    ensures ascends { IfOk result (λ after. IsAscending value_cmp after) }
+    ensures whole { IfOk result (λ after. AreRows after) }
 {
     let Some((first, rest)) = values.split_first() else {
         return Ok(rows.share()?);
     };
-    let mut fewer = without_value(alloc, rows, first, number)?;
+    let mut after = edited_value(alloc, rows, first, number, edit)?;
     'values: for value in rest {
-        fewer = without_value(alloc, &fewer, value, number)?;
+        after = edited_value(alloc, &after, value, number, edit)?;
     }
-    Ok(fewer)
+    Ok(after)
 }
 
-/// Rows in which the record with this number carries this attribute too. `Starved`: out of memory.
-pub(crate) fn with_pair(
+/// Rows in which the record with this number carries this attribute too, or carries no value of it. `Starved`: out of
+/// memory.
+pub(crate) fn edited(
     alloc: Global,
     rows: &Rows,
     pair: &Pair,
     number: u64,
+    edit: Edit,
 ) -> Result<Rows, Starved>
     requires ascends { IsAscending value_cmp rows.now }
     requires whole { AreRows rows.now }
-    ensures entries { IfOk result (λ more. (e : Entry) → has_entry (entries_of_rows more) e ≡ (has_entry (entries_of_rows rows.now) e || has_entry (entries_of pair.now number) e)) }
-    ensures ascends { IfOk result (λ more. IsAscending value_cmp more) }
-    ensures whole { IfOk result (λ more. AreRows more) }
+    ensures entries { IfOk result (λ after. (e : Entry) → has_entry (entries_of_rows after) e ≡ is_after edit (has_entry (entries_of_rows rows.now) e) (has_entry (entries_of pair.now number) e)) }
+    ensures ascends { IfOk result (λ after. IsAscending value_cmp after) }
+    ensures whole { IfOk result (λ after. AreRows after) }
 {
     let values = values_of(alloc, pair.name.as_bytes(), pair.value.as_bytes())?;
-    Ok(with_values(alloc, rows, values.as_slice(), number)?)
-}
-
-/// Rows in which the record with this number carries no value of this attribute. `Starved`: out of memory.
-pub(crate) fn without_pair(
-    alloc: Global,
-    rows: &Rows,
-    pair: &Pair,
-    number: u64,
-) -> Result<Rows, Starved>
-    requires ascends { IsAscending value_cmp rows.now }
-    requires whole { AreRows rows.now }
-    ensures entries { IfOk result (λ fewer. (e : Entry) → has_entry (entries_of_rows fewer) e ≡ (has_entry (entries_of_rows rows.now) e && not (has_entry (entries_of pair.now number) e))) }
-    ensures ascends { IfOk result (λ fewer. IsAscending value_cmp fewer) }
-    ensures whole { IfOk result (λ fewer. AreRows fewer) }
-{
-    let values = values_of(alloc, pair.name.as_bytes(), pair.value.as_bytes())?;
-    Ok(without_values(alloc, rows, values.as_slice(), number)?)
+    Ok(edited_values(alloc, rows, values.as_slice(), number, edit)?)
 }
