@@ -8,8 +8,7 @@ mod lines;
 mod moments;
 
 use conversation::Conversation;
-use std::io::BufRead;
-use std::{io, mem};
+use std::io::{self, BufRead};
 
 /// Shows the lines of the trace one after the other.
 fn show_all(rt: &HostRuntime, shown: &mut Conversation) -> io::Result<()>
@@ -25,14 +24,8 @@ fn show_all(rt: &HostRuntime, shown: &mut Conversation) -> io::Result<()>
 }
 
 fn main(rt: HostRuntime) -> io::Result<()> {
-    match Conversation::make(rt.alloc()) {
-        Ok(shown) => {
-            let mut shown = shown;
-            let ended = show_all(&rt, &mut shown);
-            // The program ends, and its memory with it: the directory is not taken apart.
-            mem::forget(shown);
-            ended
-        }
-        Err(_) => Err(io::Error::from(io::ErrorKind::OutOfMemory)),
-    }
+    let Ok(mut shown) = Conversation::make(rt.alloc()) else {
+        return Err(io::Error::from(io::ErrorKind::OutOfMemory));
+    };
+    show_all(&rt, &mut shown)
 }
