@@ -2,7 +2,7 @@
 
 ghost use Rattle.std.specs.Prelude.{◌≡◌, ◌≤◌, ◌<◌, ◌^◌, length};
 ghost use Rattle.coap_message.specs.Views.{message_in};
-ghost use Rattle.coap_message.specs.OptionsLeft.{options_left};
+ghost use Rattle.coap_message.specs.OptionsLeft.{options_left, octets_left};
 
 use super::prefixes::option_at;
 use super::views::View;
@@ -38,6 +38,7 @@ impl OptionsIter<'_> {
     /// How many octets the options that are left take, which are no fewer than these options.
     #[tactic(auto, using(crate::proofs::OptionsAtLemmas::options_at_size))]
     pub fn octets(&self) -> usize
+        ensures value { result ≡ octets_left self.now }
         ensures few { length (options_left self.now) ≤ result }
         ensures most { result < 2 ^ 63 }
     {

@@ -27,8 +27,8 @@ fn registering(simple: bool) -> Reading
     }
 }
 
-/// The parameters of a registration that give this. Takes no memory where `ep` is given.
-fn registration_of(alloc: Global, given: Given) -> RegParams
+/// The parameters of a registration that give this. Takes no memory.
+fn registration_of(given: Given) -> RegParams
     ensures { result ≡ registration_of (values_in given) }
 {
     let Given {
@@ -76,7 +76,7 @@ pub fn reg_params<'a, Q: Pieces<'a> + Drop>(
     ensures allowed { IfOk result AreAllowed }
 {
     let given = gathered(alloc, registering(simple), queries)?;
-    Ok(registration_of(alloc, given))
+    Ok(registration_of(given))
 }
 
 /// The parameters of an update (RFC 9176 section 5.3.1).

@@ -86,9 +86,10 @@ impl Text {
         }
     }
 
-    /// A copy of a text. `Starved`: out of memory.
+    /// A copy of a text. `Starved`: out of memory, for a text of more than 16 octets alone.
     pub fn copy_of(alloc: Global, text: &str) -> Result<Text, Starved>
-        ensures { IfOk result (λ t. t ≡ text.now) }
+        ensures ok { IfOk result (λ t. t ≡ text.now) }
+        ensures short { OnErr result (16 < length text.now) }
     {
         let spelled = match ArrayString::from(text) {
             Ok(short) => Spelled::Short(short),
@@ -97,9 +98,10 @@ impl Text {
         Ok(Text { spelled })
     }
 
-    /// An equal text. `Starved`: out of memory.
+    /// An equal text. `Starved`: out of memory, for a text of more than 16 octets alone.
     pub fn copy(&self, alloc: Global) -> Result<Text, Starved>
-        ensures { IfOk result (λ t. t ≡ self.now) }
+        ensures ok { IfOk result (λ t. t ≡ self.now) }
+        ensures short { OnErr result (16 < length self.now) }
     {
         Text::copy_of(alloc, self.as_str())
     }
