@@ -42,14 +42,15 @@ fn own_attributes(alloc: Global, record_of: &Record) -> Result<Vec<Pair>, Starve
 /// The index with these attributes of the record of this number. `Starved`: out of memory.
 fn with_pairs(
     alloc: Global,
-    index: &AttributeIndex,
+    index: AttributeIndex,
     pairs: &[Pair],
     number: u64,
 ) -> Result<AttributeIndex, Starved>
-    ensures entries { IfOk result (λ after. (e : Entry) → has_entry after e ≡ (has_entry index.now e || has_entry (entries_of_all pairs.now number) e)) }
+    requires { IsAscending index }
+    ensures entries { IfOk result (λ after. (e : Entry) → has_entry after e ≡ (has_entry index e || has_entry (entries_of_all pairs.now number) e)) }
     ensures ascends { IfOk result (λ after. IsAscending after) }
 {
-    let mut after = index.share(alloc)?;
+    let mut after = index;
     let mut left = pairs;
     'pairs: while let Some((pair, more)) = left.split_first() {
         after = after.put(alloc, pair, number)?;
@@ -61,14 +62,15 @@ fn with_pairs(
 /// The index without these attributes of the record of this number. `Starved`: out of memory.
 fn without_pairs(
     alloc: Global,
-    index: &AttributeIndex,
+    index: AttributeIndex,
     pairs: &[Pair],
     number: u64,
 ) -> Result<AttributeIndex, Starved>
-    ensures entries { IfOk result (λ after. (e : Entry) → has_entry after e ≡ (has_entry index.now e && not (has_entry (entries_of_all pairs.now number) e))) }
+    requires { IsAscending index }
+    ensures entries { IfOk result (λ after. (e : Entry) → has_entry after e ≡ (has_entry index e && not (has_entry (entries_of_all pairs.now number) e))) }
     ensures ascends { IfOk result (λ after. IsAscending after) }
 {
-    let mut after = index.share(alloc)?;
+    let mut after = index;
     let mut left = pairs;
     'pairs: while let Some((pair, more)) = left.split_first() {
         after = after.take(alloc, pair, number)?;
@@ -80,17 +82,18 @@ fn without_pairs(
 /// The index with the attributes of these links of the record of this number. `Starved`: out of memory.
 fn with_links(
     alloc: Global,
-    index: &AttributeIndex,
+    index: AttributeIndex,
     items: &[Item],
     number: u64,
 ) -> Result<AttributeIndex, Starved>
-    ensures entries { IfOk result (λ after. (e : Entry) → has_entry after e ≡ (has_entry index.now e || has_entry (entries_of_all (item_pairs items.now) number) e)) }
+    requires { IsAscending index }
+    ensures entries { IfOk result (λ after. (e : Entry) → has_entry after e ≡ (has_entry index e || has_entry (entries_of_all (item_pairs items.now) number) e)) }
     ensures ascends { IfOk result (λ after. IsAscending after) }
 {
-    let mut after = index.share(alloc)?;
+    let mut after = index;
     let mut left = items;
     'links: while let Some((item, more)) = left.split_first() {
-        after = with_pairs(alloc, &after, item.pairs.as_slice(), number)?;
+        after = with_pairs(alloc, after, item.pairs.as_slice(), number)?;
         left = more;
     }
     Ok(after)
@@ -99,17 +102,18 @@ fn with_links(
 /// The index without the attributes of these links of the record of this number. `Starved`: out of memory.
 fn without_links(
     alloc: Global,
-    index: &AttributeIndex,
+    index: AttributeIndex,
     items: &[Item],
     number: u64,
 ) -> Result<AttributeIndex, Starved>
-    ensures entries { IfOk result (λ after. (e : Entry) → has_entry after e ≡ (has_entry index.now e && not (has_entry (entries_of_all (item_pairs items.now) number) e))) }
+    requires { IsAscending index }
+    ensures entries { IfOk result (λ after. (e : Entry) → has_entry after e ≡ (has_entry index e && not (has_entry (entries_of_all (item_pairs items.now) number) e))) }
     ensures ascends { IfOk result (λ after. IsAscending after) }
 {
-    let mut after = index.share(alloc)?;
+    let mut after = index;
     let mut left = items;
     'links: while let Some((item, more)) = left.split_first() {
-        after = without_pairs(alloc, &after, item.pairs.as_slice(), number)?;
+        after = without_pairs(alloc, after, item.pairs.as_slice(), number)?;
         left = more;
     }
     Ok(after)
@@ -127,9 +131,9 @@ pub(crate) fn index_with(
 {
     let own = own_attributes(alloc, record_of)?;
     let number = record_of.number;
-    let index = with_pairs(alloc, index, own.as_slice(), number)?;
-    let index = with_pairs(alloc, &index, record_of.attrs.as_slice(), number)?;
-    let index = with_links(alloc, &index, record_of.items.as_slice(), number)?;
+    let index = with_pairs(alloc, index.share(alloc)?, own.as_slice(), number)?;
+    let index = with_pairs(alloc, index, record_of.attrs.as_slice(), number)?;
+    let index = with_links(alloc, index, record_of.items.as_slice(), number)?;
     Ok(index)
 }
 
@@ -144,9 +148,9 @@ pub(crate) fn index_without(
 {
     let own = own_attributes(alloc, record_of)?;
     let number = record_of.number;
-    let index = without_pairs(alloc, index, own.as_slice(), number)?;
-    let index = without_pairs(alloc, &index, record_of.attrs.as_slice(), number)?;
-    let index = without_links(alloc, &index, record_of.items.as_slice(), number)?;
+    let index = without_pairs(alloc, index.share(alloc)?, own.as_slice(), number)?;
+    let index = without_pairs(alloc, index, record_of.attrs.as_slice(), number)?;
+    let index = without_links(alloc, index, record_of.items.as_slice(), number)?;
     Ok(index)
 }
 

@@ -13,9 +13,9 @@ pairs-preserved c =
     let split : c.pairs.left.now ≡ pair ∷ more = search rules in
     record {
       entries = λ e.
-          with_step (has_entry c.pairs.after e) (has_entry c.in_ok-after-2.after e) (has_entry (entries_of pair number) e) (has_entry (entries_of_all more number) e) (has_entry (entries_of_all c.pairs.left.now number) e)
-          (c.in_ok-after-2.ensures.entries e) (ap (λ ps. has_entry (entries_of_all ps number) e) split ∙ has_entry-all pair more number e) ∙ c.pairs.invariant.entries e;
-      ascends = c.in_ok-after-2.ensures.ascends;
+          with_step (has_entry c.pairs.after e) (has_entry c.in_ok-after.after e) (has_entry (entries_of pair number) e) (has_entry (entries_of_all more number) e) (has_entry (entries_of_all c.pairs.left.now number) e)
+          (c.in_ok-after.ensures.entries e) (ap (λ ps. has_entry (entries_of_all ps number) e) split ∙ has_entry-all pair more number e) ∙ c.pairs.invariant.entries e;
+      ascends = c.in_ok-after.ensures.ascends;
     }
 
 pub returns-clause-entries : goal.returns-clause-entries

@@ -14,9 +14,9 @@ links-preserved c =
     let split : c.links.left.now ≡ item ∷ more = search rules in
     record {
       entries = λ e.
-          without_step (has_entry c.links.after e) (has_entry c.in_ok-after-2.after e) (has_entry (entries_of_all item.pairs number) e) (has_entry (entries_of_all (item_pairs more) number) e) (has_entry (entries_of_all (item_pairs c.links.left.now) number) e)
-          (c.in_ok-after-2.ensures.entries e ∙ ap (λ ps. has_entry c.links.after e && not (has_entry (entries_of_all ps number) e)) c.as_slice.ensures) (ap (λ is. has_entry (entries_of_all (item_pairs is) number) e) split ∙ has_entry-all_append item.pairs (item_pairs more) number e) ∙ c.links.invariant.entries e;
-      ascends = c.in_ok-after-2.ensures.ascends;
+          without_step (has_entry c.links.after e) (has_entry c.in_ok-after.after e) (has_entry (entries_of_all item.pairs number) e) (has_entry (entries_of_all (item_pairs more) number) e) (has_entry (entries_of_all (item_pairs c.links.left.now) number) e)
+          (c.in_ok-after.ensures.entries e ∙ ap (λ ps. has_entry c.links.after e && not (has_entry (entries_of_all ps number) e)) c.as_slice.ensures) (ap (λ is. has_entry (entries_of_all (item_pairs is) number) e) split ∙ has_entry-all_append item.pairs (item_pairs more) number e) ∙ c.links.invariant.entries e;
+      ascends = c.in_ok-after.ensures.ascends;
     }
 
 pub returns-clause-entries : goal.returns-clause-entries

@@ -1,5 +1,5 @@
 use Rattle.std.proofs.Common.{refl, arith}
-use Rattle.rd_desk.proofs.answers.ReplyWriting.{block_short}
+use Rattle.message_model.proofs.BlockLaws.{block_size-most}
 use Rattle.rd_desk.proofs.bodies.body_reply.Goals as goal
 
 pub returns-clause-reply : goal.returns-clause-reply
@@ -9,5 +9,5 @@ returns-clause-reply c = record {
   observe = c.requires.observe;
   block2 = c.answered_block.ensures.block;
   block1 = λ b e. cc;
-  payload = let short = block_short c.szx_of.result c.szx_of.ensures.short in let most = c.in-Some.ensures.piece.most in omega (arith, short, most);
+  payload = let short = block_size-most c.szx_of.result c.szx_of.ensures.short in let most = c.in-Some.ensures.piece.most in omega (arith, short, most);
 }

@@ -10,4 +10,4 @@ unfolding record_on_literals
 computed = refl
 
 pub returns : goal.returns
-returns c = IfOk-weaker c.copy_of.result _ (λ base. is_base base ≡ true) (λ (base : List ℕ) h. ap is_base h ∙ computed) c.copy_of.ensures
+returns c = IfOk-weaker c.copy_of.result _ (λ base. is_base base ≡ true) (λ (base : List ℕ) h. ap is_base h ∙ computed) c.copy_of.ensures.ok
