@@ -109,14 +109,13 @@ impl Class {
     }
 }
 
-/// Whether an octet is a character of a path (RFC 3986 section 3.3).
+/// Whether an octet is a character of a path, beside percent escapes (RFC 3986 section 3.3). Small letters come first, since most are.
 fn is_path_character(octet: u8) -> bool
     ensures { result ≡ characters.is_path_character octet }
 {
-    matches!(
-        octet,
-        b'a'..=b'z' | b'&'..=b';' | b'@'..=b'Z' | b'=' | b'_' | b'~' | b'!' | b'$'
-    )
+    octet.is_ascii_lowercase()
+        || matches!(octet, b'&'..=b';' | b'@'..=b'Z')
+        || matches!(octet, b'=' | b'_' | b'~' | b'!' | b'$')
 }
 
 /// Whether each octet is a character of a path, without percent escapes.
