@@ -10,3 +10,4 @@ pub mod KeptSegments
 pub mod LastSlash
 pub mod PathGrowth
 pub mod MergedPaths
+pub mod PlainPaths

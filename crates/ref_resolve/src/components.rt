@@ -2,6 +2,7 @@
 ghost use Rattle.std.specs.Prelude.{◌≡◌, option_map};
 ghost use Rattle.reference_model.specs.References as references;
 ghost use Rattle.ref_resolve.specs.ComponentsOfParts.{components_of};
+ghost use Rattle.ref_resolve.specs.PlainPaths.{with_path_alone};
 
 use crate::cuts::{after_two_slashes, around, split_from};
 
@@ -68,5 +69,18 @@ pub(crate) fn apart(text: &str) -> Parts<'_>
         path,
         query,
         fragment,
+    }
+}
+
+/// The components of a text that is a path.
+pub(crate) fn with_path_alone(text: &str) -> Parts<'_>
+    ensures { components_of result ≡ with_path_alone text.now }
+{
+    Parts {
+        scheme: None,
+        authority: None,
+        path: text,
+        query: None,
+        fragment: None,
     }
 }

@@ -1,11 +1,12 @@
 //! Removing the dot segments of a path (RFC 3986 section 5.2.4).
-ghost use Rattle.std.specs.Prelude.{◌≡◌, ◌<◌, ◌≤◌, [], ◌∷◌, ◌++◌, ◌||◌, true, false, fold, length, take, drop, slice_index, MatchOption, IfSome, OnOk};
+ghost use Rattle.std.specs.Prelude.{◌≡◌, ◌<◌, ◌≤◌, [], ◌∷◌, ◌++◌, ◌||◌, ◌&&◌, ◌==◌, true, false, fold, length, take, drop, slice_index, MatchOption, IfSome, OnOk};
 ghost use Rattle.std.specs.String.{string_bytes};
 ghost use Rattle.std.specs.Str.{IsUtf8};
-ghost use Rattle.link_model.specs.Characters.{slash, is_empty};
+ghost use Rattle.link_model.specs.Characters.{full_stop, slash, is_empty};
 ghost use Rattle.reference_model.specs.References as references;
 ghost use Rattle.reference_model.specs.Resolution as resolution;
 ghost use Rattle.ref_resolve.specs.Paths.{before_last, path_with, closed_segments};
+ghost use Rattle.ref_resolve.specs.PlainPaths.{has_no_dot_after_slash};
 
 use crate::cuts::{after_first, split_from};
 use rd_base::Starved;
@@ -133,8 +134,36 @@ fn append_segments(text: &mut String, start: usize, path: &str) -> Result<(), St
     Ok(())
 }
 
-/// Appends a path without its dot segments (RFC 3986 section 5.2.4).
-pub(crate) fn append_without_dots(text: &mut String, path: &str) -> Result<(), Starved>
+/// Whether an octet is a slash, and what stands after it begins with a full stop.
+fn is_slash_before_dot(octet: u8, rest: &[u8]) -> bool
+    ensures { result ≡ (octet == slash && references.begins_with full_stop rest.now) }
+{
+    octet == b'/' && rest.starts_with(b".")
+}
+
+/// Whether no slash stands before a full stop.
+fn has_no_dot_after_slash(path: &[u8]) -> bool
+    ensures { result ≡ has_no_dot_after_slash path.now }
+{
+    let mut rest = path;
+    'octets: while let Some((octet, more)) = rest.split_first() {
+        if is_slash_before_dot(*octet, more) {
+            return false;
+        }
+        rest = more;
+    }
+    true
+}
+
+/// Whether a path begins with a slash, and none of its segments begins with a full stop.
+fn has_no_dots(path: &str) -> bool
+    ensures { result ≡ (references.begins_with slash path.now && has_no_dot_after_slash path.now) }
+{
+    path.as_bytes().starts_with(b"/") && has_no_dot_after_slash(path.as_bytes())
+}
+
+/// Appends a path without its dot segments, segment by segment.
+fn append_by_segments(text: &mut String, path: &str) -> Result<(), Starved>
     ensures { OnOk result (string_bytes text.new ≡ string_bytes text.old ++ resolution.remove_dot_segments path.now) }
 {
     let path = without_leading_dots(path);
@@ -142,4 +171,16 @@ pub(crate) fn append_without_dots(text: &mut String, path: &str) -> Result<(), S
     let (first, rest) = split_from(path, '/');
     text.push_str(first)?;
     append_segments(text, start, rest)
+}
+
+/// Appends a path without its dot segments (RFC 3986 section 5.2.4).
+#[tactic(auto, using(crate::proofs::PlainPaths::nothing_removed))]
+pub(crate) fn append_without_dots(text: &mut String, path: &str) -> Result<(), Starved>
+    ensures { OnOk result (string_bytes text.new ≡ string_bytes text.old ++ resolution.remove_dot_segments path.now) }
+{
+    if has_no_dots(path) {
+        text.push_str(path)?;
+        return Ok(());
+    }
+    append_by_segments(text, path)
 }

@@ -109,6 +109,22 @@ impl Class {
     }
 }
 
+/// Whether an octet is a character of a path, beside percent escapes (RFC 3986 section 3.3). Small letters come first, since most are.
+fn is_path_character(octet: u8) -> bool
+    ensures { result ≡ characters.is_path_character octet }
+{
+    octet.is_ascii_lowercase()
+        || matches!(octet, b'&'..=b';' | b'@'..=b'Z')
+        || matches!(octet, b'=' | b'_' | b'~' | b'!' | b'$')
+}
+
+/// Whether each octet is a character of a path, without percent escapes.
+pub(crate) fn are_path_characters(text: &[u8]) -> bool
+    ensures { result ≡ list_all characters.is_path_character text.now }
+{
+    text.iter().all(|c| is_path_character(*c))
+}
+
 /// How far a text has only such characters and percent escapes.
 pub(crate) fn text_reach(class: Class, text: &str) -> Reach
     ensures whole { result.whole ≡ references.is_text_of (stands_in class) text.now }

@@ -4,10 +4,11 @@ ghost use Rattle.reference_model.specs.References as references;
 ghost use Rattle.reference_model.specs.ReferenceFaults as faults;
 ghost use Rattle.ref_resolve.specs.ComponentsOfParts.{components_of};
 ghost use Rattle.ref_resolve.specs.ComponentFaults.{have_no_fault, size_of};
+ghost use Rattle.ref_resolve.specs.PlainPaths.{is_path_alone};
 
-use crate::components::{Parts, apart};
+use crate::components::{Parts, apart, with_path_alone};
 use crate::cuts::{around, through};
-use crate::reach::{Class, authority_reach, is_scheme, text_reach};
+use crate::reach::{Class, are_path_characters, authority_reach, is_scheme, text_reach};
 
 /// A text is no URI-reference.
 #[derive(Clone, Copy, Debug, PartialEq, Eq)]
@@ -128,6 +129,16 @@ fn fault_of(parts: &Parts<'_>, size: usize) -> Option<usize>
     None
 }
 
+/// Whether a text is a path that begins with one slash and has no percent escapes, and nothing else.
+fn is_path_alone(text: &str) -> bool
+    ensures { result ≡ is_path_alone text.now }
+{
+    match text.as_bytes().split_first() {
+        Some((b'/', rest)) => !rest.starts_with(b"/") && are_path_characters(rest),
+        _ => false,
+    }
+}
+
 /// Reads a URI-reference (RFC 3986 section 4.1). Takes no memory.
 ///
 /// # Errors
@@ -140,6 +151,9 @@ pub fn parts(text: &str) -> Result<Parts<'_>, RefBad>
     ensures offset { IfErr result (λ bad. faults.IsReferenceFault text.now bad.at) }
     ensures exact { IfErr result (λ bad. faults.reference_fault_at text.now ≡ Some bad.at) }
 {
+    if is_path_alone(text) {
+        return Ok(with_path_alone(text));
+    }
     let parts = apart(text);
     match fault_of(&parts, text.len()) {
         None => Ok(parts),

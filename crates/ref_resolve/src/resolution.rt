@@ -168,17 +168,21 @@ fn octets_of(part: Option<&str>) -> usize {
     part.map_or(0, |text| text.len())
 }
 
-/// How much room a resolved reference takes at most, with its delimiters. It is asked for at once, and changes no text.
-fn room_for(base: &Parts<'_>, reference: &Parts<'_>) -> usize {
-    let mut room = octets_of(target_scheme(base, reference));
-    room = usize::saturating_add(room, octets_of(target_authority(base, reference)));
-    room = usize::saturating_add(room, octets_of(target_query(base, reference)));
-    room = usize::saturating_add(room, octets_of(reference.fragment));
-    room = usize::saturating_add(room, reference.path.len());
-    if !reference.path.as_bytes().starts_with(b"/") {
-        room = usize::saturating_add(room, base.path.len());
+/// How much room a path takes at most, with that of the base before it where it does not begin with a slash.
+fn room_for_path(base: &str, path: &str) -> usize {
+    if path.as_bytes().starts_with(b"/") {
+        return path.len();
     }
-    usize::saturating_add(room, DELIMITERS)
+    usize::saturating_add(base.len(), path.len())
+}
+
+/// How much room parts and a path take, with their delimiters. It is asked for at once, and changes no text.
+fn room_for(parts: [Option<&str>; 4], path: usize) -> usize {
+    let mut room = usize::saturating_add(path, DELIMITERS);
+    for part in parts {
+        room = usize::saturating_add(room, octets_of(part));
+    }
+    room
 }
 
 /// The text of a reference, resolved against a base (RFC 3986 sections 5.2.2 and 5.3, strict). Dot segments are removed of
@@ -191,11 +195,16 @@ pub fn resolve(alloc: Global, base: &Parts<'_>, reference: &Parts<'_>) -> Result
     ensures value { IfOk result (λ text. text ≡ references.recomposed (resolution.resolution (components_of base.now) (components_of reference.now))) }
     ensures texts { IfOk result (λ text. (b r : List ℕ) → references.IsReference b (components_of base.now) → references.IsReference r (components_of reference.now) → text ≡ resolution.resolved b r) }
 {
-    let mut text = String::with_capacity(alloc, room_for(base, reference))?;
-    append_scheme(&mut text, target_scheme(base, reference))?;
-    append_authority(&mut text, target_authority(base, reference))?;
+    let scheme = target_scheme(base, reference);
+    let authority = target_authority(base, reference);
+    let query = target_query(base, reference);
+    let path = room_for_path(base.path, reference.path);
+    let room = room_for([scheme, authority, query, reference.fragment], path);
+    let mut text = String::with_capacity(alloc, room)?;
+    append_scheme(&mut text, scheme)?;
+    append_authority(&mut text, authority)?;
     append_path(alloc, &mut text, base, reference)?;
-    append_query(&mut text, target_query(base, reference))?;
+    append_query(&mut text, query)?;
     append_fragment(&mut text, reference.fragment)?;
     Ok(Text::of(text))
 }

@@ -17,10 +17,10 @@ returns-clause-value c =
     let t3 = string_bytes c.append_path.new.text in
     let t4 = string_bytes c.append_query.new.text in
     c.of.ensures ∙ appended (resolution base reference) reference.fragment t0 t1 t2 t3 t4 (string_bytes c.append_fragment.new.text) c.in_ok-text.ensures.bytes
-    (c.in_ok-append_scheme.ensures ∙ ap (λ (s : Option (List ℕ)). t0 ++ scheme_text s) c.target_scheme.ensures)
-    (c.in_ok-append_authority.ensures ∙ ap (λ (a : Option (List ℕ)). t1 ++ authority_text a) c.target_authority.ensures)
+    (c.in_ok-append_scheme.ensures ∙ ap (λ (s : Option (List ℕ)). t0 ++ scheme_text s) c.target_scheme-scheme.ensures)
+    (c.in_ok-append_authority.ensures ∙ ap (λ (a : Option (List ℕ)). t1 ++ authority_text a) c.target_authority-authority.ensures)
     c.in_ok-append_path.ensures
-    (c.in_ok-append_query.ensures ∙ ap (λ (q : Option (List ℕ)). t3 ++ query_text q) c.target_query.ensures)
+    (c.in_ok-append_query.ensures ∙ ap (λ (q : Option (List ℕ)). t3 ++ query_text q) c.target_query-query.ensures)
     c.in_ok-append_fragment.ensures (sym (fragment_kept base reference))
 
 pub returns-clause-texts : goal.returns-clause-texts

@@ -6,7 +6,7 @@ use Rattle.std.proofs.lemmas.Str.{IsUtf8-string_bytes}
 use Rattle.link_model.specs.Characters.{slash, is_empty}
 use Rattle.reference_model.specs.References.{begins_with}
 use Rattle.ref_resolve.proofs.PathGrowth.{front_kept, dots_left_out}
-use Rattle.ref_resolve.proofs.dot_segments.append_without_dots.Goals as goal
+use Rattle.ref_resolve.proofs.dot_segments.append_by_segments.Goals as goal
 use Rattle.reference_model.proofs.ReferenceCuts.{from_first_fits}
 
 pub append_segments-requires-clause-utf8 : goal.append_segments-requires-clause-utf8
