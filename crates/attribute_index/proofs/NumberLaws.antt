@@ -91,7 +91,7 @@ module _ {X : Type 0} where
       by n Greater h = absurd (omega arith)
 
 -- a number alone
-row_one : (n : ℕ) → IsRow (n ∷ [])
+pub row_one : (n : ℕ) → IsRow (n ∷ [])
 unfolding NumbersAscend
 row_one n = (tt, (tt, tt))
 

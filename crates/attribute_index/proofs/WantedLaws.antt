@@ -1,5 +1,5 @@
 -- The values that a pattern matches stand together: where they begin, and that none stands behind one that it does not match.
-use Rattle.std.proofs.Common.{◌≡◌, ℕ, ◌<◌, Bool, true, false, cond, List, [], ◌∷◌, ◌++◌, Option, Some, None, take, length, filter, nat_eq, nat_cmp, bytes_eq, refl, sym, ap, ◌∙◌, subst, unwrap_or, arith}
+use Rattle.std.proofs.Common.{◌≡◌, ℕ, ◌<◌, Bool, true, false, cond, List, [], ◌∷◌, Option, Some, None, take, length, nat_eq, nat_cmp, bytes_eq, refl, sym, ap, ◌∙◌, subst, unwrap_or, arith}
 use lib.Pointwise.{pointwise}
 use Rattle.std.specs.declared.cmp.Ordering.{Ordering}
 use Rattle.std.specs.declared.cmp.Ordering.TheVariants.{Less, Equal, Greater}

@@ -6,8 +6,14 @@ use Rattle.std.specs.declared.cmp.Ordering.{Ordering}
 use Rattle.std.specs.declared.cmp.Ordering.TheVariants.{Less}
 use Rattle.std.specs.Ordering.{nat_cmp, ordering_then}
 use Rattle.std.specs.Map.{keys_of}
+use Rattle.std.specs.Arc.{arc_value}
 use Rattle.std.specs.Cmp.Lexicographic.{slice_cmp}
 use Rattle.record_model.specs.Matching.{before_wildcard, matches_value}
+use Rattle.chunk_map.specs.Sorted.{IsAscending}
+use Rattle.attribute_index.specs.declared.numbers.Carried.{Carried}
+use Rattle.attribute_index.specs.declared.numbers.Carried.TheVariants as carried
+use Rattle.attribute_index.specs.declared.numbers.Left.{Left}
+use Rattle.attribute_index.specs.declared.numbers.Left.TheVariants as left
 use Rattle.attribute_index.specs.declared.rows.Edit.{Edit}
 use Rattle.attribute_index.specs.declared.rows.Edit.TheVariants.{Put, Take}
 use Rattle.attribute_index.specs.Entries.{Entry, has_number}
@@ -27,6 +33,16 @@ Row = (List ℕ × List ℕ) × List ℕ
 unfoldable pub NumbersAscend : List ℕ → Type 0
 NumbersAscend [] = Unit {0}
 NumbersAscend (n ∷ ns) = AllByRecursion (λ m. nat_cmp n m ≡ Less) ns × NumbersAscend ns
+
+-- the numbers of a value: one, or the keys of a map
+abbrev pub carried_numbers : Carried → List ℕ
+carried_numbers (carried.One number) = number ∷ []
+carried_numbers (carried.Many numbers) = keys_of (arc_value numbers)
+
+-- the keys of a map ascend
+abbrev pub AreCarried : Carried → Type 0
+AreCarried (carried.One number) = Unit {0}
+AreCarried (carried.Many numbers) = IsAscending nat_cmp (arc_value numbers)
 
 -- there is a number
 abbrev pub HasNumber : List ℕ → Type 0
@@ -75,10 +91,11 @@ abbrev pub number_in : Option (List ℕ) → ℕ → Bool
 number_in None n = false
 number_in (Some numbers) n = has_number numbers n
 
--- the numbers that are left of a row, where the cursor stands in one
-abbrev pub numbers_left : Option (List (ℕ × Unit {0})) → List ℕ
-numbers_left None = []
-numbers_left (Some left) = keys_of left
+-- the numbers that are left of a row
+abbrev pub numbers_left : Left → List ℕ
+numbers_left left.Nothing = []
+numbers_left (left.One number) = number ∷ []
+numbers_left (left.Many numbers) = keys_of numbers
 
 -- whether an entry is there after an edit: where it was there before, or not, and is one of those that come or go, or not
 abbrev pub is_after : Edit → Bool → Bool → Bool

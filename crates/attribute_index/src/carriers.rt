@@ -4,7 +4,7 @@ ghost use Rattle.std.specs.Map.{keys_of};
 ghost use Rattle.attribute_index.specs.Rows as spec;
 ghost use Rattle.attribute_index.specs.Rows.{AreRows, HasNumber, WantedFirst, numbers_left, wanted_numbers};
 
-use crate::numbers::Numbers;
+use crate::numbers::{Left, Numbers};
 use crate::values::Value;
 use chunk_map::RangeIter;
 use listing::matches_value;
@@ -20,7 +20,7 @@ pub struct Carriers<'a> {
     /// The pattern that matches the values that are wanted.
     pattern: Bytes,
     /// The numbers that are left of the value where it stands.
-    numbers: Option<RangeIter<'a, u64, ()>>,
+    numbers: Left<'a>,
     /// The values after that one, the wanted ones in front.
     rows: RangeIter<'a, Value, Numbers>,
 }
@@ -57,13 +57,18 @@ fn next_number<L: Ledger>(blank: Blank, numbers: &mut RangeIter<'_, u64, ()>) ->
 }
 
 /// The next number of the value where a cursor stands; None exactly where none is left.
-fn next_in(numbers: &mut Option<RangeIter<'_, u64, ()>>) -> Option<u64>
+fn next_in(numbers: &mut Left<'_>) -> Option<u64>
     ensures next { IfSome result (λ number. numbers_left numbers.old ≡ number ∷ numbers_left numbers.new) }
     ensures end { IfNone result ((numbers_left numbers.old ≡ []) × (numbers_left numbers.new ≡ [])) }
 {
     match numbers {
-        None => None,
-        Some(left) => next_number::<Brand>(Blank::new(1), left),
+        Left::Nothing => None,
+        Left::One(number) => {
+            let number = *number;
+            *numbers = Left::Nothing;
+            Some(number)
+        }
+        Left::Many(left) => next_number::<Brand>(Blank::new(1), left),
     }
 }
 
@@ -87,11 +92,11 @@ fn next_wanted<'a>(
     name: &Bytes,
     pattern: &Bytes,
     rows: &mut RangeIter<'a, Value, Numbers>,
-) -> Option<RangeIter<'a, u64, ()>>
+) -> Option<Left<'a>>
     requires first { WantedFirst name.now pattern.now rows.old }
     requires whole { AreRows rows.old }
-    ensures next { IfSome result (λ numbers. wanted_numbers name.now pattern.now rows.old ≡ keys_of numbers ++ wanted_numbers name.now pattern.now rows.new) }
-    ensures any { IfSome result (λ numbers. HasNumber (keys_of numbers)) }
+    ensures next { IfSome result (λ numbers. wanted_numbers name.now pattern.now rows.old ≡ numbers_left numbers ++ wanted_numbers name.now pattern.now rows.new) }
+    ensures any { IfSome result (λ numbers. HasNumber (numbers_left numbers)) }
     ensures end { IfNone result ((wanted_numbers name.now pattern.now rows.old ≡ []) × (wanted_numbers name.now pattern.now rows.new ≡ [])) }
     ensures first { WantedFirst name.now pattern.now rows.new }
     ensures whole { AreRows rows.new }
@@ -117,7 +122,7 @@ impl<'a> Carriers<'a> {
         Carriers {
             name,
             pattern,
-            numbers: None,
+            numbers: Left::Nothing,
             rows,
         }
     }
@@ -134,7 +139,7 @@ impl<'a> Carriers<'a> {
             return Some(number);
         }
         let numbers = next_wanted(&self.name, &self.pattern, &mut self.rows)?;
-        self.numbers = Some(numbers);
+        self.numbers = numbers;
         next_in(&mut self.numbers)
     }
 }

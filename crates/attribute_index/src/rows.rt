@@ -68,10 +68,7 @@ impl Change<Numbers> for EditOfNumbers {
 
     fn begin(self) -> Result<Option<Numbers>, Starved> {
         match self.edit {
-            Edit::Put => {
-                let numbers = Numbers::one(self.alloc, self.number)?;
-                Ok(Some(numbers))
-            }
+            Edit::Put => Ok(Some(Numbers::one(self.number))),
             Edit::Take => Ok(None),
         }
     }

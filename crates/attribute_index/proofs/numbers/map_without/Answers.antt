@@ -1,32 +1,22 @@
-use Rattle.std.proofs.Common.{rules, ◌≡◌, ◌&&◌, not, length, nat_eq, nat_cmp, ap, sym, ◌∙◌, subst, arith}
-use Rattle.std.specs.Arc.{arc_value}
+use Rattle.std.proofs.Common.{rules, ◌≡◌, length, ap, sym, ◌∙◌, subst, arith}
 use Rattle.std.specs.Map.{keys_of}
-use Rattle.chunk_map.specs.Sorted.{IsAscending}
 use Rattle.attribute_index.specs.Entries.{has_number}
 use Rattle.attribute_index.specs.Rows.{HasNumber, IsRow}
 use Rattle.attribute_index.proofs.NumberLaws.{number-taken, any_left, none_left, numbers_ascend}
-use Rattle.attribute_index.proofs.numbers.Numbers.without.Goals as goal
+use Rattle.attribute_index.proofs.numbers.map_without.Goals as goal
 
 pub returns-then-len-eq0-clause-numbers : goal.returns-then-len-eq0-clause-numbers
 returns-then-len-eq0-clause-numbers c n =
-    let old : c.deref.result.now ≡ arc_value c.self.inside.numbers = search rules in
-    let keys : keys_of c.deref.result.now ≡ c.args.self.now = ap keys_of old ∙ c.self.view_is in
-    let up = subst (λ es. IsAscending nat_cmp es) (sym old) c.self.invariant in
     let zero : length c.in_ok-left.left ≡ 0 = search rules in
     ap (λ ns. has_number ns n) (sym (none_left c.in_ok-left.left zero))
     ∙ ap (λ es. has_number (keys_of es) n) c.in_ok-left.ensures.pairs
-    ∙ number-taken c.deref.result.now c.args.number n up
-    ∙ ap (λ ns. has_number ns n && not (nat_eq n c.args.number)) keys
+    ∙ number-taken c.args.map.now c.args.number n c.requires.ascends
 
 pub returns-clause-numbers : goal.returns-clause-numbers
 returns-clause-numbers c n =
     let is : c.in_ok-numbers.numbers.value ≡ c.in_ok-left.left = search rules in
-    let old : c.deref.result.now ≡ arc_value c.self.inside.numbers = search rules in
-    let keys : keys_of c.deref.result.now ≡ c.args.self.now = ap keys_of old ∙ c.self.view_is in
-    let up = subst (λ es. IsAscending nat_cmp es) (sym old) c.self.invariant in
     ap (λ es. has_number (keys_of es) n) (is ∙ c.in_ok-left.ensures.pairs)
-    ∙ number-taken c.deref.result.now c.args.number n up
-    ∙ ap (λ ns. has_number ns n && not (nat_eq n c.args.number)) keys
+    ∙ number-taken c.args.map.now c.args.number n c.requires.ascends
 
 pub returns-clause-whole : goal.returns-clause-whole
 returns-clause-whole c =
