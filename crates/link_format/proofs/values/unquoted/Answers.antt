@@ -12,7 +12,7 @@ returns-in_default c =
 
 pub returns-then-first-ne34 : goal.returns-then-first-ne34
 returns-then-first-ne34 c =
-    subst (λ (v : List ℕ). IfOk c.copy_of.result (λ text. text ≡ v)) (unquoted_first c.args.value.now (chars_rest c.next.new.self) c.in-Some.first (sym c.chars-characters.ensures.rest ∙ c.in-Some.ensures.steps.0) c.if-first-ne34.true) c.copy_of.ensures
+    subst (λ (v : List ℕ). IfOk c.copy_of.result (λ text. text ≡ v)) (unquoted_first c.args.value.now (chars_rest c.next.new.self) c.in-Some.first (sym c.chars-characters.ensures.rest ∙ c.in-Some.ensures.steps.0) c.if-first-ne34.true) c.copy_of.ensures.ok
 
 pub returns : goal.returns
 returns c =
