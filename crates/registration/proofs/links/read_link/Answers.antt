@@ -15,4 +15,4 @@ pub returns : goal.returns
 returns c =
     let target = rw c.in-Some.is at c.in_ok-target.ensures in
     link_read c.args.base.now c.args.start (link_seen c.args.link.now) c.in_ok-gathered.gathered c.in_ok-gathered.ensures target.reference c.in-Some.target c.in_ok-anchor.anchor _ target c.in_ok-anchor.ensures
-    c.in_ok-target_ref.ensures c.anchor_text.ensures refl c.text_of.ensures refl c.of.ensures c.is_limited-is_limited.ensures refl
+    c.in_ok-target_ref.ensures.ok c.anchor_text.ensures refl c.text_of.ensures refl c.of.ensures c.is_limited-is_limited.ensures refl

@@ -15,7 +15,7 @@ returns-then-is_uri c =
     record {
       reference = reads text (components_of c.in-Ok.reference) found;
       scheme = uri;
-      text = λ spelled h. c.in_ok-text.ensures ∙ sym (stays spelled text uri);
+      text = λ spelled h. c.in_ok-text.ensures.ok ∙ sym (stays spelled text uri);
     }
 
 pub returns : goal.returns
