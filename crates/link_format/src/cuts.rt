@@ -1,5 +1,6 @@
 //! Quoted strings within a text, and its first octet of a kind outside them (RFC 6690 section 2).
-ghost use Rattle.std.specs.Prelude.{◌≡◌, ◌≤◌, ◌<◌, length, option_map};
+ghost use Rattle.std.specs.Prelude.{◌≡◌, ℕ, ◌≤◌, ◌<◌, ◌+◌, length, drop, option_map};
+ghost use Rattle.link_format.specs.declared.cuts.Quotes.TheVariants.{Unread, Outside, Inside};
 ghost use Rattle.link_format.specs.Cuts as cuts;
 
 /// How a text is read: where it stands to quoted strings.
@@ -17,34 +18,68 @@ pub enum Quotes {
     Escaped,
 }
 
-/// Whether an octet is outside quoted strings.
-fn is_outside(quotes: Quotes) -> bool
-    ensures { result ≡ cuts.is_outside quotes }
+/// What stands after the first octet of a text, and nothing where it has none.
+fn after_octet(text: &[u8]) -> &[u8]
+    ensures { result.now ≡ drop 1 text.now }
 {
-    matches!(quotes, Quotes::Unread | Quotes::Outside)
-}
-
-/// How the text after an octet is read.
-fn quotes_after(quotes: Quotes, octet: u8) -> Quotes
-    ensures { result ≡ cuts.quotes_after quotes octet }
-{
-    match quotes {
-        Quotes::Unread => Quotes::Unread,
-        Quotes::Leading => Quotes::Outside,
-        Quotes::Outside if octet == b'"' => Quotes::Inside,
-        Quotes::Outside => Quotes::Outside,
-        Quotes::Inside if octet == b'"' => Quotes::Outside,
-        Quotes::Inside if octet == b'\\' => Quotes::Escaped,
-        Quotes::Inside => Quotes::Inside,
-        Quotes::Escaped => Quotes::Inside,
+    match text.split_first() {
+        Some((_, more)) => more,
+        None => text,
     }
 }
 
-/// Whether this is the octet, outside quoted strings.
-fn is_separator(separator: u8, quotes: Quotes, octet: u8) -> bool
-    ensures { result ≡ cuts.is_separator separator quotes octet }
+/// What stands after a quoted string in which the text begins, and nothing where no quote closes it.
+fn after_quotes(text: &[u8]) -> &[u8]
+    ensures within { length result.now ≤ length text.now }
+    ensures counted { (separator : ℕ) → cuts.octets_before separator Inside text.now + length result.now ≡ length text.now + cuts.octets_before separator Outside result.now }
 {
-    octet == separator && is_outside(quotes)
+    let mut rest = text;
+    'octets: while let Some((octet, more)) = rest.split_first() {
+        if *octet == b'"' {
+            return more;
+        }
+        if *octet == b'\\' {
+            rest = after_octet(more);
+            continue;
+        }
+        rest = more;
+    }
+    rest
+}
+
+/// How many octets stand before the first separator, where quotation marks mean nothing.
+fn octets_before_unread(separator: u8, text: &[u8]) -> usize
+    ensures value { result ≡ cuts.octets_before separator Unread text.now }
+    ensures within { result ≤ length text.now }
+{
+    let mut rest = text;
+    'octets: while let Some((octet, more)) = rest.split_first() {
+        if *octet == separator {
+            return text.len() - rest.len();
+        }
+        rest = more;
+    }
+    text.len()
+}
+
+/// How many octets of a text stand before the first separator in a rest of it, which begins outside quoted strings.
+fn octets_before_outside(separator: u8, text: &[u8], outside: &[u8]) -> usize
+    requires { length outside.now ≤ length text.now }
+    ensures value { result + length outside.now ≡ length text.now + cuts.octets_before separator Outside outside.now }
+    ensures within { result ≤ length text.now }
+{
+    let mut rest = outside;
+    'octets: while let Some((octet, more)) = rest.split_first() {
+        if *octet == separator {
+            return text.len() - rest.len();
+        }
+        if *octet == b'"' {
+            rest = after_quotes(more);
+            continue;
+        }
+        rest = more;
+    }
+    text.len()
 }
 
 /// How many octets stand before the first separator, and all where there is none.
@@ -52,16 +87,13 @@ fn octets_before(separator: u8, quotes: Quotes, text: &[u8]) -> usize
     ensures value { result ≡ cuts.octets_before separator quotes text.now }
     ensures within { result ≤ length text.now }
 {
-    let mut quotes = quotes;
-    let mut rest = text;
-    'octets: while let Some((octet, more)) = rest.split_first() {
-        if is_separator(separator, quotes, *octet) {
-            return text.len() - rest.len();
-        }
-        quotes = quotes_after(quotes, *octet);
-        rest = more;
+    match quotes {
+        Quotes::Unread => octets_before_unread(separator, text),
+        Quotes::Outside => octets_before_outside(separator, text, text),
+        Quotes::Leading => octets_before_outside(separator, text, after_octet(text)),
+        Quotes::Inside => octets_before_outside(separator, text, after_quotes(text)),
+        Quotes::Escaped => octets_before_outside(separator, text, after_quotes(after_octet(text))),
     }
-    text.len()
 }
 
 /// What stands before the first separator, and what stands after it where there is one.

@@ -38,7 +38,6 @@ fn unquoted(alloc: Global, value: &str) -> Result<Text, Starved>
 }
 
 /// The characters up to a closing quote, where no backslash is among them.
-#[tactic(auto, using(crate::proofs::ValueLemmas::content_as_written))]
 fn content_as_written(inner: &str) -> Option<&str>
     ensures { IfSome result (λ text. text.now ≡ quoting.content_up_to_quote false inner.now) }
 {

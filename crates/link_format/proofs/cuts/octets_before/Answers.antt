@@ -1,19 +1,16 @@
--- The octets before a separator, counted one by one.
-use Rattle.std.proofs.Common.{sym, ◌∙◌, subst}
-use Rattle.link_format.proofs.CutLemmas.{Counted, counted_start, counted_step, counted_there, counted_end}
+-- The octets before a separator, by how the text begins.
+use Rattle.std.proofs.Common.{ap, ◌∙◌, sym}
+use Rattle.link_format.specs.Cuts.{octets_before}
+use Rattle.link_format.proofs.CutLemmas.{leading, escaped}
 use Rattle.link_format.proofs.cuts.octets_before.Goals as goal
 
-pub octets-init : goal.octets-init
-octets-init c = counted_start c.args.separator c.args.quotes c.args.text.now
+pub returns-in-Leading-clause-value : goal.returns-in-Leading-clause-value
+returns-in-Leading-clause-value c =
+    leading c.args.separator c.octets_before_outside-in-Leading.result c.args.text.now c.after_octet.result.now c.after_octet.ensures c.octets_before_outside-in-Leading.ensures.value
+    ∙ ap (λ q. octets_before c.args.separator q c.args.text.now) (sym c.in-Leading.is)
 
-pub octets-preserved : goal.octets-preserved
-octets-preserved c =
-    subst (λ q. Counted c.args.separator c.args.quotes c.args.text.now q c.in-Some.more.now) (sym c.quotes_after-quotes.ensures)
-    (counted_step c.args.separator c.args.quotes c.args.text.now c.octets.quotes c.octets.rest.now c.in-Some.octet.now c.in-Some.more.now c.octets.invariant c.in-Some.ensures.cases.0 (sym c.is_separator.ensures ∙ c.if-is_separator.false))
-
-pub returns-then-is_separator-clause-value : goal.returns-then-is_separator-clause-value
-returns-then-is_separator-clause-value c =
-    counted_there c.args.separator c.args.quotes c.args.text.now c.octets.quotes c.octets.rest.now c.in-Some.octet.now c.in-Some.more.now c.octets.invariant c.in-Some.ensures.cases.0 (sym c.is_separator.ensures ∙ c.if-is_separator.true)
-
-pub returns-clause-value : goal.returns-clause-value
-returns-clause-value c = counted_end c.args.separator c.args.quotes c.args.text.now c.octets.quotes c.octets.rest.now c.octets.invariant c.in_default.ensures.cases
+pub returns-in-Escaped-clause-value : goal.returns-in-Escaped-clause-value
+returns-in-Escaped-clause-value c =
+    escaped c.args.separator c.octets_before_outside-in-Escaped.result c.args.text.now c.after_octet-in-Escaped.result.now c.after_quotes-in-Escaped.result.now c.after_octet-in-Escaped.ensures
+    c.after_quotes-in-Escaped.ensures.within (c.after_quotes-in-Escaped.ensures.counted c.args.separator) c.octets_before_outside-in-Escaped.ensures.value
+    ∙ ap (λ q. octets_before c.args.separator q c.args.text.now) (sym c.in-Escaped.is)
