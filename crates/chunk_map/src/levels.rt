@@ -36,17 +36,18 @@ pub(crate) enum Levels<K: Ord + Shared, V: Shared> {
     Sections(Vec<Section<K, V>>),
 }
 
-/// Two parts that have these parts, one half of them each; or one, where they are not too many for one.
+/// Two parts that have these parts after a change of the value at this key; or one, where they are not too many for one.
 fn raised<K: Ord + Drop, V: Drop, P: Part<K, V>>(
     alloc: Global,
     parts: Vec<P>,
+    key: &K,
 ) -> Result<Vec<Arc<Vec<P>>>, Starved>
     requires any { 0 < length parts.items }
     requires whole { All P.is_whole parts.items }
     ensures pairs { IfOk result (λ raised. flat_map (list_pairs P.pairs) raised.items ≡ flat_map P.pairs parts.items) }
     ensures whole { IfOk result (λ raised. All (IsWholeList P.is_whole) raised.items) }
 {
-    let (front, back) = split(parts)?;
+    let (front, back) = split(parts, key)?;
     let front = Arc::new(alloc, front)?;
     let mut raised = Vec::with_capacity(alloc, 2)?;
     raised.push(front)?;
@@ -60,10 +61,11 @@ fn raised<K: Ord + Drop, V: Drop, P: Part<K, V>>(
     }
 }
 
-/// Levels over these chunks.
+/// Levels over these chunks, after a change of the value at this key.
 fn over_chunks<K: Ord + Shared, V: Shared>(
     alloc: Global,
     chunks: Vec<Chunk<K, V>>,
+    key: &K,
 ) -> Result<Levels<K, V>, Starved>
     requires whole { All IsWholeChunk chunks.items }
     ensures pairs { IfOk result (λ levels. pairs_in levels ≡ flat_map chunk_pairs chunks.items) }
@@ -72,14 +74,15 @@ fn over_chunks<K: Ord + Shared, V: Shared>(
     if chunks.len() <= MOST_PARTS {
         return Ok(Levels::Chunks(chunks));
     }
-    let groups = raised(alloc, chunks)?;
+    let groups = raised(alloc, chunks, key)?;
     Ok(Levels::Groups(groups))
 }
 
-/// Levels over these groups.
+/// Levels over these groups, after a change of the value at this key.
 fn over_groups<K: Ord + Shared, V: Shared>(
     alloc: Global,
     groups: Vec<Group<K, V>>,
+    key: &K,
 ) -> Result<Levels<K, V>, Starved>
     requires whole { All IsWholeGroup groups.items }
     ensures pairs { IfOk result (λ levels. pairs_in levels ≡ flat_map group_pairs groups.items) }
@@ -88,7 +91,7 @@ fn over_groups<K: Ord + Shared, V: Shared>(
     if groups.len() <= MOST_PARTS {
         return Ok(Levels::Groups(groups));
     }
-    let sections = raised(alloc, groups)?;
+    let sections = raised(alloc, groups, key)?;
     Ok(Levels::Sections(sections))
 }
 
@@ -137,12 +140,12 @@ impl<K: Ord + Shared, V: Shared> Levels<K, V> {
         match self {
             Levels::Chunks(chunks) => {
                 let (chunks, tally) = changed(alloc, chunks.as_slice(), key, change)?;
-                let levels = over_chunks(alloc, chunks)?;
+                let levels = over_chunks(alloc, chunks, key)?;
                 Ok((levels, tally))
             }
             Levels::Groups(groups) => {
                 let (groups, tally) = changed(alloc, groups.as_slice(), key, change)?;
-                let levels = over_groups(alloc, groups)?;
+                let levels = over_groups(alloc, groups, key)?;
                 Ok((levels, tally))
             }
             Levels::Sections(sections) => {

@@ -333,7 +333,7 @@ impl<K: Ord + Drop, V: Drop, P: Part<K, V>> Part<K, V> for Vec<P> {
                 tally,
             });
         }
-        let (first, second) = split(parts)?;
+        let (first, second) = split(parts, key)?;
         Ok(Changed {
             first: Some(first),
             second,

@@ -21,6 +21,10 @@ pub(crate) const MOST_PARTS: usize = 24;
 /// How many parts the first list keeps when a list is split in two.
 const SPLIT_PARTS: usize = 12;
 
+/// How many parts the first list keeps when a list that was changed in its last part is split in two. So lists that are
+/// filled in ascending order are three quarters full: fuller ones would be fewer, but a change copies one of them.
+const END_PARTS: usize = 18;
+
 /// The greatest number of parts together with which two lists that stand side by side are joined.
 pub(crate) const JOINED_PARTS: usize = 18;
 
@@ -313,9 +317,24 @@ pub(crate) fn changed<K: Ord + Drop, V: Drop, P: Part<K, V>, C: Change<V>>(
     Ok((changed, tally))
 }
 
-/// The parts in one list, or in two where they are too many for one.
+/// How many parts the first list keeps when a list with too many is split in two after a change of the value at this key.
+fn front_count<K: Ord + Drop, V: Drop, P: Part<K, V>>(parts: &[P], key: &K) -> usize
+    requires many { 24 < length parts.now }
+    requires whole { All P.is_whole parts.now }
+    ensures any { 0 < result }
+    ensures within { result < length parts.now }
+{
+    if parts[parts.len() - 1].begins_by(key) {
+        END_PARTS
+    } else {
+        SPLIT_PARTS
+    }
+}
+
+/// The parts in one list, or in two where they are too many for one, after a change of the value at this key.
 pub(crate) fn split<K: Ord + Drop, V: Drop, P: Part<K, V>>(
     mut parts: Vec<P>,
+    key: &K,
 ) -> Result<(Vec<P>, Option<Vec<P>>), Starved>
     requires any { 0 < length parts.items }
     requires whole { All P.is_whole parts.items }
@@ -326,6 +345,7 @@ pub(crate) fn split<K: Ord + Drop, V: Drop, P: Part<K, V>>(
     if parts.len() <= MOST_PARTS {
         return Ok((parts, None));
     }
-    let back = parts.split_off(SPLIT_PARTS)?;
+    let count = front_count(parts.as_slice(), key);
+    let back = parts.split_off(count)?;
     Ok((parts, Some(back)))
 }

@@ -194,6 +194,36 @@ fn chunks_are_joined(rt: HostRuntime) -> Result<(), Fail> {
     Ok(())
 }
 
+/// Where keys were put in ascending order, chunks are three quarters full.
+#[test]
+fn ascending_puts_fill_chunks(rt: HostRuntime) -> Result<(), Fail> {
+    let mut map = ChunkMap::empty(rt.alloc())?;
+    for key in 0..1800 {
+        map = map.put(key, ())?;
+    }
+    let chunks = count_chunks(map.levels());
+    assert!(rt; chunks <= 100, "{chunks}");
+    Ok(())
+}
+
+/// Where short runs of ascending keys were put between two chunks, each run before the last one, chunks are at least a quarter
+/// full on the whole.
+#[test]
+fn runs_between_chunks(rt: HostRuntime) -> Result<(), Fail> {
+    let mut map = ChunkMap::empty(rt.alloc())?;
+    for number in 0..25 {
+        map = map.put(u64::wrapping_mul(number, 1000), ())?;
+    }
+    for number in 0..980 {
+        let first = u64::wrapping_sub(17_990, u64::wrapping_mul(number / 7, 7));
+        map = map.put(u64::wrapping_add(first, number % 7), ())?;
+    }
+    let chunks = count_chunks(map.levels());
+    assert_eq!(rt; map.len(), 1005);
+    assert!(rt; chunks <= 167, "{chunks}");
+    Ok(())
+}
+
 /// A map is as before where a put or a take of it runs out of memory, and the same call serves once there is some.
 #[test]
 fn as_before_out_of_memory(rt: HostRuntime) -> Result<(), Fail> {
