@@ -1,5 +1,6 @@
 //! The classes of characters that the grammar of links names (RFC 6690 section 2).
-ghost use Rattle.std.specs.Prelude.{◌≡◌, ◌==◌};
+ghost use Rattle.std.specs.Prelude.{◌≡◌, ◌==◌, ◌&&◌, not};
+ghost use Rattle.std.specs.Char.{is_ascii};
 ghost use Rattle.std.specs.List.{list_any};
 ghost use Rattle.link_model.specs.Characters as class;
 
@@ -36,4 +37,11 @@ pub fn is_target_character(octet: u8) -> bool
     ensures { result ≡ class.is_target_character octet }
 {
     octet.is_ascii() && is_not_control(octet) && octet != b'>'
+}
+
+/// Whether the octet is a character of ASCII that stands for itself in a quoted string.
+pub fn is_plain_in_quotes(octet: u8) -> bool
+    ensures { result ≡ (is_ascii octet && class.is_not_control octet && not (octet == class.quote_mark) && not (octet == class.backslash)) }
+{
+    octet.is_ascii() && is_not_control(octet) && octet != b'"' && octet != b'\\'
 }

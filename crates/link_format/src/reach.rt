@@ -1,7 +1,11 @@
 //! One walk over octets: how far they begin a document, and whether they are one.
-ghost use Rattle.std.specs.Prelude.{◌≡◌, ◌≤◌, ◌-◌, length, false, is_some};
+ghost use Rattle.std.specs.Prelude.{◌≡◌, ◌≤◌, ◌-◌, length, false, is_some, Some, IsTrue};
 ghost use Rattle.link_model.specs.DocumentReading.{document, good_prefix};
+ghost use Rattle.link_model.specs.DocumentReading as grammar;
+ghost use Rattle.link_format.specs.Points.{point_in};
+ghost use Rattle.link_format.specs.Ranges.{tails_after};
 
+use crate::characters::{is_plain_in_quotes, is_target_character};
 use crate::points::{Point, may_end, point_after};
 use crate::ranges::{OctetRange, tails_after};
 
@@ -14,6 +18,24 @@ pub struct Reach {
     pub is_document: bool,
 }
 
+/// Whether an octet is one of those that leave the walk where it is: most characters of targets, names and values do, and
+/// are found with few tests.
+fn stays(point: Point, tails: &[OctetRange], octet: u8) -> bool
+    ensures point { IsTrue result → grammar.point_after (point_in point) octet ≡ Some (point_in point) }
+    ensures tails { IsTrue result → tails_after tails.now octet ≡ Some tails.now }
+{
+    if !tails.is_empty() {
+        return false;
+    }
+    match point {
+        Point::Target => is_target_character(octet),
+        Point::WithinName => octet.is_ascii_alphanumeric(),
+        Point::Token => octet.is_ascii_alphanumeric(),
+        Point::Quotes => is_plain_in_quotes(octet),
+        _ => false,
+    }
+}
+
 /// Walks over the octets once, up to the first that no document has there.
 pub fn walk(body: &[u8]) -> Reach
     ensures good_prefix { result.good_prefix ≡ good_prefix body.now }
@@ -23,6 +45,10 @@ pub fn walk(body: &[u8]) -> Reach
     let mut tails: &'static [OctetRange] = &[];
     let mut rest = body;
     'octets: while let Some((octet, more)) = rest.split_first() {
+        if stays(point, tails, *octet) {
+            rest = more;
+            continue;
+        }
         let Some(next_point) = point_after(point, *octet) else {
             return stopped(body, rest);
         };

@@ -1,5 +1,5 @@
 -- Where the walk stops is the end of the longest prefix that begins a document.
-use Rattle.std.proofs.Common.{sym, ap, ◌∙◌}
+use Rattle.std.proofs.Common.{refl, sym, ap, ◌∙◌}
 use Rattle.link_format.proofs.WalkLemmas.{walked_start, walked_step, walked_no_point, walked_no_tails, walked_whole, walked_end, walked_short}
 use Rattle.link_format.proofs.reach.walk.Goals as goal
 
@@ -10,6 +10,10 @@ pub octets-preserved : goal.octets-preserved
 octets-preserved c =
     walked_step c.args.body.now c.octets.rest.now _ _ c.octets.tails.now c.in-Some-tails_after.next_tails.now c.in-Some.octet.now c.in-Some.more.now c.octets.invariant c.in-Some.ensures.cases.0
     (sym c.in-Some-point_after.ensures) (sym c.in-Some-tails_after.ensures)
+
+pub octets-preserved-then-stays : goal.octets-preserved-then-stays
+octets-preserved-then-stays c =
+    walked_step c.args.body.now c.octets.rest.now _ _ c.octets.tails.now c.octets.tails.now c.in-Some.octet.now c.in-Some.more.now c.octets.invariant c.in-Some.ensures.cases.0 (c.if-stays.ensures.point refl) (c.if-stays.ensures.tails refl)
 
 pub returns-in_default-point_after-clause-good_prefix : goal.returns-in_default-point_after-clause-good_prefix
 returns-in_default-point_after-clause-good_prefix c =
