@@ -50,7 +50,11 @@ take 8 rt=a|rt=*|3 8 3
 take 3 rt=b light-lux|rt=*|8
 take 8 rt=b|rt=*|
 put 18446744073709551615 d=x|d=x|18446744073709551615
-put 0 d=x|d=x|0 18446744073709551615";
+put 0 d=x|d=x|0 18446744073709551615
+put 1 anchor=coap://[2001:db8::1]:61616/sensors/light|anchor=coap://[2001:db8::1]:6*|1
+put 2 anchor=coap://a|anchor=coap*|1 2
+put 3 anchor=coap://[2001:db8::1]:61616/sensors/light|anchor=coap*|1 3 2
+take 1 anchor=coap://[2001:db8::1]:61616/sensors/light|anchor=coap*|3 2";
 
 /// An attribute of a name and a value.
 fn pair_of(alloc: Global, name: &str, value: &str) -> Result<Pair, Starved> {
@@ -132,7 +136,7 @@ fn attributes_are_found(rt: HostRuntime) -> Result<(), Fail> {
         assert_eq!(rt; numbers.as_slice(), want.as_slice(), "{case}");
         count = u32::saturating_add(count, 1);
     }
-    assert_eq!(rt; count, 39);
+    assert_eq!(rt; count, 43);
     Ok(())
 }
 
