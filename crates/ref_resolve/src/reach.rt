@@ -55,6 +55,15 @@ fn is_name_character(octet: u8) -> bool
         )
 }
 
+/// Whether an octet is a character of a path, beside percent escapes (RFC 3986 section 3.3). Small letters come first, since most are.
+fn is_path_character(octet: u8) -> bool
+    ensures { result ≡ characters.is_path_character octet }
+{
+    octet.is_ascii_lowercase()
+        || matches!(octet, b'&'..=b';' | b'@'..=b'Z')
+        || matches!(octet, b'=' | b'_' | b'~' | b'!' | b'$')
+}
+
 /// Whether an octet may stand in a scheme after its first letter (RFC 3986 section 3.1).
 fn is_scheme_character(octet: u8) -> bool
     ensures { result ≡ characters.is_scheme_character octet }
@@ -69,15 +78,6 @@ fn is_literal_character(octet: u8) -> bool
     octet.is_ascii_hexdigit() || octet == b':' || octet == b'.'
 }
 
-/// Whether an octet is a character of a path, beside percent escapes (RFC 3986 section 3.3). Small letters come first, since most are.
-fn is_path_character(octet: u8) -> bool
-    ensures { result ≡ characters.is_path_character octet }
-{
-    octet.is_ascii_lowercase()
-        || matches!(octet, b'&'..=b';' | b'@'..=b'Z')
-        || matches!(octet, b'=' | b'_' | b'~' | b'!' | b'$')
-}
-
 impl Class {
     /// Whether the octet is such a character.
     fn has(self, octet: u8) -> bool
@@ -87,13 +87,7 @@ impl Class {
             Class::Name => is_name_character(octet),
             Class::User => is_name_character(octet) || octet == b':',
             Class::Path => is_path_character(octet),
-            Class::Query => {
-                is_name_character(octet)
-                    || octet == b':'
-                    || octet == b'@'
-                    || octet == b'/'
-                    || octet == b'?'
-            }
+            Class::Query => is_path_character(octet) || octet == b'?',
         }
     }
 

@@ -141,6 +141,24 @@ fn append_authority(text: &mut String, authority: Option<&str>) -> Result<(), St
     Ok(())
 }
 
+/// Appends a scheme and an authority with their marks, where they are there.
+fn append_front(
+    text: &mut String,
+    scheme: Option<&str>,
+    authority: Option<&str>,
+) -> Result<(), Starved>
+    ensures { OnOk result (string_bytes text.new ≡ string_bytes text.old ++ (references.scheme_text (option_map (λ part. part.now) scheme.entry) ++ references.authority_text (option_map (λ part. part.now) authority.entry))) }
+{
+    if let (Some(before), Some(after)) = (scheme, authority) {
+        text.push_str(before)?;
+        text.push_str("://")?;
+        text.push_str(after)?;
+        return Ok(());
+    }
+    append_scheme(text, scheme)?;
+    append_authority(text, authority)
+}
+
 /// Appends a query after its question mark, where there is one.
 fn append_query(text: &mut String, query: Option<&str>) -> Result<(), Starved>
     ensures { OnOk result (string_bytes text.new ≡ string_bytes text.old ++ references.query_text (option_map (λ part. part.now) query.entry)) }
@@ -201,8 +219,7 @@ pub fn resolve(alloc: Global, base: &Parts<'_>, reference: &Parts<'_>) -> Result
     let path = room_for_path(base.path, reference.path);
     let room = room_for([scheme, authority, query, reference.fragment], path);
     let mut text = String::with_capacity(alloc, room)?;
-    append_scheme(&mut text, scheme)?;
-    append_authority(&mut text, authority)?;
+    append_front(&mut text, scheme, authority)?;
     append_path(alloc, &mut text, base, reference)?;
     append_query(&mut text, query)?;
     append_fragment(&mut text, reference.fragment)?;

@@ -1,5 +1,5 @@
 -- The parts of the answer, one after the other.
-use Rattle.std.proofs.Common.{ℕ, List, Option, ◌++◌, sym, ap, ◌∙◌}
+use Rattle.std.proofs.Common.{ℕ, List, Option, ◌++◌, option_map, refl, sym, ap, ◌∙◌, append_assoc}
 use Rattle.std.specs.String.{string_bytes}
 use Rattle.reference_model.specs.References.{scheme_text, authority_text, query_text}
 use Rattle.reference_model.specs.Resolution.{resolution}
@@ -12,13 +12,17 @@ returns-clause-value c =
     let base = components_of c.args.base.now in
     let reference = components_of c.args.reference.now in
     let t0 = string_bytes c.in_ok-text.text in
-    let t1 = string_bytes c.append_scheme.new.text in
-    let t2 = string_bytes c.append_authority.new.text in
+    let scheme = scheme_text (resolution base reference).scheme in
+    let authority = authority_text (resolution base reference).authority in
+    let t2 = string_bytes c.append_front.new.text in
     let t3 = string_bytes c.append_path.new.text in
     let t4 = string_bytes c.append_query.new.text in
-    c.of.ensures ∙ appended (resolution base reference) reference.fragment t0 t1 t2 t3 t4 (string_bytes c.append_fragment.new.text) c.in_ok-text.ensures.bytes
-    (c.in_ok-append_scheme.ensures ∙ ap (λ (s : Option (List ℕ)). t0 ++ scheme_text s) c.target_scheme-scheme.ensures)
-    (c.in_ok-append_authority.ensures ∙ ap (λ (a : Option (List ℕ)). t1 ++ authority_text a) c.target_authority-authority.ensures)
+    c.of.ensures ∙ appended (resolution base reference) reference.fragment t0 (t0 ++ scheme) t2 t3 t4 (string_bytes c.append_fragment.new.text) c.in_ok-text.ensures.bytes
+    refl
+    (c.in_ok-append_front.ensures
+    ∙ ap (λ (s : Option (List ℕ)). t0 ++ (scheme_text s ++ authority_text (option_map (λ part. part.now) c.target_authority-authority.result))) c.target_scheme-scheme.ensures
+    ∙ ap (λ (a : Option (List ℕ)). t0 ++ (scheme ++ authority_text a)) c.target_authority-authority.ensures
+    ∙ sym (append_assoc t0 scheme authority))
     c.in_ok-append_path.ensures
     (c.in_ok-append_query.ensures ∙ ap (λ (q : Option (List ℕ)). t3 ++ query_text q) c.target_query-query.ensures)
     c.in_ok-append_fragment.ensures (sym (fragment_kept base reference))
