@@ -1,9 +1,11 @@
 -- Lines, as their pieces in a row.
-use Rattle.std.proofs.Common.{◌≡◌, ℕ, true, false, List, [], ◌∷◌, ◌++◌, flat_map, codes, Some, None, refl, sym, ap, ◌∙◌, append_assoc}
+use Rattle.std.proofs.Common.{◌≡◌, ℕ, true, false, ◌==◌, ◌||◌, List, [], ◌∷◌, ◌++◌, flat_map, codes, Some, None, refl, sym, ap, ◌∙◌, append_assoc}
 use Rattle.rd_base.specs.declared.attributes.Pair.{Pair}
 use Rattle.rd_base.specs.declared.records.Item.{Item}
 use Rattle.rd_base.specs.declared.records.Record.{Record}
-use Rattle.link_model.specs.Characters.{is_empty}
+use Rattle.std.specs.List.{list_any}
+use Rattle.std.proofs.lemmas.Bool.{or_parts}
+use Rattle.link_model.specs.Characters.{backslash, is_empty, quote_mark}
 use Rattle.link_model.specs.Quoting.{escaped_character, quoted}
 use Rattle.record_model.specs.Matching.{location}
 use Rattle.record_model.specs.ListingLines.{anchor_text, bracketed, endpoint_line, extra_attribute, link_line, own_pairs, quoted_attribute}
@@ -86,3 +88,11 @@ endpoint_parts r = append_assoc (bracketed (location r.number)) (flat_map quoted
 pub same_texts : (old new : Item) → old.target ≡ new.target → old.raw ≡ new.raw → old.anchor ≡ new.anchor → link_line old ≡ link_line new
 unfolding link_line
 same_texts old new e f g = rw (e, f, g) refl
+
+-- a text without quotes and backslashes stands in quotes as it is
+pub nothing_escaped : (text : List ℕ) → list_any (λ c. c == quote_mark || c == backslash) text ≡ false → flat_map escaped_character text ≡ text
+nothing_escaped [] h = refl
+nothing_escaped (c ∷ cs) h =
+    let parts = or_parts (c == quote_mark || c == backslash) (list_any (λ d. d == quote_mark || d == backslash) cs) h in
+    let plain : escaped_character c ≡ c ∷ [] = rw (parts.0) refl in
+    ap (λ (t : List ℕ). t ++ flat_map escaped_character cs) plain ∙ ap (λ (t : List ℕ). c ∷ t) (nothing_escaped cs parts.1)

@@ -1,6 +1,8 @@
 //! Lines that are appended to a listing.
-ghost use Rattle.std.specs.Prelude.{◌≡◌, ◌++◌, ◌∷◌, [], flat_map, OnOk, OnErr};
+ghost use Rattle.std.specs.Prelude.{◌≡◌, ◌==◌, ◌||◌, ◌++◌, ◌∷◌, [], flat_map, OnOk, OnErr};
+ghost use Rattle.std.specs.List.{list_any};
 ghost use Rattle.record_model.specs.ListingLines as listing_model;
+ghost use Rattle.link_model.specs.Characters.{backslash, quote_mark};
 ghost use Rattle.link_model.specs.Quoting.{escaped_character};
 ghost use Rattle.listing.specs.AppendedLines.{separated};
 ghost use Rattle.listing.specs.Pieces.{own_line, octets_of_piece, octets_of_pieces};
@@ -17,11 +19,11 @@ fn append_octet(octet: u8, into: &mut Bytes) -> Result<(), Starved>
     if is_escaped(octet) {
         return into.append(&[b'\\', octet]);
     }
-    into.append(&[octet])
+    into.push(octet)
 }
 
-/// Appends a text with a backslash before each quote and each backslash.
-fn append_escaped(text: &[u8], into: &mut Bytes) -> Result<(), Starved>
+/// Appends the octets of a quoted text one by one.
+fn append_octets(text: &[u8], into: &mut Bytes) -> Result<(), Starved>
     ensures ok { OnOk result (into.new ≡ into.old ++ flat_map escaped_character text.now) }
     ensures starved { OnErr result (into.new ≡ into.old) }
 {
@@ -35,13 +37,43 @@ fn append_escaped(text: &[u8], into: &mut Bytes) -> Result<(), Starved>
     Ok(())
 }
 
+/// Whether the text has a quote or a backslash.
+fn has_escaped(text: &[u8]) -> bool
+    ensures { result ≡ list_any (λ c. c == quote_mark || c == backslash) text.now }
+{
+    text.iter().any(|octet| is_escaped(*octet))
+}
+
+/// Appends a text as it is.
+fn append_plain(text: &[u8], into: &mut Bytes) -> Result<(), Starved>
+    ensures ok { OnOk result (into.new ≡ into.old ++ text.now) }
+    ensures starved { OnErr result (into.new ≡ into.old) }
+{
+    match text {
+        [] => Ok(()),
+        [octet] => into.push(*octet),
+        _ => into.append(text),
+    }
+}
+
+/// Appends a text with a backslash before each quote and each backslash.
+fn append_escaped(text: &[u8], into: &mut Bytes) -> Result<(), Starved>
+    ensures ok { OnOk result (into.new ≡ into.old ++ flat_map escaped_character text.now) }
+    ensures starved { OnErr result (into.new ≡ into.old) }
+{
+    if has_escaped(text) {
+        return append_octets(text, into);
+    }
+    append_plain(text, into)
+}
+
 /// Appends a piece.
 fn append_piece(piece: &Piece<'_>, into: &mut Bytes) -> Result<(), Starved>
     ensures ok { OnOk result (into.new ≡ into.old ++ octets_of_piece piece.now) }
     ensures starved { OnErr result (into.new ≡ into.old) }
 {
     match piece {
-        Piece::Plain(text) => into.append(text),
+        Piece::Plain(text) => append_plain(text, into),
         Piece::Escaped(text) => append_escaped(text, into),
     }
 }
@@ -69,7 +101,7 @@ fn append_comma(into: &mut Bytes) -> Result<(), Starved>
     if into.is_empty() {
         return Ok(());
     }
-    into.append(b",")
+    into.push(b',')
 }
 
 /// Appends the line of a link. Out of memory, the octets are as before.
