@@ -1,5 +1,5 @@
 -- Lines, as their pieces in a row.
-use Rattle.std.proofs.Common.{◌≡◌, ℕ, true, false, ◌==◌, ◌||◌, List, [], ◌∷◌, ◌++◌, flat_map, codes, Some, None, refl, sym, ap, ◌∙◌, append_assoc}
+use Rattle.std.proofs.Common.{◌≡◌, ℕ, true, false, ◌==◌, ◌||◌, List, [], ◌∷◌, ◌++◌, flat_map, codes, Option, Some, None, refl, sym, ap, ◌∙◌, append_assoc, append-nil}
 use Rattle.rd_base.specs.declared.attributes.Pair.{Pair}
 use Rattle.rd_base.specs.declared.records.Item.{Item}
 use Rattle.rd_base.specs.declared.records.Record.{Record}
@@ -31,6 +31,21 @@ pub link_without_anchor : (item : Item) (target raw : List ℕ) → target ≡ i
     → 60 ∷ (target ++ 62 ∷ (raw ++ [])) ≡ link_line item
 unfolding link_line
 link_without_anchor item target raw e f h = rw (e, f, h) (after (60 ∷ []) (seam item.target (item.raw ++ []) _ 62 refl))
+
+-- the target of a link and its attributes
+pub target_and_raw : (item : Item) (target raw : List ℕ) → target ≡ item.target → raw ≡ item.raw → 60 ∷ (target ++ 62 ∷ (raw ++ [])) ≡ bracketed item.target ++ item.raw
+target_and_raw item target raw e f = rw (e, f) (after (60 ∷ []) (seam item.target (item.raw ++ []) item.raw 62 (append-nil item.raw)))
+
+-- its anchor, where it has one
+pub anchor_spelled : (anchor : Option (List ℕ)) (text spelled : List ℕ) → text ≡ spelled → anchor ≡ Some spelled
+    → codes ";anchor=\"" ++ (flat_map escaped_character text ++ 34 ∷ []) ≡ anchor_text anchor
+unfolding quoted
+anchor_spelled anchor text spelled e h = rw (e, h) refl
+
+-- the line of a link after a text
+pub link_whole : (item : Item) (text : List ℕ) → (text ++ (bracketed item.target ++ item.raw)) ++ anchor_text item.anchor ≡ text ++ link_line item
+unfolding link_line
+link_whole item text = append_assoc text (bracketed item.target ++ item.raw) (anchor_text item.anchor) ∙ after text (append_assoc (bracketed item.target) item.raw (anchor_text item.anchor))
 
 -- the line of an endpoint with a sector, before its extra attributes
 pub own_with_sector : (r : Record) (location_text base name sector spelled : List ℕ) → base ≡ r.base → name ≡ r.name.ep → sector ≡ spelled → r.name.sector ≡ Some spelled → location_text ≡ location r.number

@@ -8,8 +8,8 @@ ghost use Rattle.listing.specs.AppendedLines.{separated};
 ghost use Rattle.listing.specs.Pieces.{own_line, octets_of_piece, octets_of_pieces};
 
 use crate::locations::{ROOM, write_location};
-use crate::pieces::{Piece, attribute_pieces, endpoint_pieces, is_escaped, link_pieces};
-use rd_base::{Bytes, Item, Pair, Record, Starved};
+use crate::pieces::{Piece, attribute_pieces, endpoint_pieces, is_escaped};
+use rd_base::{Bytes, Item, Pair, Record, Starved, Text};
 
 /// Appends an octet of a quoted text.
 fn append_octet(octet: u8, into: &mut Bytes) -> Result<(), Starved>
@@ -104,14 +104,46 @@ fn append_comma(into: &mut Bytes) -> Result<(), Starved>
     into.push(b',')
 }
 
+/// Appends the target of a link between its brackets, and its attributes.
+#[tactic(auto, using(crate::proofs::PieceLaws::target_and_raw))]
+fn append_target(item: &Item, into: &mut Bytes) -> Result<(), Starved>
+    ensures ok { OnOk result (into.new ≡ into.old ++ (listing_model.bracketed item.now.target ++ item.now.raw)) }
+    ensures starved { OnErr result (into.new ≡ into.old) }
+{
+    let target = Piece::Plain(item.target.as_bytes());
+    let raw = Piece::Plain(item.raw.as_bytes());
+    append_pieces(&[Piece::Plain(b"<"), target, Piece::Plain(b">"), raw], into)
+}
+
+/// Appends the anchor of a link, where it has one.
+#[tactic(auto, using(crate::proofs::PieceLaws::anchor_spelled))]
+fn append_anchor(anchor: &Option<Text>, into: &mut Bytes) -> Result<(), Starved>
+    ensures ok { OnOk result (into.new ≡ into.old ++ listing_model.anchor_text anchor.now) }
+    ensures starved { OnErr result (into.new ≡ into.old) }
+{
+    let Some(text) = anchor else {
+        return Ok(());
+    };
+    let anchor = Piece::Escaped(text.as_bytes());
+    append_pieces(
+        &[Piece::Plain(b";anchor=\""), anchor, Piece::Plain(b"\"")],
+        into,
+    )
+}
+
 /// Appends the line of a link. Out of memory, the octets are as before.
+#[tactic(auto, using(crate::proofs::PieceLaws::link_whole))]
 pub fn append_link(item: &Item, into: &mut Bytes) -> Result<(), Starved>
     ensures ok { OnOk result (into.new ≡ separated into.old ++ listing_model.link_line item.now) }
     ensures starved { OnErr result (into.new ≡ into.old) }
 {
     let before = into.len();
     append_comma(into)?;
-    if append_pieces(&link_pieces(item), into).is_err() {
+    if append_target(item, into).is_err() {
+        into.truncate(before);
+        return Err(Starved);
+    }
+    if append_anchor(&item.anchor, into).is_err() {
         into.truncate(before);
         return Err(Starved);
     }

@@ -24,12 +24,8 @@ fn matches_attribute(name: &[u8], pattern: &[u8], attribute: &[u8], value: &[u8]
 fn matches_pairs(name: &[u8], pattern: &[u8], pairs: &[Pair]) -> bool
     ensures { result ≡ model.matches_pairs (record { name = name.now; pattern = pattern.now }) pairs.now }
 {
-    pairs.iter().any(|pair| matches_attribute(
-        name,
-        pattern,
-        pair.name.as_bytes(),
-        pair.value.as_bytes(),
-    ))
+    pairs.iter().any(|pair| pair.name.as_bytes() == name
+        && matches_named(name, pattern, pair.value.as_bytes()))
 }
 
 /// Whether criteria of this name are about targets.
