@@ -1,5 +1,4 @@
 use Rattle.std.proofs.Common.{◌≡◌, ◌++◌, List, ℕ, OnOk, subst, sym, ◌∙◌}
-use Rattle.link_model.specs.Quoting.{escaped_character}
 use Rattle.listing.proofs.PieceLaws.{nothing_escaped}
 use Rattle.listing.proofs.appended_lines.append_escaped.Goals as goal
 

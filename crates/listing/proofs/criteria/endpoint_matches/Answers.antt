@@ -1,5 +1,4 @@
-use Rattle.std.proofs.Common.{◌≡◌, ◌∙◌, sym, true, refl}
-use Rattle.record_model.specs.Matching.{matches_pairs}
+use Rattle.std.proofs.Common.{◌∙◌, sym, true, refl}
 use Rattle.listing.proofs.EndpointLaws.{endpoint_by_texts}
 use Rattle.listing.proofs.criteria.endpoint_matches.Goals as goal
 
