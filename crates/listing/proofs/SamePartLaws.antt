@@ -1,7 +1,5 @@
 -- Lists of lines that are compared octet by octet.
-use Rattle.std.proofs.Common.{◌≡◌, ◌↔◌, ℕ, Bool, true, List, [], ◌∷◌, bytes_eq, refl, sym, ◌∙◌}
-use Rattle.std.proofs.lemmas.Bool.{and_parts}
-use Rattle.std.proofs.lemmas.Slice.Eq.{bytes_eq-Decides}
+use Rattle.std.proofs.Common.{◌≡◌, ◌↔◌, ℕ, Bool, true, List, sym, ◌∙◌}
 use Rattle.record_model.specs.ListingLines.{same_lines}
 use Rattle.record_model.proofs.LineLaws.{same_lines-Decides}
 

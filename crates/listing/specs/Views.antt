@@ -17,7 +17,7 @@ left o = o.run.now ++ (flat_map escaped_character o.escaped.now ++ (octets_of_pi
 
 -- one more than the pieces of an attribute
 abbrev pub attribute_weight : ℕ
-attribute_weight = 12
+attribute_weight = 10
 
 -- how many pieces are left at most, and one more for each attribute
 abbrev pub pieces_left : Octets → ℕ

@@ -1,13 +1,15 @@
 //! Lines that are appended to a listing.
-ghost use Rattle.std.specs.Prelude.{◌≡◌, ◌++◌, ◌∷◌, [], flat_map, OnOk, OnErr};
+ghost use Rattle.std.specs.Prelude.{◌≡◌, ◌==◌, ◌||◌, ◌++◌, ◌∷◌, [], flat_map, OnOk, OnErr};
+ghost use Rattle.std.specs.List.{list_any};
 ghost use Rattle.record_model.specs.ListingLines as listing_model;
+ghost use Rattle.link_model.specs.Characters.{backslash, quote_mark};
 ghost use Rattle.link_model.specs.Quoting.{escaped_character};
 ghost use Rattle.listing.specs.AppendedLines.{separated};
 ghost use Rattle.listing.specs.Pieces.{own_line, octets_of_piece, octets_of_pieces};
 
 use crate::locations::{ROOM, write_location};
-use crate::pieces::{Piece, attribute_pieces, endpoint_pieces, is_escaped, link_pieces};
-use rd_base::{Bytes, Item, Pair, Record, Starved};
+use crate::pieces::{Piece, attribute_pieces, endpoint_pieces, is_escaped};
+use rd_base::{Bytes, Item, Pair, Record, Starved, Text};
 
 /// Appends an octet of a quoted text.
 fn append_octet(octet: u8, into: &mut Bytes) -> Result<(), Starved>
@@ -17,11 +19,11 @@ fn append_octet(octet: u8, into: &mut Bytes) -> Result<(), Starved>
     if is_escaped(octet) {
         return into.append(&[b'\\', octet]);
     }
-    into.append(&[octet])
+    into.push(octet)
 }
 
-/// Appends a text with a backslash before each quote and each backslash.
-fn append_escaped(text: &[u8], into: &mut Bytes) -> Result<(), Starved>
+/// Appends the octets of a quoted text one by one.
+fn append_octets(text: &[u8], into: &mut Bytes) -> Result<(), Starved>
     ensures ok { OnOk result (into.new ≡ into.old ++ flat_map escaped_character text.now) }
     ensures starved { OnErr result (into.new ≡ into.old) }
 {
@@ -35,13 +37,43 @@ fn append_escaped(text: &[u8], into: &mut Bytes) -> Result<(), Starved>
     Ok(())
 }
 
+/// Whether the text has a quote or a backslash.
+fn has_escaped(text: &[u8]) -> bool
+    ensures { result ≡ list_any (λ c. c == quote_mark || c == backslash) text.now }
+{
+    text.iter().any(|octet| is_escaped(*octet))
+}
+
+/// Appends a text as it is.
+fn append_plain(text: &[u8], into: &mut Bytes) -> Result<(), Starved>
+    ensures ok { OnOk result (into.new ≡ into.old ++ text.now) }
+    ensures starved { OnErr result (into.new ≡ into.old) }
+{
+    match text {
+        [] => Ok(()),
+        [octet] => into.push(*octet),
+        _ => into.append(text),
+    }
+}
+
+/// Appends a text with a backslash before each quote and each backslash.
+fn append_escaped(text: &[u8], into: &mut Bytes) -> Result<(), Starved>
+    ensures ok { OnOk result (into.new ≡ into.old ++ flat_map escaped_character text.now) }
+    ensures starved { OnErr result (into.new ≡ into.old) }
+{
+    if has_escaped(text) {
+        return append_octets(text, into);
+    }
+    append_plain(text, into)
+}
+
 /// Appends a piece.
 fn append_piece(piece: &Piece<'_>, into: &mut Bytes) -> Result<(), Starved>
     ensures ok { OnOk result (into.new ≡ into.old ++ octets_of_piece piece.now) }
     ensures starved { OnErr result (into.new ≡ into.old) }
 {
     match piece {
-        Piece::Plain(text) => into.append(text),
+        Piece::Plain(text) => append_plain(text, into),
         Piece::Escaped(text) => append_escaped(text, into),
     }
 }
@@ -69,17 +101,49 @@ fn append_comma(into: &mut Bytes) -> Result<(), Starved>
     if into.is_empty() {
         return Ok(());
     }
-    into.append(b",")
+    into.push(b',')
+}
+
+/// Appends the target of a link between its brackets, and its attributes.
+#[tactic(auto, using(crate::proofs::PieceLaws::target_and_raw))]
+fn append_target(item: &Item, into: &mut Bytes) -> Result<(), Starved>
+    ensures ok { OnOk result (into.new ≡ into.old ++ (listing_model.bracketed item.now.target ++ item.now.raw)) }
+    ensures starved { OnErr result (into.new ≡ into.old) }
+{
+    let target = Piece::Plain(item.target.as_bytes());
+    let raw = Piece::Plain(item.raw.as_bytes());
+    append_pieces(&[Piece::Plain(b"<"), target, Piece::Plain(b">"), raw], into)
+}
+
+/// Appends the anchor of a link, where it has one.
+#[tactic(auto, using(crate::proofs::PieceLaws::anchor_spelled))]
+fn append_anchor(anchor: &Option<Text>, into: &mut Bytes) -> Result<(), Starved>
+    ensures ok { OnOk result (into.new ≡ into.old ++ listing_model.anchor_text anchor.now) }
+    ensures starved { OnErr result (into.new ≡ into.old) }
+{
+    let Some(text) = anchor else {
+        return Ok(());
+    };
+    let anchor = Piece::Escaped(text.as_bytes());
+    append_pieces(
+        &[Piece::Plain(b";anchor=\""), anchor, Piece::Plain(b"\"")],
+        into,
+    )
 }
 
 /// Appends the line of a link. Out of memory, the octets are as before.
+#[tactic(auto, using(crate::proofs::PieceLaws::link_whole))]
 pub fn append_link(item: &Item, into: &mut Bytes) -> Result<(), Starved>
     ensures ok { OnOk result (into.new ≡ separated into.old ++ listing_model.link_line item.now) }
     ensures starved { OnErr result (into.new ≡ into.old) }
 {
     let before = into.len();
     append_comma(into)?;
-    if append_pieces(&link_pieces(item), into).is_err() {
+    if append_target(item, into).is_err() {
+        into.truncate(before);
+        return Err(Starved);
+    }
+    if append_anchor(&item.anchor, into).is_err() {
         into.truncate(before);
         return Err(Starved);
     }

@@ -1,5 +1,5 @@
 //! Which links and endpoints meet criteria (RFC 6690 section 4.1, RFC 9176 section 6.2).
-ghost use Rattle.std.specs.Prelude.{◌≡◌, ◌<◌, ◌&&◌, ◌||◌, bytes_eq, length};
+ghost use Rattle.std.specs.Prelude.{◌≡◌, ◌<◌, ◌&&◌, ◌||◌, bytes_eq, codes, length};
 ghost use Rattle.std.specs.List.{list_all, list_any, HoldsAt};
 ghost use Rattle.record_model.specs.Matching as model;
 ghost use Rattle.std.specs.Option.{option_copied};
@@ -12,41 +12,34 @@ use crate::locations::{ROOM, write_location};
 use crate::patterns::{matches_named, matches_value};
 use rd_base::{Criterion, Item, Pair, Query, Record};
 
-/// Whether the criterion matches an attribute of this name and value.
-fn matches_attribute(criterion: &Criterion, name: &[u8], value: &[u8]) -> bool
-    ensures { result ≡ (bytes_eq name.now criterion.now.name && model.matches_named criterion.now.name criterion.now.pattern value.now) }
+/// Whether a criterion of this name and pattern matches an attribute of that name and value.
+#[inline(always)]
+fn matches_attribute(name: &[u8], pattern: &[u8], attribute: &[u8], value: &[u8]) -> bool
+    ensures { result ≡ (bytes_eq attribute.now name.now && model.matches_named name.now pattern.now value.now) }
 {
-    name == criterion.name.as_bytes()
-        && matches_named(
-            criterion.name.as_bytes(),
-            criterion.pattern.as_bytes(),
-            value,
-        )
+    attribute == name && matches_named(name, pattern, value)
 }
 
-/// Whether the criterion matches one of the attributes.
-fn matches_pairs(criterion: &Criterion, pairs: &[Pair]) -> bool
-    ensures { result ≡ model.matches_pairs criterion.now pairs.now }
+/// Whether a criterion of this name and pattern matches one of the attributes.
+fn matches_pairs(name: &[u8], pattern: &[u8], pairs: &[Pair]) -> bool
+    ensures { result ≡ model.matches_pairs (record { name = name.now; pattern = pattern.now }) pairs.now }
 {
-    pairs.iter().any(|pair| matches_attribute(
-        criterion,
-        pair.name.as_bytes(),
-        pair.value.as_bytes(),
-    ))
+    pairs.iter().any(|pair| pair.name.as_bytes() == name
+        && matches_named(name, pattern, pair.value.as_bytes()))
 }
 
-/// Whether the criterion is about targets.
-fn is_href(criterion: &Criterion) -> bool
-    ensures { result ≡ model.is_href criterion.now }
+/// Whether criteria of this name are about targets.
+fn is_href(name: &[u8]) -> bool
+    ensures { result ≡ bytes_eq name.now (codes "href") }
 {
-    criterion.name.as_bytes() == b"href".as_slice()
+    name == b"href".as_slice()
 }
 
-/// Whether the criterion is about anchors.
-fn is_anchor(criterion: &Criterion) -> bool
-    ensures { result ≡ model.is_anchor_criterion criterion.now }
+/// Whether criteria of this name are about anchors.
+fn is_anchor(name: &[u8]) -> bool
+    ensures { result ≡ bytes_eq name.now (codes "anchor") }
 {
-    criterion.name.as_bytes() == b"anchor".as_slice()
+    name == b"anchor".as_slice()
 }
 
 /// Whether the criterion matches the link by itself: `href` by its target, `anchor` by its anchor where it has one,
@@ -55,44 +48,54 @@ fn is_anchor(criterion: &Criterion) -> bool
 pub fn link_matches(criterion: &Criterion, item: &Item) -> bool
     ensures { result ≡ model.link_matches criterion.now item.now }
 {
-    if is_href(criterion) {
-        return matches_value(criterion.pattern.as_bytes(), item.target.as_bytes());
+    let name = criterion.name.as_bytes();
+    let pattern = criterion.pattern.as_bytes();
+    if is_href(name) {
+        return matches_value(pattern, item.target.as_bytes());
     }
-    if is_anchor(criterion) {
+    if is_anchor(name) {
         return match &item.anchor {
-            Some(anchor) => matches_value(criterion.pattern.as_bytes(), anchor.as_bytes()),
+            Some(anchor) => matches_value(pattern, anchor.as_bytes()),
             None => false,
         };
     }
-    matches_pairs(criterion, item.pairs.as_slice())
+    matches_pairs(name, pattern, item.pairs.as_slice())
 }
 
-/// Whether the criterion matches one of the attributes that each endpoint has: its base, its name, its sector where it
-/// has one, and its type.
-fn matches_own(criterion: &Criterion, record_of: &Record) -> bool
-    ensures { result ≡ model.matches_pairs criterion.now (listing_model.own_pairs record_of.now) }
+/// Whether a criterion of this name and pattern matches the type that each endpoint has.
+#[tactic(auto, using(crate::proofs::EndpointLaws::is_of_type))]
+fn matches_type(name: &[u8], pattern: &[u8]) -> bool
+    ensures { result ≡ (bytes_eq (codes "rt") name.now && model.matches_named name.now pattern.now model.endpoint_type) }
 {
-    if matches_attribute(criterion, b"base", record_of.base.as_bytes()) {
+    name == b"rt".as_slice() && matches_value(pattern, b"core.rd-ep")
+}
+
+/// Whether a criterion of this name and pattern matches one of the attributes that each endpoint has: its base, its
+/// name, its sector where it has one, and its type.
+fn matches_own(name: &[u8], pattern: &[u8], record_of: &Record) -> bool
+    ensures { result ≡ model.matches_pairs (record { name = name.now; pattern = pattern.now }) (listing_model.own_pairs record_of.now) }
+{
+    if matches_attribute(name, pattern, b"base", record_of.base.as_bytes()) {
         return true;
     }
-    if matches_attribute(criterion, b"ep", record_of.name.ep.as_bytes()) {
+    if matches_attribute(name, pattern, b"ep", record_of.name.ep.as_bytes()) {
         return true;
     }
     if let Some(sector) = &record_of.name.sector {
-        if matches_attribute(criterion, b"d", sector.as_bytes()) {
+        if matches_attribute(name, pattern, b"d", sector.as_bytes()) {
             return true;
         }
     }
-    matches_attribute(criterion, b"rt", b"core.rd-ep")
+    matches_type(name, pattern)
 }
 
-/// Whether the criterion matches the location of the registration.
-fn matches_location(criterion: &Criterion, number: u64) -> bool
-    ensures { result ≡ model.matches_value criterion.now.pattern (model.location number) }
+/// Whether the pattern matches the location of the registration.
+fn matches_location(pattern: &[u8], number: u64) -> bool
+    ensures { result ≡ model.matches_value pattern.now (model.location number) }
 {
     let mut octets = [0; ROOM];
     let start = write_location(number, &mut octets);
-    matches_value(criterion.pattern.as_bytes(), &octets[start..])
+    matches_value(pattern, &octets[start..])
 }
 
 /// Whether the criterion matches the endpoint by itself: `href` by its location, and any other name by its base, its
@@ -101,13 +104,15 @@ fn matches_location(criterion: &Criterion, number: u64) -> bool
 pub fn endpoint_matches(criterion: &Criterion, record_of: &Record) -> bool
     ensures { result ≡ model.endpoint_matches criterion.now record_of.now }
 {
-    if is_href(criterion) {
-        return matches_location(criterion, record_of.number);
+    let name = criterion.name.as_bytes();
+    let pattern = criterion.pattern.as_bytes();
+    if is_href(name) {
+        return matches_location(pattern, record_of.number);
     }
-    if matches_own(criterion, record_of) {
+    if matches_own(name, pattern, record_of) {
         return true;
     }
-    matches_pairs(criterion, record_of.attrs.as_slice())
+    matches_pairs(name, pattern, record_of.attrs.as_slice())
 }
 
 /// Whether each criterion matches the link by itself or its endpoint by itself, where the first answers tell of the

@@ -1,5 +1,5 @@
 //! Patterns against values (RFC 6690 section 4.1).
-ghost use Rattle.std.specs.Prelude.{◌≡◌, ◌<◌, ◌&&◌, ◌==◌, not, length, position, IfSome, Some};
+ghost use Rattle.std.specs.Prelude.{◌≡◌, ◌<◌, ◌&&◌, ◌==◌, false, not, bytes_eq, length, position, IfSome, IsTrue, Some};
 ghost use Rattle.std.specs.Option.{option_copied};
 ghost use Rattle.std.specs.List.{list_any, slice_split};
 ghost use Rattle.record_model.specs.Options.{is_among};
@@ -19,6 +19,29 @@ fn before_wildcard(pattern: &[u8]) -> Option<&[u8]>
     Some(front)
 }
 
+/// Whether the texts end in different octets, which tells at once most values of one length apart.
+fn ends_otherwise(value: &[u8], pattern: &[u8]) -> bool
+    ensures { IsTrue result → bytes_eq value.now pattern.now ≡ false }
+{
+    let Some((last, _)) = value.split_last() else {
+        return false;
+    };
+    let Some((other, _)) = pattern.split_last() else {
+        return false;
+    };
+    *last != *other
+}
+
+/// Whether both texts are equal.
+fn are_equal(value: &[u8], pattern: &[u8]) -> bool
+    ensures { result ≡ bytes_eq value.now pattern.now }
+{
+    if ends_otherwise(value, pattern) {
+        return false;
+    }
+    value == pattern
+}
+
 /// Whether the pattern matches the value: one that ends with an asterisk a value that begins with the rest of it, and
 /// any other the equal value.
 #[tactic(auto, unfolding(record_model::specs::Matching::matches_value))]
@@ -27,7 +50,7 @@ pub fn matches_value(pattern: &[u8], value: &[u8]) -> bool
 {
     match before_wildcard(pattern) {
         Some(front) => value.starts_with(front),
-        None => value == pattern,
+        None => are_equal(value, pattern),
     }
 }
 

@@ -8,7 +8,7 @@ ghost use Rattle.listing.specs.Pieces.{octets_of_pieces, own_line};
 use rd_base::{Item, Pair, Record};
 
 /// How many pieces each part of a line is cut into; those that are left over are empty.
-pub const PIECES: usize = 11;
+pub const PIECES: usize = 9;
 
 /// A piece of a line.
 #[derive(Clone, Copy)]
@@ -46,8 +46,6 @@ pub fn link_pieces<'a>(item: &'a Item) -> [Piece<'a>; PIECES]
             Piece::Plain(b"\""),
             none,
             none,
-            none,
-            none,
         ];
     }
     [
@@ -55,8 +53,6 @@ pub fn link_pieces<'a>(item: &'a Item) -> [Piece<'a>; PIECES]
         target,
         Piece::Plain(b">"),
         raw,
-        none,
-        none,
         none,
         none,
         none,
@@ -85,8 +81,6 @@ pub fn endpoint_pieces<'a>(record_of: &'a Record, location: &'a [u8]) -> [Piece<
             Piece::Plain(b"\";d=\""),
             sector,
             Piece::Plain(b"\";rt=\"core.rd-ep\""),
-            none,
-            none,
         ];
     }
     [
@@ -97,8 +91,6 @@ pub fn endpoint_pieces<'a>(record_of: &'a Record, location: &'a [u8]) -> [Piece<
         Piece::Plain(b"\";ep=\""),
         ep,
         Piece::Plain(b"\";rt=\"core.rd-ep\""),
-        none,
-        none,
         none,
         none,
     ]
@@ -122,8 +114,6 @@ pub fn attribute_pieces<'a>(pair: &'a Pair) -> [Piece<'a>; PIECES]
             none,
             none,
             none,
-            none,
-            none,
         ];
     }
     let value = Piece::Escaped(pair.value.as_bytes());
@@ -133,8 +123,6 @@ pub fn attribute_pieces<'a>(pair: &'a Pair) -> [Piece<'a>; PIECES]
         Piece::Plain(b"=\""),
         value,
         Piece::Plain(b"\""),
-        none,
-        none,
         none,
         none,
         none,

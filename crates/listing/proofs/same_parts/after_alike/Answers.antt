@@ -1,4 +1,4 @@
-use Rattle.std.proofs.Common.{◌≡◌, refl}
+use Rattle.std.proofs.Common.{refl}
 use Rattle.listing.proofs.AlikeLaws.{AreLeftAlike-more}
 use Rattle.listing.proofs.same_parts.after_alike.Goals as goal
 

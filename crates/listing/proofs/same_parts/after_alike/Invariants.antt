@@ -1,4 +1,4 @@
-use Rattle.std.proofs.Common.{◌≡◌, true, length}
+use Rattle.std.proofs.Common.{true, length}
 use Rattle.listing.specs.AlikeLinks.{AreLeftAlike}
 use Rattle.listing.proofs.same_parts.after_alike.Given as goal
 

@@ -1,5 +1,4 @@
-use Rattle.std.proofs.Common.{◌≡◌, ◌≤◌, List, Bool, length, subst, sym, ◌∙◌, arith}
-use Rattle.rd_base.specs.declared.records.Record.{Record}
+use Rattle.std.proofs.Common.{List, Bool, subst, sym, ◌∙◌, arith}
 use Rattle.listing.specs.JudgedEndpoints.{AreJudged}
 use Rattle.listing.proofs.AlikeLaws.{answers_same, judged_alike}
 use Rattle.listing.proofs.same_parts.are_judged_alike.Goals as goal

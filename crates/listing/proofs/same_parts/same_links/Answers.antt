@@ -1,14 +1,9 @@
-use Rattle.std.proofs.Common.{◌≡◌, Bool, true, false, ◌&&◌, List, [], ◌∷◌, length, bytes_eq, Option, Some, None, refl, sym, ap, ap₂, subst, ◌∙◌, is_none, arith}
-use denote.Ref.{Bor}
+use Rattle.std.proofs.Common.{◌≡◌, true, List, Some, sym, subst, ◌∙◌}
 use Rattle.rd_base.specs.declared.queries.Criterion.{Criterion}
-use Rattle.rd_base.specs.declared.queries.Query.{Query}
-use Rattle.rd_base.specs.declared.records.Item.{Item}
-use Rattle.rd_base.specs.declared.records.Record.{Record}
 use Rattle.record_model.specs.ListingLines.{same_lines, link_line}
 use Rattle.listing.specs.AlikeLinks.{AreJudgedAlike}
 use Rattle.listing.specs.JudgedEndpoints.{AreJudged}
 use Rattle.listing.specs.ListedLinks.{listed_lines}
-use Rattle.listing.specs.Views.{FirstListed}
 use Rattle.listing.proofs.AlikeLaws.{lines_end, line_missing, line_differs, line_same}
 use Rattle.listing.proofs.same_parts.same_links.Goals as goal
 
