@@ -1,7 +1,5 @@
 //! Versions of the index of attributes.
 ghost use Rattle.std.specs.Prelude.{◌≡◌, ◌||◌, ◌&&◌, not, [], IfOk};
-ghost use Rattle.std.specs.Option.{option_copied};
-ghost use Rattle.record_model.specs.Matching as model;
 ghost use Rattle.attribute_index.specs.Rows as spec;
 ghost use Rattle.attribute_index.specs.Entries.{Entry, IsAscending, has_entry, entries_of, carriers_of};
 
@@ -9,6 +7,7 @@ use crate::Carriers;
 use crate::rows::{Edit, Rows, edited};
 use crate::values::Value;
 use chunk_map::ChunkMap;
+use listing::before_wildcard;
 use rd_base::{Bytes, Pair, Starved};
 use std::alloc::Global;
 use std::marker::Model;
@@ -34,18 +33,6 @@ impl Model for AttributeIndex {
     ghost view = { λ a. entries_of_rows a.rows };
 
     ghost invariant = { λ a. sorted.IsAscending value_cmp a.rows × AreRows a.rows };
-}
-
-/// What stands before an asterisk that ends the pattern, where one does.
-#[tactic(auto, using(listing::proofs::PatternLaws::before_wildcard_last))]
-fn before_wildcard(pattern: &[u8]) -> Option<&[u8]>
-    ensures { option_copied result ≡ model.before_wildcard pattern.now }
-{
-    let (last, front) = pattern.split_last()?;
-    if *last != b'*' {
-        return None;
-    }
-    Some(front)
 }
 
 /// Where the values begin that a pattern of a name matches: at what stands before its wildcard, or at the pattern.

@@ -1,7 +1,5 @@
 -- What a pattern matches, by its last octet, and the parts of a value.
-use Rattle.std.proofs.Common.{◌≡◌, ℕ, Bool, true, false, ◌&&◌, ◌||◌, List, [], ◌∷◌, ◌++◌, filter, Some, None, option_map, bytes_eq, nat_eq, refl, sym, ap, ◌∙◌, not, cond}
-use Rattle.std.proofs.lemmas.Bool.{false≢true, false_from_ne_true, eq-eqb}
-use Rattle.std.proofs.lemmas.Slice.Eq.{bytes_eq-Decides}
+use Rattle.std.proofs.Common.{◌≡◌, ℕ, Bool, true, false, ◌&&◌, ◌||◌, List, [], ◌∷◌, ◌++◌, filter, Some, None, option_map, nat_eq, refl, sym, ◌∙◌, not, cond}
 use Rattle.std.specs.List.{list_any, slice_split}
 use Rattle.link_model.specs.Characters.{asterisk, is_empty}
 use Rattle.record_model.specs.Options.{is_among}
@@ -30,25 +28,3 @@ pub is_named_part : (name pattern value : List ℕ) (answer : Bool) → is_among
     → answer ≡ matches_named name pattern value
 unfolding matches_named
 is_named_part name pattern value answer listed e = rw listed (e ∙ list_parts (matches_value pattern) value)
-
--- the last octet of a text, or another where there is none
-last_or : ℕ → List ℕ → ℕ
-last_or c [] = c
-last_or c (d ∷ ds) = last_or d ds
-
-last_or-last : (c : ℕ) (front : List ℕ) (last : ℕ) → last_or c (front ++ last ∷ []) ≡ last
-unfolding last_or
-last_or-last c [] last = refl
-last_or-last c (d ∷ ds) last = last_or-last d ds last
-
--- texts that end in different octets differ
-pub ends_differ : (value pattern front more : List ℕ) (last other : ℕ) → value ≡ front ++ last ∷ [] → pattern ≡ more ++ other ∷ [] → nat_eq last other ≡ false → bytes_eq value pattern ≡ false
-ends_differ value pattern front more last other e f differ =
-    false_from_ne_true _ (λ h.
-    let same : last ≡ other = sym (last_or-last 0 front last) ∙ ap (last_or 0) (sym e ∙ (bytes_eq-Decides value pattern).0 h ∙ f) ∙ last_or-last 0 more other in
-    false≢true (sym differ ∙ eq-eqb last other same))
-
--- a test of which the opposite holds fails
-pub differs : (same : Bool) → not same ≡ true → same ≡ false
-differs true h = sym h
-differs false h = refl

@@ -14,7 +14,7 @@ mod same_parts;
 pub use criteria::{endpoint_listed, endpoint_matches, link_matches, matches};
 pub use own_links::{discovery, page_bounds};
 pub use parts::lines;
-pub use patterns::{first_part, is_list_name, matches_named, matches_value};
+pub use patterns::{before_wildcard, first_part, is_list_name, matches_named, matches_value};
 pub use same_parts::same_part;
 
 #[cfg(test)]

@@ -1,5 +1,5 @@
 //! Patterns against values (RFC 6690 section 4.1).
-ghost use Rattle.std.specs.Prelude.{◌≡◌, ◌<◌, ◌&&◌, ◌==◌, false, not, bytes_eq, length, position, IfSome, IsTrue, Some};
+ghost use Rattle.std.specs.Prelude.{◌≡◌, ◌<◌, ◌&&◌, ◌==◌, not, length, position, IfSome, Some};
 ghost use Rattle.std.specs.Option.{option_copied};
 ghost use Rattle.std.specs.List.{list_any, slice_split};
 ghost use Rattle.record_model.specs.Options.{is_among};
@@ -7,9 +7,9 @@ ghost use Rattle.record_model.specs.Matching as model;
 ghost use Rattle.link_model.specs.Characters.{is_empty};
 ghost use Rattle.listing.specs.ValueParts.{FirstPart, HasFirst};
 
-/// What stands before an asterisk that ends the pattern, where one does.
+/// What stands before an asterisk that ends the pattern, where one does (RFC 6690 section 4.1).
 #[tactic(auto, using(crate::proofs::PatternLaws::before_wildcard_last))]
-fn before_wildcard(pattern: &[u8]) -> Option<&[u8]>
+pub fn before_wildcard(pattern: &[u8]) -> Option<&[u8]>
     ensures { option_copied result ≡ model.before_wildcard pattern.now }
 {
     let (last, front) = pattern.split_last()?;
@@ -17,29 +17,6 @@ fn before_wildcard(pattern: &[u8]) -> Option<&[u8]>
         return None;
     }
     Some(front)
-}
-
-/// Whether the texts end in different octets, which tells at once most values of one length apart.
-fn ends_otherwise(value: &[u8], pattern: &[u8]) -> bool
-    ensures { IsTrue result → bytes_eq value.now pattern.now ≡ false }
-{
-    let Some((last, _)) = value.split_last() else {
-        return false;
-    };
-    let Some((other, _)) = pattern.split_last() else {
-        return false;
-    };
-    *last != *other
-}
-
-/// Whether both texts are equal.
-fn are_equal(value: &[u8], pattern: &[u8]) -> bool
-    ensures { result ≡ bytes_eq value.now pattern.now }
-{
-    if ends_otherwise(value, pattern) {
-        return false;
-    }
-    value == pattern
 }
 
 /// Whether the pattern matches the value: one that ends with an asterisk a value that begins with the rest of it, and
@@ -50,7 +27,7 @@ pub fn matches_value(pattern: &[u8], value: &[u8]) -> bool
 {
     match before_wildcard(pattern) {
         Some(front) => value.starts_with(front),
-        None => are_equal(value, pattern),
+        None => value == pattern,
     }
 }
 
