@@ -14,8 +14,8 @@ use Rattle.registration.specs.Drafts.{IsDraft, recorded}
 use Rattle.history_model.specs.declared.entries.Entry.{Entry}
 use Rattle.history_model.specs.Leases.{is_live_at, live_among}
 use Rattle.history_model.specs.Refusals.{max_registrations, text_of, is_full_of_records, change_refusal}
-use Rattle.history_model.specs.Replay.{is_live_named, number_named, number_for, numbered, replay}
-use Rattle.history_model.specs.Versions.{Version, state_of, VersionStandsFor}
+use Rattle.history_model.specs.Replay.{is_live_named, number_for, numbered, replay}
+use Rattle.history_model.specs.Versions.{Version, VersionStandsFor}
 use Rattle.history_model.proofs.VersionLaws.{number_for-VersionStandsFor}
 use Rattle.lease_queue.specs.declared.leases.Lease.{Lease}
 use Rattle.directory_core.specs.declared.names.NameSlot.{NameSlot}

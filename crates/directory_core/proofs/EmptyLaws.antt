@@ -1,5 +1,5 @@
 -- The version without a record.
-use Rattle.std.proofs.Common.{◌≡◌, ℕ, ◌^◌, ◌<◌, ◌≤◌, List, [], refl, sym, ap, ◌∙◌, subst, arith}
+use Rattle.std.proofs.Common.{◌≡◌, ℕ, ◌^◌, ◌<◌, List, [], refl, sym, ◌∙◌, subst, arith}
 use Rattle.rd_base.specs.declared.records.Record.{Record}
 use Rattle.history_model.specs.Versions.{Version}
 use Rattle.lease_queue.specs.declared.leases.Lease.{Lease}

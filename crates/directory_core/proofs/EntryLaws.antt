@@ -1,37 +1,23 @@
 -- An entry more: what a version answers of it, of each history that it stands for.
-use Rattle.std.proofs.Common.{◌≡◌, ℕ, ◌+◌, ◌*◌, ◌^◌, ◌<◌, ◌≤◌, Bool, true, false, not, ◌&&◌, cond, List, [], ◌∷◌, ◌++◌, map, filter, find, length, length-append, Option, Some, None, Result, Ok, Err, option_map, unwrap_or, nat_lt, nat_le, refl, sym, ap, ap₂, ◌∙◌, subst, arith, eqb-true, ltb-true, lt-ltb}
-use Rattle.std.specs.List.{AllByRecursion, list_any, list_all}
-use Rattle.std.proofs.lemmas.Bool.{true≢false, false≢true, and_parts, and_from, not-false, ltb-false, leb-true, leb-false, lt-leb}
+use Rattle.std.proofs.Common.{◌≡◌, ℕ, ◌+◌, ◌<◌, ◌≤◌, true, false, cond, List, [], ◌∷◌, ◌++◌, filter, length, length-append, Some, None, Result, Ok, Err, nat_lt, nat_le, refl, sym, ap, ap₂, ◌∙◌, subst, arith, ltb-true}
+use Rattle.std.specs.List.{AllByRecursion}
+use Rattle.std.proofs.lemmas.Bool.{lt-leb}
 use Rattle.std.proofs.lemmas.Bool.Decides.{nat_tests}
-use Rattle.rd_base.specs.declared.moments.Moment.{Moment}
-use Rattle.rd_base.specs.declared.parameters.RegParams.{RegParams}
-use Rattle.rd_base.specs.declared.parameters.UpdateParams.{UpdateParams}
-use Rattle.rd_base.specs.declared.peers.Peer.{Peer}
-use Rattle.rd_base.specs.declared.records.Name.{Name}
 use Rattle.rd_base.specs.declared.records.Record.{Record}
-use Rattle.rd_base.specs.declared.submitted_links.SubmittedLink.{SubmittedLink}
-use Rattle.rd_base.proofs.lemmas.Each.{each_weaker, each_filter, each_passes}
-use Rattle.rd_base.proofs.lemmas.Filters.{filter_all}
-use Rattle.rd_base.proofs.lemmas.Pairs.{PairsByRecursion}
-use Rattle.record_model.specs.Records.{registered, updated}
-use Rattle.registration.specs.declared.drafts.Draft.{Draft}
-use Rattle.registration.specs.Drafts.{drafted, recorded}
+use Rattle.rd_base.proofs.lemmas.Each.{each_weaker, each_passes}
 use Rattle.registration.specs.Weights.{capped}
-use Rattle.history_model.specs.declared.entries.Change.{Change}
-use Rattle.history_model.specs.declared.entries.Change.TheVariants as change
 use Rattle.history_model.specs.declared.entries.Entry.{Entry}
 use Rattle.history_model.specs.declared.refusals.Refusal.TheVariants as cause
 use Rattle.history_model.specs.Leases.{lapse, is_live_at, live_among}
 use Rattle.history_model.specs.Legal.{IsLasting}
 use Rattle.history_model.specs.Listing.{lapsed_since}
-use Rattle.history_model.specs.Live.{live, last_moment}
-use Rattle.history_model.specs.Names.{is_same_name}
-use Rattle.history_model.specs.Refusals.{max_registrations, max_text, max_entries, has_number, has_name, text_of, is_gone, is_full_of_records, is_full_of_text, only_live, text_after, refusal_in, change_refusal}
-use Rattle.history_model.specs.Replay.{State, is_numbered, is_live_named, number_named, number_about, numbered, with_changed, registered_under, changed, apply, replay}
+use Rattle.history_model.specs.Live.{live}
+use Rattle.history_model.specs.Refusals.{max_registrations, max_text, max_entries, text_of, is_gone, is_full_of_records, is_full_of_text, only_live, text_after, refusal_in, change_refusal}
+use Rattle.history_model.specs.Replay.{State, number_about, apply, replay}
 use Rattle.history_model.specs.Versions.{Version, state_of, VersionStandsFor}
-use Rattle.history_model.proofs.Acceptance.{Accepted, accepted}
+use Rattle.history_model.proofs.Acceptance.{accepted}
 use Rattle.history_model.proofs.NameLaws.{IsGrantedBy}
-use Rattle.history_model.proofs.NumberLaws.{IsBelow, HasRisingNumbers, replay-HasRisingNumbers}
+use Rattle.history_model.proofs.NumberLaws.{HasRisingNumbers, replay-HasRisingNumbers}
 use Rattle.history_model.proofs.ReplayLaws.{replay_push, last_moment_push}
 use Rattle.history_model.proofs.SweepLaws.{live_among_live, only_live-apply}
 use Rattle.history_model.proofs.VersionLaws.{with_entry, apply-only_live, state_of-VersionStandsFor, change_refusal-VersionStandsFor, live-VersionStandsFor}
@@ -39,8 +25,7 @@ use Rattle.lease_queue.specs.declared.leases.Lease.{Lease}
 use Rattle.directory_core.specs.declared.names.NameSlot.{NameSlot}
 use Rattle.directory_core.specs.declared.refusals.Refusal.{Refusal}
 use Rattle.directory_core.specs.declared.refusals.Refusal.TheVariants as answer
-use Rattle.directory_core.specs.AfterEntries.{renewed, without, after_entry, IsMadeWithRoom}
-use Rattle.directory_core.specs.Answers.{IsRefusalOf}
+use Rattle.directory_core.specs.AfterEntries.{IsMadeWithRoom}
 use Rattle.directory_core.specs.EntryAnswers.{AnswersEntry}
 use Rattle.directory_core.specs.Shown.{IsStored, IsKept}
 use Rattle.directory_core.proofs.KeptLaws.{kept-HasRisingNumbers, live_few}

@@ -1,10 +1,10 @@
 -- What a registration, an update and a removal weigh and make of a version.
-use Rattle.std.proofs.Common.{◌≡◌, ℕ, ◌+◌, ◌<◌, ◌≤◌, Bool, true, false, not, ◌&&◌, ◌||◌, cond, List, [], ◌∷◌, ◌++◌, map, filter, find, length, Option, Some, None, option_map, unwrap_or, nat_lt, nat_le, refl, sym, ap, ap₂, ◌∙◌, subst, arith, eqb-true}
+use Rattle.std.proofs.Common.{◌≡◌, ℕ, ◌+◌, ◌<◌, Bool, true, false, not, ◌&&◌, ◌||◌, cond, List, [], ◌∷◌, ◌++◌, find, length, Option, Some, None, option_map, nat_lt, nat_le, refl, sym, ap, ap₂, ◌∙◌, subst, arith}
 use denote.Ref.{Bor}
 use Rattle.std.specs.Prelude.{IfSome}
 use Rattle.std.specs.Option.{option_copied}
 use Rattle.std.specs.List.{AllByRecursion, list_any}
-use Rattle.std.proofs.lemmas.Bool.{true≢false, false≢true, and_parts, and_from}
+use Rattle.std.proofs.lemmas.Bool.{true≢false, false≢true, and_parts}
 use Rattle.std.proofs.lemmas.Bool.Decides.{nat_tests}
 use Rattle.rd_base.specs.declared.moments.Moment.{Moment}
 use Rattle.rd_base.specs.declared.parameters.RegParams.{RegParams}
@@ -13,8 +13,6 @@ use Rattle.rd_base.specs.declared.peers.Peer.{Peer}
 use Rattle.rd_base.specs.declared.records.Name.{Name}
 use Rattle.rd_base.specs.declared.records.Record.{Record}
 use Rattle.rd_base.specs.declared.submitted_links.SubmittedLink.{SubmittedLink}
-use Rattle.rd_base.proofs.lemmas.Each.{each_weaker, each_passes}
-use Rattle.rd_base.proofs.lemmas.Filters.{filter_all, find-filter}
 use Rattle.rd_base.proofs.lemmas.Among.{find_passes}
 use Rattle.rd_base.proofs.lemmas.Pairs.{PairsByRecursion, pairs_filter}
 use Rattle.record_model.specs.AllowedParameters.{IsAllowedLifetime, IsAllowedChange}
@@ -26,7 +24,6 @@ use Rattle.history_model.specs.declared.entries.Change.{Change}
 use Rattle.history_model.specs.declared.entries.Change.TheVariants as change
 use Rattle.history_model.specs.declared.entries.Entry.{Entry}
 use Rattle.history_model.specs.Leases.{is_live_at, live_among}
-use Rattle.history_model.specs.Legal.{IsLasting}
 use Rattle.history_model.specs.Names.{is_same_name}
 use Rattle.history_model.specs.Refusals.{max_registrations, max_text, has_number, has_name, text_of, is_gone, is_full_of_records, is_full_of_text, only_live, text_after}
 use Rattle.history_model.specs.Replay.{State, is_numbered, is_live_named, number_named, number_about, numbered, with_changed, registered_under, apply}
@@ -34,7 +31,6 @@ use Rattle.history_model.specs.Versions.{Version, state_of}
 use Rattle.history_model.proofs.Acceptance.{is_same_name-Decides}
 use Rattle.history_model.proofs.NumberLaws.{IsBelow}
 use Rattle.history_model.proofs.SweepLaws.{number_named-live}
-use Rattle.history_model.proofs.VersionLaws.{with_entry}
 use Rattle.directory_core.specs.AfterEntries.{renewed, without, after_entry, IsSound}
 use Rattle.directory_core.specs.Changes.{IsRegistrationOf, IsUpdateOf, IsRemovalOf}
 use Rattle.directory_core.proofs.ChangeLaws.{only_one, its_number, changed_known, numbered-filter}

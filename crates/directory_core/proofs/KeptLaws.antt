@@ -1,21 +1,20 @@
 -- What a version keeps beside its records still fits them after a change.
-use Rattle.std.proofs.Common.{◌≡◌, ℕ, ◌+◌, ◌-◌, ◌*◌, ◌^◌, ◌<◌, ◌≤◌, ◌==◌, max, Bool, true, false, not, cond, List, [], ◌∷◌, ◌++◌, map, filter, length, length-append, sum_by, Option, Some, None, refl, sym, ap, ◌∙◌, subst, arith, eqb-true, ltb-true, lt-ltb}
+use Rattle.std.proofs.Common.{◌≡◌, ℕ, ◌+◌, ◌*◌, ◌^◌, ◌<◌, ◌≤◌, max, Bool, true, false, not, cond, List, [], ◌∷◌, ◌++◌, map, filter, length, length-append, Some, refl, sym, ap, ◌∙◌, subst, arith, eqb-true, lt-ltb}
 use Rattle.std.specs.List.{AllByRecursion, list_all}
 use Rattle.std.proofs.lemmas.Bool.{true≢false}
 use Rattle.std.proofs.lemmas.Bool.Decides.{nat_tests}
 use Rattle.std.proofs.lemmas.List.{length-map}
 use Rattle.std.proofs.lemmas.List.Elements.{filter-append}
-use Rattle.std.proofs.lemmas.List.Sums.{sum_by_push}
 use Rattle.rd_base.specs.declared.records.Record.{Record}
-use Rattle.rd_base.proofs.lemmas.Each.{each_weaker, each_both, each_map, each_filter, each_push, each_one, each_passes}
-use Rattle.rd_base.proofs.lemmas.Filters.{filter_all, filter_swapped, length-filter-le}
+use Rattle.rd_base.proofs.lemmas.Each.{each_weaker, each_map, each_filter, each_push, each_passes}
+use Rattle.rd_base.proofs.lemmas.Filters.{filter_swapped}
 use Rattle.rd_base.proofs.lemmas.Pairs.{PairsByRecursion, pairs_filter, pairs_push}
 use Rattle.record_model.specs.ListingLines.{weight}
 use Rattle.record_model.specs.Parameters.{is_base}
 use Rattle.registration.specs.Drafts.{has_references}
 use Rattle.history_model.specs.Leases.{lapse, is_live_at, live_among}
 use Rattle.history_model.specs.Refusals.{max_registrations, max_text, max_entries, text_of}
-use Rattle.history_model.specs.Replay.{is_numbered, numbered, with_changed}
+use Rattle.history_model.specs.Replay.{is_numbered, numbered}
 use Rattle.history_model.specs.Versions.{Version, state_of}
 use Rattle.history_model.proofs.NumberLaws.{IsBelow, HasRisingNumbers}
 use Rattle.lease_queue.specs.declared.leases.Lease.{Lease}
@@ -25,7 +24,7 @@ use Rattle.directory_core.specs.AfterEntries.{renewed, without, after_entry}
 use Rattle.directory_core.specs.LapseOrder.{in_order_of, in_order_of_lapse}
 use Rattle.directory_core.specs.NameSlots.{hash_of, slot_of, slots_of, with_slot, without_slot}
 use Rattle.directory_core.specs.Shown.{counted_at, IsStored, IsKept, lease_of, leases_of}
-use Rattle.directory_core.proofs.InOrderLaws.{DifferFrom, IsOrdered, each_in_order, in_order-IsOrdered, differ_in_order, filter_in_order}
+use Rattle.directory_core.proofs.InOrderLaws.{DifferFrom, each_in_order, in_order-IsOrdered, differ_in_order, filter_in_order}
 use Rattle.directory_core.proofs.SlotLaws.{key, below_differ, with_slot-placed, without_slot-filter}
 use Rattle.directory_core.proofs.LeaseLaws.{with_lease-placed, without_lease-filter}
 use Rattle.directory_core.proofs.CountLaws.{fewer_live, less_text}

@@ -1,5 +1,5 @@
 -- Which records lapse, by the numbers of the leases that have lapsed.
-use Rattle.std.proofs.Common.{◌≡◌, ℕ, nat_lt, nat_le, ◌&&◌, Bool, true, false, cond, List, [], ◌∷◌, map, filter, Option, Some, None, refl, sym, ap, ◌∙◌}
+use Rattle.std.proofs.Common.{◌≡◌, ℕ, nat_lt, nat_le, ◌&&◌, Bool, true, false, cond, List, [], ◌∷◌, map, filter, Some, None, refl, ap, ◌∙◌}
 use Rattle.std.specs.List.{AllByRecursion, list_any}
 use Rattle.rd_base.specs.declared.records.Record.{Record}
 use Rattle.rd_base.proofs.lemmas.Each.{each_filter}
@@ -8,7 +8,7 @@ use Rattle.history_model.specs.Leases.{lapse, lapsing_among}
 use Rattle.history_model.specs.Replay.{numbered}
 use Rattle.history_model.proofs.NumberLaws.{IsBelow}
 use Rattle.lease_queue.specs.Leases.{lapsed_at}
-use Rattle.directory_core.specs.LapseOrder.{in_order_of, in_order_of_lapse}
+use Rattle.directory_core.specs.LapseOrder.{in_order_of_lapse}
 use Rattle.directory_core.specs.Lapsing.{with_lapsing, lapsing_left}
 use Rattle.directory_core.specs.Shown.{leases_of}
 use Rattle.directory_core.proofs.InOrderLaws.{each_in_order, filter_in_order, any_in_order}

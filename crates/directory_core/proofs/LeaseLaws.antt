@@ -1,7 +1,6 @@
 -- The leases of records: where one is put and taken, and what has lapsed of them.
-use Rattle.std.proofs.Common.{◌≡◌, ℕ, ◌==◌, ◌&&◌, ◌||◌, nat_lt, nat_le, Bool, true, false, not, cond, List, [], ◌∷◌, ◌++◌, map, filter, refl, sym, ap, ◌∙◌, subst, arith, eqb-true, ne_eqb}
+use Rattle.std.proofs.Common.{◌≡◌, ℕ, ◌==◌, ◌&&◌, nat_lt, nat_le, Bool, true, false, not, cond, List, [], ◌∷◌, map, filter, refl, ap, ◌∙◌, arith, eqb-true}
 use Rattle.std.specs.List.{AllByRecursion}
-use Rattle.std.proofs.lemmas.Bool.{true≢false}
 use Rattle.std.proofs.lemmas.Bool.Decides.{nat_tests}
 use Rattle.rd_base.specs.declared.records.Record.{Record}
 use Rattle.rd_base.proofs.lemmas.Each.{each_weaker, each_map}
@@ -11,9 +10,9 @@ use Rattle.history_model.specs.Leases.{lapse, is_live_at, live_among}
 use Rattle.history_model.specs.Replay.{is_numbered}
 use Rattle.history_model.proofs.NumberLaws.{IsBelow}
 use Rattle.lease_queue.specs.declared.leases.Lease.{Lease}
-use Rattle.lease_queue.specs.Leases.{is_before, is_same, earlier, later, with_lease, without_lease, lapsed_at, unlapsed_at}
+use Rattle.lease_queue.specs.Leases.{is_before, is_same, with_lease, without_lease, lapsed_at, unlapsed_at}
 use Rattle.lease_queue.proofs.OrderLaws.{not_before_back, before_trans}
-use Rattle.directory_core.specs.LapseOrder.{stands_before, placed, in_order_of, in_order_of_lapse}
+use Rattle.directory_core.specs.LapseOrder.{stands_before, placed, in_order_of_lapse}
 use Rattle.directory_core.specs.Shown.{lease_of, leases_of}
 use Rattle.directory_core.proofs.InOrderLaws.{DifferFrom, IsOrdered, filter_in_order, before_or_after}
 use Rattle.directory_core.proofs.SlotLaws.{below_differ}

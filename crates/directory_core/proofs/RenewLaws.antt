@@ -1,6 +1,5 @@
 -- One record made anew, one more, or one less: from what each call says, to what is kept and what is answered.
-use Rattle.std.proofs.Common.{◌≡◌, ℕ, ◌+◌, ◌-◌, ◌*◌, ◌^◌, ◌<◌, ◌≤◌, true, List, [], ◌∷◌, ◌++◌, length, sum_by, Option, Some, None, Result, Ok, Err, refl, sym, ap, ap₂, ◌∙◌, subst, arith}
-use Rattle.std.specs.List.{AllByRecursion, list_all}
+use Rattle.std.proofs.Common.{◌≡◌, ℕ, ◌+◌, ◌-◌, ◌^◌, ◌<◌, ◌≤◌, true, List, [], ◌∷◌, ◌++◌, length, Some, Result, Err, refl, sym, ap, ap₂, ◌∙◌, subst, arith}
 use Rattle.std.proofs.lemmas.List.Sums.{sum_by_push}
 use Rattle.rd_base.specs.declared.moments.Moment.{Moment}
 use Rattle.rd_base.specs.declared.records.Record.{Record}
@@ -9,7 +8,6 @@ use Rattle.rd_base.proofs.lemmas.Pairs.{PairsByRecursion, pairs_filter}
 use Rattle.record_model.specs.ListingLines.{weight}
 use Rattle.registration.specs.declared.drafts.Draft.{Draft}
 use Rattle.registration.specs.Drafts.{recorded}
-use Rattle.registration.specs.Weights.{capped}
 use Rattle.history_model.specs.Leases.{lapse, is_live_at, live_among}
 use Rattle.history_model.specs.Refusals.{max_registrations, max_text, max_entries, text_of}
 use Rattle.history_model.specs.Replay.{numbered}
@@ -26,7 +24,7 @@ use Rattle.directory_core.specs.LiveCounts.{counts_of}
 use Rattle.directory_core.specs.NameSlots.{hash_of, slot_of, with_slot, without_slot}
 use Rattle.directory_core.specs.NumberOrder.{with_record}
 use Rattle.directory_core.specs.Shown.{IsStored, IsKept, lease_of}
-use Rattle.directory_core.proofs.KeptLaws.{IsMade, kept_renewed, kept_appended, kept_without, live_few, live_light}
+use Rattle.directory_core.proofs.KeptLaws.{IsMade, kept_renewed, kept_appended, kept_without}
 use Rattle.directory_core.proofs.ChangeLaws.{with_record-renewed, with_record-last, numbered-filter, sum_renewed, sum_without, length_without}
 
 -- ---- drafts as records

@@ -1,16 +1,14 @@
 -- What is left after a sweep.
-use Rattle.std.proofs.Common.{◌≡◌, ℕ, ◌+◌, ◌-◌, ◌<◌, ◌≤◌, ◌==◌, ◌&&◌, ◌||◌, max, nat_lt, nat_le, Bool, true, false, not, cond, List, [], ◌∷◌, map, filter, length, Option, Some, None, Result, Ok, Err, refl, sym, ap, ap₂, ◌∙◌, subst, arith, eqb-true, ltb-true, ne_eqb}
+use Rattle.std.proofs.Common.{◌≡◌, ℕ, ◌+◌, ◌-◌, ◌≤◌, ◌==◌, ◌&&◌, ◌||◌, max, nat_lt, nat_le, Bool, true, false, not, cond, List, [], ◌∷◌, map, filter, length, Some, None, Result, Ok, Err, refl, sym, ap, ap₂, ◌∙◌, subst, arith, eqb-true, ltb-true}
 use Rattle.std.specs.Prelude.{IfOk}
 use Rattle.std.specs.List.{AllByRecursion, list_any}
-use Rattle.std.proofs.lemmas.Bool.{true≢false}
 use Rattle.std.proofs.lemmas.Bool.Decides.{nat_tests}
 use Rattle.std.proofs.lemmas.List.{length-map}
 use Rattle.rd_base.specs.declared.records.Record.{Record}
 use Rattle.rd_base.proofs.lemmas.Each.{each_weaker, each_both, each_filter, each_passes}
-use Rattle.rd_base.proofs.lemmas.Filters.{filter_all}
-use Rattle.rd_base.proofs.lemmas.Pairs.{PairsByRecursion, pairs_filter}
-use Rattle.history_model.specs.Leases.{lapse, is_live_at, live_among, lapsed_between}
-use Rattle.history_model.specs.Refusals.{max_registrations, max_text, text_of}
+use Rattle.rd_base.proofs.lemmas.Pairs.{PairsByRecursion}
+use Rattle.history_model.specs.Leases.{lapse, is_live_at, live_among}
+use Rattle.history_model.specs.Refusals.{max_text, text_of}
 use Rattle.history_model.specs.Replay.{is_numbered, numbered}
 use Rattle.history_model.specs.Versions.{Version}
 use Rattle.history_model.proofs.NumberLaws.{IsBelow}

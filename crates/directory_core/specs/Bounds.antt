@@ -1,5 +1,5 @@
 -- How many steps a lookup takes at most.
-use Rattle.std.specs.Prelude.{◌≡◌, ℕ, Bool, not, ◌&&◌, List, ◌++◌, filter}
+use Rattle.std.specs.Prelude.{◌≡◌, Bool, not, ◌&&◌, List, ◌++◌, filter}
 use Rattle.std.specs.List.{list_any, flat_map}
 use Rattle.rd_base.specs.declared.attributes.Pair.{Pair}
 use Rattle.rd_base.specs.declared.queries.Criterion.{Criterion}

@@ -1,4 +1,4 @@
-use Rattle.std.proofs.Common.{◌≡◌, sym, ap, ◌∙◌}
+use Rattle.std.proofs.Common.{sym, ap, ◌∙◌}
 use Rattle.directory_core.specs.LiveCounts.{without_lapse, without_lapses}
 use Rattle.directory_core.proofs.CountLaws.{lapses_first, lapses_end}
 use Rattle.directory_core.proofs.counts.counts_after.Goals as goal

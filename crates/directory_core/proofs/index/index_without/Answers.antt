@@ -1,5 +1,5 @@
-use Rattle.std.proofs.Common.{◌≡◌, ◌||◌, ◌&&◌, not, ap, ◌∙◌}
-use Rattle.attribute_index.specs.Entries.{Entry, has_entry, entries_of_all}
+use Rattle.std.proofs.Common.{◌&&◌, not, ap, ◌∙◌}
+use Rattle.attribute_index.specs.Entries.{has_entry, entries_of_all}
 use Rattle.record_model.specs.ListingLines.{own_pairs}
 use Rattle.directory_core.specs.Bounds.{record_entries}
 use Rattle.directory_core.specs.IndexedPairs.{item_pairs}

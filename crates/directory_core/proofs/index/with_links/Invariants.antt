@@ -1,4 +1,4 @@
-use Rattle.std.proofs.Common.{◌≡◌, ◌||◌, ◌&&◌, not, length}
+use Rattle.std.proofs.Common.{◌≡◌, ◌||◌, length}
 use Rattle.attribute_index.specs.Entries.{Entry, IsAscending, has_entry, entries_of_all}
 use Rattle.directory_core.specs.IndexedPairs.{item_pairs}
 use Rattle.directory_core.proofs.index.with_links.Given as goal

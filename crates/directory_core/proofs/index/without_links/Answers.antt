@@ -1,6 +1,6 @@
-use Rattle.std.proofs.Common.{◌≡◌, ◌||◌, ◌&&◌, not, [], ◌∷◌, sym, ap, ◌∙◌, rules}
+use Rattle.std.proofs.Common.{◌≡◌, ◌&&◌, not, [], ◌∷◌, sym, ap, ◌∙◌, rules}
 use Rattle.std.proofs.lemmas.List.{nil_from_length}
-use Rattle.attribute_index.specs.Entries.{Entry, has_entry, entries_of_all}
+use Rattle.attribute_index.specs.Entries.{has_entry, entries_of_all}
 use Rattle.attribute_index.proofs.EntryLaws.{has_entry-all_append}
 use Rattle.directory_core.specs.IndexedPairs.{item_pairs}
 use Rattle.directory_core.proofs.IndexLaws.{no_pairs, without_step, and_nothing}

@@ -1,6 +1,6 @@
 use Rattle.std.proofs.Common.{◌≡◌, [], ◌∷◌, sym, ap, ◌∙◌, rules}
 use Rattle.std.proofs.lemmas.List.{nil_from_length}
-use Rattle.attribute_index.specs.Entries.{Entry, has_entry, entries_of, entries_of_all}
+use Rattle.attribute_index.specs.Entries.{has_entry, entries_of, entries_of_all}
 use Rattle.attribute_index.proofs.EntryLaws.{has_entry-all}
 use Rattle.directory_core.proofs.IndexLaws.{no_pairs, without_step, and_nothing}
 use Rattle.directory_core.proofs.index.without_pairs.Goals as goal

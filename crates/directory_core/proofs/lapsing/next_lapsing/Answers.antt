@@ -1,8 +1,7 @@
-use Rattle.std.proofs.Common.{◌≡◌, nat_lt, true, false, None, Some, ◌∷◌, sym, ap, ◌∙◌, rules}
+use Rattle.std.proofs.Common.{◌≡◌, nat_lt, true, false, ◌∷◌, sym, ap, ◌∙◌, rules}
 use Rattle.history_model.specs.Leases.{lapse}
-use Rattle.history_model.specs.Replay.{numbered}
-use Rattle.directory_core.specs.Lapsing.{with_lapsing, lapsing_left}
-use Rattle.directory_core.proofs.LapsingLaws.{lapsing_none, lapsing_first, lapses_here, lapses_not, lapses_none}
+use Rattle.directory_core.specs.Lapsing.{lapsing_left}
+use Rattle.directory_core.proofs.LapsingLaws.{lapsing_none, lapses_here, lapses_not, lapses_none}
 use Rattle.directory_core.proofs.lapsing.next_lapsing.Goals as goal
 
 pub returns-then-is_live_at-clause-next : goal.returns-then-is_live_at-clause-next

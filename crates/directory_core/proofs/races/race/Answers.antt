@@ -1,4 +1,4 @@
-use Rattle.std.proofs.Common.{◌≡◌, ◌+◌, length, length-set, get_or, refl, sym, ap, ◌∙◌, arith}
+use Rattle.std.proofs.Common.{length, length-set, get_or, refl, ◌∙◌, arith}
 use Rattle.directory_core.proofs.RaceLaws.{fair_start, raced, round, same_wholes, turned}
 use Rattle.directory_core.proofs.races.race.Goals as goal
 

@@ -1,4 +1,4 @@
-use Rattle.std.proofs.Common.{◌≡◌, sym, ap, ◌∙◌}
+use Rattle.std.proofs.Common.{sym, ap, ◌∙◌}
 use Rattle.directory_core.specs.NameSlots.{if_live_named, first_live_named}
 use Rattle.directory_core.proofs.SlotLaws.{first_here, first_later, first_none}
 use Rattle.directory_core.proofs.reads.first_of_name.Goals as goal

@@ -1,8 +1,5 @@
-use Rattle.std.proofs.Common.{◌≡◌, ◌&&◌, not, sym, ap, ◌∙◌, subst}
-use Rattle.rd_base.specs.declared.records.Record.{Record}
-use Rattle.attribute_index.specs.Entries.{Entry, has_entry}
+use Rattle.std.proofs.Common.{sym}
 use Rattle.directory_core.specs.AfterEntries.{without}
-use Rattle.directory_core.specs.Bounds.{AreEntriesOf, record_entries}
 use Rattle.directory_core.proofs.IndexLaws.{ok_without, ok_shared}
 use Rattle.directory_core.proofs.SweptLaws.{without_none}
 use Rattle.directory_core.proofs.sweep.index_without_number.Goals as goal

@@ -1,6 +1,4 @@
-use Rattle.std.proofs.Common.{◌≡◌, Result, Ok, Err, sym, ap, ◌∙◌, subst}
-use Rattle.std.specs.Prelude.{IfOk}
-use Rattle.rd_base.specs.declared.records.Record.{Record}
+use Rattle.std.proofs.Common.{◌≡◌, sym, ap, ◌∙◌}
 use Rattle.directory_core.specs.AfterEntries.{without}
 use Rattle.directory_core.specs.NameSlots.{hash_of, slots_of, without_slot}
 use Rattle.directory_core.proofs.SweptLaws.{slots_without, without_none, ok_so}

@@ -1,6 +1,5 @@
 use Rattle.std.proofs.Common.{◌≡◌, [], ◌∷◌, sym, ap, ◌∙◌, subst, rules}
 use Rattle.std.proofs.lemmas.List.{nil_from_length}
-use Rattle.directory_core.specs.AfterEntries.{without}
 use Rattle.directory_core.specs.Bounds.{AreEntriesOf}
 use Rattle.directory_core.specs.NameSlots.{slots_of}
 use Rattle.directory_core.specs.Swept.{without_all}

@@ -1,18 +1,16 @@
-use Rattle.std.proofs.Common.{refl, ◌≡◌, ℕ, ◌+◌, ◌-◌, ◌<◌, ◌≤◌, ◌^◌, List, [], ◌∷◌, ◌++◌, Ok, Err, Result, sym, ap, ap₂, ◌∙◌, subst, arith, ◌||◌}
+use Rattle.std.proofs.Common.{refl, ◌≡◌, ◌+◌, ◌≤◌, ◌^◌, [], ◌∷◌, ◌++◌, Err, sym, ap, ap₂, ◌∙◌, subst, arith, ◌||◌}
 use Rattle.rd_base.specs.declared.moments.Moment.{Moment}
-use Rattle.rd_base.specs.declared.records.Name.{Name}
 use Rattle.rd_base.specs.declared.records.Record.{Record}
 use Rattle.record_model.specs.ListingLines.{weight}
 use Rattle.registration.specs.Drafts.{recorded}
 use Rattle.registration.specs.Weights.{capped}
 use Rattle.history_model.specs.Versions.{Version}
 use Rattle.history_model.specs.Leases.{lapse, live_among}
-use Rattle.history_model.specs.Refusals.{max_text, text_of}
+use Rattle.history_model.specs.Refusals.{text_of}
 use Rattle.lease_queue.specs.Leases.{with_lease}
 use Rattle.directory_core.specs.declared.counts.Counts.{Counts}
-use Rattle.directory_core.specs.declared.names.NameSlot.{NameSlot}
-use Rattle.directory_core.specs.AfterEntries.{after_entry, HasRoom, IsMadeWithRoom}
-use Rattle.directory_core.specs.NameSlots.{hash_of, slot_of, with_slot}
+use Rattle.directory_core.specs.AfterEntries.{after_entry, HasRoom}
+use Rattle.directory_core.specs.NameSlots.{slot_of, with_slot}
 use Rattle.directory_core.specs.NumberOrder.{with_record}
 use Rattle.directory_core.specs.Shown.{IsKept, lease_of}
 use Rattle.directory_core.proofs.KeptLaws.{live_light}

@@ -1,4 +1,4 @@
-use Rattle.std.proofs.Common.{◌≡◌, ℕ, Option, None, Some, option_map, sym, ap, ◌∙◌}
+use Rattle.std.proofs.Common.{Option, Some, option_map, ap, ◌∙◌}
 use Rattle.rd_base.specs.declared.records.Record.{Record}
 use Rattle.directory_core.proofs.ReadLaws.{named_in_live}
 use Rattle.directory_core.proofs.directory.Directory.by_name.Goals as goal

@@ -1,11 +1,6 @@
-use Rattle.std.proofs.Common.{◌≡◌, ◌≤◌, List, sym, ap, ap₂, ◌∙◌, subst, arith}
-use Rattle.rd_base.specs.declared.records.Record.{Record}
-use Rattle.history_model.specs.Leases.{live_among}
+use Rattle.std.proofs.Common.{ap, subst}
 use Rattle.history_model.specs.Versions.{Version}
-use Rattle.lease_queue.specs.Leases.{lapsed_at}
-use Rattle.directory_core.specs.declared.counts.Counts.{Counts}
-use Rattle.directory_core.specs.LiveCounts.{counts_of, without_lapses}
-use Rattle.directory_core.specs.Shown.{counted_at, IsKept, leases_of}
+use Rattle.directory_core.specs.Shown.{IsKept}
 use Rattle.directory_core.proofs.CountLaws.{counts-of_version}
 use Rattle.directory_core.proofs.directory.Directory.counts_at.Goals as goal
 

@@ -1,11 +1,10 @@
-use Rattle.std.proofs.Common.{◌≡◌, List, sym, ap, ap₂, ◌∙◌, subst}
-use Rattle.rd_base.specs.declared.records.Record.{Record}
+use Rattle.std.proofs.Common.{ap, ◌∙◌, subst}
 use Rattle.history_model.specs.Versions.{Version}
 use Rattle.history_model.proofs.VersionLaws.{lapsing-VersionStandsFor}
 use Rattle.lease_queue.specs.Leases.{lapsed_at}
 use Rattle.directory_core.specs.LapseOrder.{in_order_of_lapse}
 use Rattle.directory_core.specs.Lapsing.{lapsing_left}
-use Rattle.directory_core.specs.Shown.{IsKept, leases_of}
+use Rattle.directory_core.specs.Shown.{IsKept}
 use Rattle.directory_core.proofs.LapsingLaws.{lapsing-leases}
 use Rattle.directory_core.proofs.directory.Directory.lapsing.Goals as goal
 

@@ -1,4 +1,4 @@
-use Rattle.std.proofs.Common.{◌≡◌, length, ap, ◌∙◌}
+use Rattle.std.proofs.Common.{length, ap, ◌∙◌}
 use Rattle.history_model.proofs.VersionLaws.{live-VersionStandsFor}
 use Rattle.directory_core.specs.declared.counts.Counts.{Counts}
 use Rattle.directory_core.proofs.directory.Directory.live_count.Goals as goal

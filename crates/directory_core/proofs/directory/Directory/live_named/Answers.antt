@@ -1,7 +1,6 @@
-use Rattle.std.proofs.Common.{◌≡◌, true, Option, Some, None, IfSome, sym, ap, ◌∙◌, subst}
+use Rattle.std.proofs.Common.{◌≡◌, true, Some, sym, ap, ◌∙◌, subst}
 use Rattle.std.specs.Prelude.{find}
 use Rattle.std.specs.Option.{option_copied}
-use Rattle.rd_base.specs.declared.records.Record.{Record}
 use Rattle.history_model.specs.Leases.{is_live_at}
 use Rattle.history_model.specs.Replay.{is_live_named, numbered}
 use Rattle.history_model.specs.Versions.{Version}

@@ -1,6 +1,5 @@
-use Rattle.std.proofs.Common.{◌≡◌, true, false, List, None, Some, IfNone, IfSome, sym, ap, ◌∙◌, subst, rules}
+use Rattle.std.proofs.Common.{◌≡◌, true, false, None, Some, sym, ap, ◌∙◌, subst, rules}
 use Rattle.std.specs.Option.{option_copied}
-use Rattle.rd_base.specs.declared.records.Record.{Record}
 use Rattle.rd_base.proofs.lemmas.Pairs.{PairsByRecursion}
 use Rattle.history_model.specs.Leases.{is_live_at}
 use Rattle.history_model.specs.Replay.{numbered}

@@ -1,4 +1,4 @@
-use Rattle.std.proofs.Common.{◌≡◌, None, Some, sym, ap, ◌∙◌}
+use Rattle.std.proofs.Common.{Some, ap, ◌∙◌}
 use Rattle.rd_base.specs.declared.records.Record.{Record}
 use Rattle.history_model.proofs.VersionParts.{numbered-VersionStandsFor}
 use Rattle.directory_core.proofs.directory.Directory.record_of.Goals as goal

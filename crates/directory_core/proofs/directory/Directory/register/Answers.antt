@@ -1,4 +1,4 @@
-use Rattle.std.proofs.Common.{◌≡◌, ℕ, ◌+◌, Some, None, sym, ap, ◌∙◌}
+use Rattle.std.proofs.Common.{◌≡◌, ◌+◌, Some, None, sym, ap}
 use Rattle.rd_base.specs.declared.records.Record.{Record}
 use Rattle.history_model.specs.Replay.{number_for, replay}
 use Rattle.history_model.specs.Versions.{Version}

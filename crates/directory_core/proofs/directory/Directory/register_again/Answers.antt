@@ -1,5 +1,4 @@
-use Rattle.std.proofs.Common.{◌≡◌, subst}
-use Rattle.history_model.specs.Versions.{Version}
+use Rattle.std.proofs.Common.{subst}
 use Rattle.directory_core.specs.Shown.{IsKept}
 use Rattle.directory_core.proofs.AnswerLaws.{again_answers}
 use Rattle.directory_core.proofs.FitLaws.{draft_sound}

@@ -1,7 +1,5 @@
-use Rattle.std.proofs.Common.{◌≡◌, ◌≤◌, ◌<◌, length, ap, subst, arith}
+use Rattle.std.proofs.Common.{◌≡◌, length, ap, subst, arith}
 use Rattle.history_model.specs.Leases.{live_among}
-use Rattle.history_model.specs.Refusals.{max_registrations}
-use Rattle.history_model.specs.Versions.{Version}
 use Rattle.directory_core.specs.declared.counts.Counts.{Counts}
 use Rattle.directory_core.specs.Shown.{IsKept}
 use Rattle.directory_core.proofs.AnswerLaws.{new_answers, full_answers}

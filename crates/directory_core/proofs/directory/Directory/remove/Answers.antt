@@ -1,7 +1,4 @@
-use Rattle.std.proofs.Common.{◌≡◌, None, Some, sym, ap, ◌∙◌, subst}
-use Rattle.history_model.specs.Replay.{numbered}
-use Rattle.history_model.specs.Versions.{Version}
-use Rattle.directory_core.specs.EntryAnswers.{AnswersEntry}
+use Rattle.std.proofs.Common.{sym, subst}
 use Rattle.directory_core.specs.Shown.{IsKept}
 use Rattle.directory_core.proofs.AnswerLaws.{removal_gone, removal_answers}
 use Rattle.directory_core.proofs.directory.Directory.remove.Goals as goal

@@ -1,14 +1,12 @@
-use Rattle.std.proofs.Common.{◌≡◌, ℕ, ◌+◌, ◌-◌, ◌≤◌, List, length, sym, ap, ap₂, ◌∙◌, subst, arith}
+use Rattle.std.proofs.Common.{◌≡◌, ◌+◌, ◌-◌, length, sym, ap, ap₂, ◌∙◌, subst, arith}
 use Rattle.std.specs.Prelude.{filter, nat_le}
-use Rattle.rd_base.specs.declared.records.Record.{Record}
 use Rattle.history_model.specs.Leases.{lapse, live_among}
 use Rattle.history_model.specs.Versions.{Version, VersionStandsFor}
 use Rattle.history_model.proofs.SweepLaws.{live_among_live}
 use Rattle.history_model.proofs.VersionLaws.{swept_to, swept_to-VersionStandsFor}
 use Rattle.lease_queue.specs.Leases.{lapsed_at, unlapsed_at}
 use Rattle.directory_core.specs.declared.counts.Counts.{Counts}
-use Rattle.directory_core.specs.NameSlots.{slots_of}
-use Rattle.directory_core.specs.Shown.{IsKept, leases_of}
+use Rattle.directory_core.specs.Shown.{IsKept}
 use Rattle.directory_core.specs.Swept.{without_all}
 use Rattle.directory_core.proofs.ReadLaws.{lapsed-counted}
 use Rattle.directory_core.proofs.SweptLaws.{after_sweep, swept_records, lapsed_count, kept_swept, shown_swept}

@@ -1,5 +1,4 @@
-use Rattle.std.proofs.Common.{◌≡◌, ◌+◌, ◌-◌, ◌<◌, ◌≤◌, ◌^◌, length, sym, ap, ap₂, ◌∙◌, subst, arith}
-use Rattle.history_model.specs.Leases.{live_among, lapsed_between}
+use Rattle.std.proofs.Common.{◌≡◌, ◌+◌, ◌-◌, ap, ap₂, ◌∙◌, subst, arith}
 use Rattle.history_model.specs.Listing.{tag_octets}
 use Rattle.history_model.specs.Versions.{Version}
 use Rattle.history_model.proofs.VersionLaws.{tag_from-VersionStandsFor}

@@ -1,10 +1,7 @@
-use Rattle.std.proofs.Common.{◌≡◌, None, Some, sym, ap, ◌∙◌, subst}
+use Rattle.std.proofs.Common.{◌≡◌, sym, subst}
 use Rattle.rd_base.specs.declared.records.Record.{Record}
 use Rattle.record_model.specs.Records.{updated}
 use Rattle.registration.specs.Drafts.{recorded}
-use Rattle.history_model.specs.Replay.{numbered}
-use Rattle.history_model.specs.Versions.{Version}
-use Rattle.directory_core.specs.EntryAnswers.{AnswersEntry}
 use Rattle.directory_core.specs.Shown.{IsKept}
 use Rattle.directory_core.proofs.AnswerLaws.{update_gone, update_answers}
 use Rattle.directory_core.proofs.directory.Directory.update.Goals as goal

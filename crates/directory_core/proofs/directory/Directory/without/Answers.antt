@@ -1,7 +1,5 @@
-use Rattle.std.proofs.Common.{◌≡◌, ℕ, ◌+◌, ◌-◌, ◌<◌, ◌≤◌, List, Ok, Err, Result, sym, ap, ap₂, ◌∙◌, subst, arith, ◌&&◌, not}
+use Rattle.std.proofs.Common.{◌≡◌, ◌-◌, sym, ap, ap₂, ◌∙◌, subst, arith, ◌&&◌, not}
 use Rattle.rd_base.specs.declared.records.Record.{Record}
-use Rattle.record_model.specs.ListingLines.{weight}
-use Rattle.history_model.specs.Leases.{lapse}
 use Rattle.history_model.specs.Versions.{Version}
 use Rattle.lease_queue.specs.Leases.{without_lease}
 use Rattle.directory_core.specs.AfterEntries.{without, after_entry}

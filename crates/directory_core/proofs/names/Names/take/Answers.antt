@@ -1,7 +1,7 @@
 use Rattle.std.proofs.Common.{ap, ◌∙◌}
 use Rattle.std.specs.Map.{keys_of}
 use Rattle.directory_core.specs.declared.names.NameSlot.{NameSlot}
-use Rattle.directory_core.specs.NameSlots.{hash_of, without_slot}
+use Rattle.directory_core.specs.NameSlots.{without_slot}
 use Rattle.directory_core.proofs.SlotLaws.{keys-remove}
 use Rattle.directory_core.proofs.names.Names.take.Goals as goal
 

@@ -1,7 +1,7 @@
-use Rattle.std.proofs.Common.{◌≡◌, ap, ◌∙◌}
+use Rattle.std.proofs.Common.{ap, ◌∙◌}
 use Rattle.std.specs.Prelude.{nat_le, filter}
 use Rattle.std.specs.Map.{keys_of}
-use Rattle.directory_core.specs.NameSlots.{hash_of, numbers_under, numbers_of_hash}
+use Rattle.directory_core.specs.NameSlots.{numbers_under, numbers_of_hash}
 use Rattle.directory_core.proofs.SlotLaws.{keys-from}
 use Rattle.directory_core.proofs.names.Names.under.Goals as goal
 

@@ -1,4 +1,4 @@
-use Rattle.std.proofs.Common.{◌≡◌, true, List, ◌++◌, sym, ap, ◌∙◌, rules}
+use Rattle.std.proofs.Common.{◌≡◌, true, ◌++◌, sym, ap, ◌∙◌, rules}
 use Rattle.history_model.specs.Leases.{is_live_at}
 use Rattle.record_model.specs.ListingLines.{part}
 use Rattle.listing.specs.AppendedLines.{appended, shown_lines}

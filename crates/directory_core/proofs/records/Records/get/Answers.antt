@@ -1,5 +1,4 @@
 use Rattle.std.proofs.Common.{ap, ◌∙◌}
-use Rattle.std.specs.Map.{values_of}
 use Rattle.history_model.specs.Replay.{numbered}
 use Rattle.directory_core.proofs.RecordMapLaws.{numbered-lookup}
 use Rattle.directory_core.proofs.records.Records.get.Goals as goal

@@ -3,7 +3,6 @@ use Rattle.std.specs.Ordering.{nat_cmp}
 use Rattle.std.specs.Map.{values_of}
 use Rattle.std.specs.BTreeMap.{insert_entry}
 use Rattle.rd_base.specs.declared.records.Record.{Record}
-use Rattle.chunk_map.specs.Sorted.{IsAscending}
 use Rattle.directory_core.specs.NumberOrder.{AreUnderNumbers, with_record}
 use Rattle.directory_core.proofs.RecordMapLaws.{values-insert, under-insert, rising-ascending}
 use Rattle.directory_core.proofs.records.Records.put.Goals as goal
