@@ -4,6 +4,7 @@ ghost use Rattle.std.specs.List.{All, flat_map};
 ghost use Rattle.std.specs.Map.{lookup, remove_entry};
 ghost use Rattle.std.specs.BTreeMap.{insert_entry, is_at};
 ghost use Rattle.std.specs.BTreeMap.Range.{entries_from};
+ghost use Rattle.chunk_map.specs.declared.parts.TheConstants.{MOST_PARTS};
 ghost use Rattle.chunk_map.specs.Changes.{IsChanged, IsCounted};
 ghost use Rattle.chunk_map.specs.Sorted.{IsAscending, AllGreater, AllLess, option_flat};
 ghost use Rattle.chunk_map.specs.Groups.{list_pairs, IsWholeList};
@@ -18,7 +19,7 @@ use std::sync::Arc;
 /// The greatest number of parts that a list keeps: with one more it is split in two.
 pub(crate) const MOST_PARTS: usize = 24;
 
-/// How many parts the first list keeps when a list is split in two.
+/// How many parts the first list keeps when a list that was not changed in its last part is split in two.
 const SPLIT_PARTS: usize = 12;
 
 /// How many parts the first list keeps when a list that was changed in its last part is split in two. So lists that are
@@ -319,7 +320,7 @@ pub(crate) fn changed<K: Ord + Drop, V: Drop, P: Part<K, V>, C: Change<V>>(
 
 /// How many parts the first list keeps when a list with too many is split in two after a change of the value at this key.
 fn front_count<K: Ord + Drop, V: Drop, P: Part<K, V>>(parts: &[P], key: &K) -> usize
-    requires many { 24 < length parts.now }
+    requires many { MOST_PARTS < length parts.now }
     requires whole { All P.is_whole parts.now }
     ensures any { 0 < result }
     ensures within { result < length parts.now }

@@ -13,6 +13,6 @@ option_in o = (o.number, o.value.now)
 abbrev pub options_left : OptionsIter → List model.Opt
 options_left it = options_at it.before it.rest.now
 
--- How many octets spell them.
+-- How many octets are left, in which they stand.
 abbrev pub octets_left : OptionsIter → ℕ
 octets_left it = length it.rest.now
