@@ -1,5 +1,5 @@
 -- How an index is kept: a row for each value of a name, with the numbers of the records that carry it.
-use Rattle.std.specs.Prelude.{◌≡◌, ℕ, ◌≤◌, length, Bool, false, not, ◌==◌, ◌||◌, ◌&&◌, IfSome, List, [], ◌∷◌, Option, Some, None, map, filter, take, drop, nat_eq, bytes_eq, unwrap_or}
+use Rattle.std.specs.Prelude.{◌≡◌, ℕ, Bool, false, not, ◌==◌, ◌||◌, ◌&&◌, IfSome, List, [], ◌∷◌, Option, Some, None, map, filter, nat_eq, bytes_eq, unwrap_or}
 use lib.Pointwise.{pointwise}
 use Rattle.std.specs.List.{flat_map, AllByRecursion}
 use Rattle.std.specs.declared.cmp.Ordering.{Ordering}
@@ -14,27 +14,11 @@ use Rattle.attribute_index.specs.declared.numbers.Carried.{Carried}
 use Rattle.attribute_index.specs.declared.numbers.Carried.TheVariants as carried
 use Rattle.attribute_index.specs.declared.numbers.Left.{Left}
 use Rattle.attribute_index.specs.declared.numbers.Left.TheVariants as left
-use Rattle.attribute_index.specs.declared.values.Octets.{Octets}
-use Rattle.attribute_index.specs.declared.values.Octets.TheVariants.{Short, Long}
-use Rattle.attribute_index.specs.declared.values.Spelled.{Spelled}
 use Rattle.attribute_index.specs.declared.rows.Edit.{Edit}
 use Rattle.attribute_index.specs.declared.rows.Edit.TheVariants.{Put, Take}
 use Rattle.attribute_index.specs.Entries.{Entry, has_number}
 
--- the octets of a name and of a value behind it
-abbrev pub octets_of : Octets → List ℕ
-octets_of (Short octets) = octets.items
-octets_of (Long octets) = octets
-
--- a name, and a value of it
-abbrev pub value_of : Spelled → List ℕ × List ℕ
-value_of spelled = (take spelled.name (octets_of spelled.octets), drop spelled.name (octets_of spelled.octets))
-
--- the name has no more octets than there are
-abbrev pub IsSpelled : Spelled → Type 0
-IsSpelled spelled = spelled.name ≤ length (octets_of spelled.octets)
-
--- a name with a value: values are ordered by their names, those of one name by their octets
+-- a name with a value: values are ordered by their names, those of one name by their texts
 abbrev pub value_cmp : List ℕ × List ℕ → List ℕ × List ℕ → Ordering
 value_cmp x y = ordering_then (slice_cmp nat_cmp x.0 y.0) (slice_cmp nat_cmp x.1 y.1)
 

@@ -8,7 +8,7 @@ use crate::numbers::{Left, Numbers};
 use crate::values::Value;
 use chunk_map::RangeIter;
 use listing::matches_value;
-use rd_base::{Bytes, Steps};
+use rd_base::{Steps, Text};
 use std::marker::{Brand, Model};
 use std::sync::ledger::{Blank, Ledger};
 
@@ -16,9 +16,9 @@ use std::sync::ledger::{Blank, Ledger};
 #[derive(Drop)]
 pub struct Carriers<'a> {
     /// The name whose values are wanted.
-    name: Bytes,
+    name: Text,
     /// The pattern that matches the values that are wanted.
-    pattern: Bytes,
+    pattern: Text,
     /// The numbers that are left of the value where it stands.
     numbers: Left<'a>,
     /// The values after that one, the wanted ones in front.
@@ -37,7 +37,7 @@ impl<'a> Model for Carriers<'a> {
 }
 
 /// Whether the value is of this name, and the pattern matches it.
-fn is_wanted(name: &[u8], pattern: &[u8], value: &Value) -> bool
+fn is_wanted(name: &str, pattern: &str, value: &Value) -> bool
     ensures { result ≡ spec.is_wanted name.now pattern.now value.now }
 {
     value.name() == name && matches_value(pattern, value.value())
@@ -89,8 +89,8 @@ fn next_row<'a, L: Ledger>(
 
 /// The numbers of the next row, where its value is wanted; None exactly where no row is left whose value is.
 fn next_wanted<'a>(
-    name: &Bytes,
-    pattern: &Bytes,
+    name: &Text,
+    pattern: &Text,
     rows: &mut RangeIter<'a, Value, Numbers>,
 ) -> Option<Left<'a>>
     requires first { WantedFirst name.now pattern.now rows.old }
@@ -102,7 +102,7 @@ fn next_wanted<'a>(
     ensures whole { AreRows rows.new }
 {
     let (value, numbers) = next_row::<Brand>(Blank::new(1), rows)?;
-    if !is_wanted(name.as_slice(), pattern.as_slice(), value) {
+    if !is_wanted(name.as_str(), pattern.as_str(), value) {
         return None;
     }
     Some(numbers.all())
@@ -111,8 +111,8 @@ fn next_wanted<'a>(
 impl<'a> Carriers<'a> {
     /// A cursor over the numbers of those of these rows whose values are wanted.
     pub(crate) fn over(
-        name: Bytes,
-        pattern: Bytes,
+        name: Text,
+        pattern: Text,
         rows: RangeIter<'a, Value, Numbers>,
     ) -> Carriers<'a>
         requires first { WantedFirst name pattern rows }

@@ -8,7 +8,7 @@ use crate::rows::{Edit, Rows, edited};
 use crate::values::Value;
 use chunk_map::ChunkMap;
 use listing::before_wildcard;
-use rd_base::{Bytes, Pair, Starved};
+use rd_base::{Pair, Starved, Text};
 use std::alloc::Global;
 use std::marker::Model;
 
@@ -37,7 +37,7 @@ impl Model for AttributeIndex {
 
 /// Where the values begin that a pattern of a name matches: at what stands before its wildcard, or at the pattern.
 /// `Starved`: out of memory.
-fn first_wanted(alloc: Global, name: &[u8], pattern: &[u8]) -> Result<Value, Starved>
+fn first_wanted(alloc: Global, name: &str, pattern: &str) -> Result<Value, Starved>
     ensures { IfOk result (λ value. value ≡ spec.first_wanted name.now pattern.now) }
 {
     match before_wildcard(pattern) {
@@ -98,10 +98,10 @@ impl AttributeIndex {
     ) -> Result<Carriers<'_>, Starved>
         ensures { IfOk result (λ carriers. carriers ≡ carriers_of name.now pattern.now self.now) }
     {
-        let from = first_wanted(alloc, name.as_bytes(), pattern.as_bytes())?;
+        let from = first_wanted(alloc, name, pattern)?;
         let rows = self.rows.range(&from);
-        let name = Bytes::copy_of(alloc, name.as_bytes())?;
-        let pattern = Bytes::copy_of(alloc, pattern.as_bytes())?;
+        let name = Text::copy_of(alloc, name)?;
+        let pattern = Text::copy_of(alloc, pattern)?;
         Ok(Carriers::over(name, pattern, rows))
     }
 }

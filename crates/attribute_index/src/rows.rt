@@ -17,7 +17,7 @@ use std::alloc::Global;
 pub(crate) type Rows = ChunkMap<Value, Numbers>;
 
 /// The parts of a value as values of its name. `Starved`: out of memory.
-fn parts_of(alloc: Global, name: &[u8], value: &[u8]) -> Result<Vec<Value>, Starved>
+fn parts_of(alloc: Global, name: &str, value: &str) -> Result<Vec<Value>, Starved>
     ensures { IfOk result (λ values. values.items ≡ map (λ part. (name.now, part)) (model.parts_of value.now)) }
 {
     let mut values = Vec::new(alloc);
@@ -32,7 +32,7 @@ fn parts_of(alloc: Global, name: &[u8], value: &[u8]) -> Result<Vec<Value>, Star
 /// The values by which an attribute is found: the parts of its value where values of its name are lists, else its value.
 /// `Starved`: out of memory.
 #[tactic(auto, unfolding(crate::specs::Entries::values_of))]
-fn values_of(alloc: Global, name: &[u8], value: &[u8]) -> Result<Vec<Value>, Starved>
+fn values_of(alloc: Global, name: &str, value: &str) -> Result<Vec<Value>, Starved>
     ensures { IfOk result (λ values. values.items ≡ map (λ value. (name.now, value)) (entries.values_of name.now value.now)) }
 {
     if is_list_name(name) {
@@ -147,6 +147,6 @@ pub(crate) fn edited(
     ensures ascends { IfOk result (λ after. IsAscending value_cmp after) }
     ensures whole { IfOk result (λ after. AreRows after) }
 {
-    let values = values_of(alloc, pair.name.as_bytes(), pair.value.as_bytes())?;
+    let values = values_of(alloc, pair.name.as_str(), pair.value.as_str())?;
     Ok(edited_values(alloc, rows, values.as_slice(), number, edit)?)
 }

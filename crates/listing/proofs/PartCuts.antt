@@ -1,54 +1,38 @@
--- The first part of a value by the offset of its first space.
-use Rattle.std.proofs.Common.{◌≡◌, ℕ, suc, ◌+◌, ◌<◌, ◌≤◌, Bool, true, false, cond, List, [], ◌∷◌, length, take, drop, filter, Some, None, refl, sym, ap, subst, ◌∙◌, arith, not}
-use Rattle.std.specs.Prelude.{◌==◌, position}
-use Rattle.std.specs.List.{position_or_len, slice_split}
-use Rattle.std.proofs.lemmas.Bool.{ltb-false, ltb-true}
+-- The parts of a value by its first space.
+use Rattle.std.proofs.Common.{◌≡◌, ◌≢◌, ℕ, ◌<◌, false, List, [], ◌∷◌, ◌++◌, length, get_or, filter, refl, ap, ◌∙◌, not}
+use Rattle.std.specs.Prelude.{◌==◌}
+use Rattle.std.specs.List.{All, slice_split}
+use Rattle.std.proofs.lemmas.Bool.{ne_eqb}
 use Rattle.std.proofs.lemmas.List.Elements.{All-from_get_or}
-use Rattle.std.proofs.lemmas.List.Splits.{slice_split_none, slice_split_first}
-use Rattle.std.proofs.lemmas.List.Sums.{fails_before_first}
+use Rattle.std.proofs.lemmas.List.Splits.{slice_split_none, slice_split_at}
 use Rattle.link_model.specs.Characters.{is_empty}
 use Rattle.record_model.specs.Matching.{space, parts_of}
-use Rattle.listing.specs.ValueParts.{HasFirst}
 
-abbrev first_space : List ℕ → ℕ
-first_space text = position_or_len (λ c. c == space) text
+-- no octet of the text is a space
+abbrev pub HasNoSpace : List ℕ → Type 0
+HasNoSpace text = (i : ℕ) → i < length text → get_or text i 0 ≢ space
 
-none_there : (t : Bool) (i : ℕ) → None ≡ cond t (Some i) None → t ≡ false
-none_there true i e = cc
-none_there false i e = refl
+no_space : (text : List ℕ) → HasNoSpace text → All (λ b. (b == space) ≡ false) text
+no_space text nowhere = All-from_get_or (λ b. (b == space) ≡ false) text 0 (λ k h. ne_eqb (get_or text k 0) space (nowhere k h))
 
-some_there : (t : Bool) (i at : ℕ) → Some at ≡ cond t (Some i) None → (t ≡ true) × (at ≡ i)
-some_there true i at e = (refl, cc)
-some_there false i at e = cc
+-- without a space the value is one text
+whole : (value : List ℕ) → HasNoSpace value → slice_split (λ b. b == space) value ≡ value ∷ []
+whole value nowhere = slice_split_none (λ b. b == space) value (no_space value nowhere)
 
--- without a space the value is one part
-pub one_part : (value : List ℕ) → HasFirst value → None ≡ position (λ c. c == space) value → parts_of value ≡ value ∷ []
-one_part [] first e = absurd first
-one_part (c ∷ cs) first e =
-    let all : length (c ∷ cs) ≤ first_space (c ∷ cs) = ltb-false (first_space (c ∷ cs)) (length (c ∷ cs)) (none_there _ (first_space (c ∷ cs)) e) in
-    ap (λ (parts : List (List ℕ)). filter (λ part. not (is_empty part)) parts) (slice_split_none (λ b. b == space) (c ∷ cs)
-    (All-from_get_or (λ b. (b == space) ≡ false) (c ∷ cs) 0 λ k h. fails_before_first (λ b. b == space) (c ∷ cs) k 0 (omega (arith, all, h))))
+-- the text before the first space, and those after it
+cut : (front back : List ℕ) → HasNoSpace front → slice_split (λ b. b == space) (front ++ space ∷ back) ≡ front ∷ slice_split (λ b. b == space) back
+cut front back nowhere = slice_split_at (λ b. b == space) front space back (no_space front nowhere) refl
 
--- the part before the first space, and those after it
-kept : (c : ℕ) (front : List ℕ) (rest : List (List ℕ)) (n : ℕ) → filter (λ part. not (is_empty part)) (take (suc n) (c ∷ front) ∷ rest) ≡ take (suc n) (c ∷ front) ∷ filter (λ part. not (is_empty part)) rest
-kept c front rest n = refl
+-- a text without a space is one part, unless it is empty
+pub one_part : (value : List ℕ) → HasNoSpace value → value ≢ [] → parts_of value ≡ value ∷ []
+one_part [] nowhere some = absurd (some refl)
+one_part (c ∷ cs) nowhere some = ap (λ (texts : List (List ℕ)). filter (λ part. not (is_empty part)) texts) (whole (c ∷ cs) nowhere)
 
-past_first : (c : ℕ) (cs : List ℕ) → (c == space) ≡ false → first_space (c ∷ cs) ≡ suc (first_space cs)
-past_first c cs e = rw e (omega arith)
+-- before the first space stands a part
+pub part_before : (value front back : List ℕ) → value ≡ front ++ space ∷ back → HasNoSpace front → front ≢ [] → parts_of value ≡ front ∷ parts_of back
+part_before value [] back e nowhere some = absurd (some refl)
+part_before value (c ∷ cs) back e nowhere some = ap parts_of e ∙ ap (λ (texts : List (List ℕ)). filter (λ part. not (is_empty part)) texts) (cut (c ∷ cs) back nowhere)
 
-pub part_before : (value : List ℕ) (at : ℕ) → HasFirst value → Some at ≡ position (λ c. c == space) value → parts_of value ≡ take at value ∷ parts_of (drop (at + 1) value)
-part_before [] at first e = absurd first
-part_before (c ∷ cs) at first e =
-    let there = some_there _ (first_space (c ∷ cs)) at e in
-    let at_is : at ≡ suc (first_space cs) = there.1 ∙ past_first c cs first in
-    let split : slice_split (λ b. b == space) (c ∷ cs) ≡ take at (c ∷ cs) ∷ slice_split (λ b. b == space) (drop (at + 1) (c ∷ cs)) =
-    slice_split_first (λ b. b == space) (c ∷ cs) 0 (ltb-true (first_space (c ∷ cs)) (length (c ∷ cs)) there.0)
-    ∙ ap (λ k. take k (c ∷ cs) ∷ slice_split (λ b. b == space) (drop (k + 1) (c ∷ cs))) (sym there.1) in
-    ap (λ (parts : List (List ℕ)). filter (λ part. not (is_empty part)) parts) split
-    ∙ subst (λ (k : ℕ). filter (λ part. not (is_empty part)) (take k (c ∷ cs) ∷ slice_split (λ b. b == space) (drop (at + 1) (c ∷ cs))) ≡ take k (c ∷ cs) ∷ parts_of (drop (at + 1) (c ∷ cs))) (sym at_is)
-    (kept c cs (slice_split (λ b. b == space) (drop (at + 1) (c ∷ cs))) (first_space cs))
-
--- a text with a first octet is not empty
-pub some_octet : (value : List ℕ) → HasFirst value → 0 < length value
-some_octet [] first = absurd first
-some_octet (c ∷ cs) first = omega arith
+-- or nothing
+pub nothing_before : (value back : List ℕ) → value ≡ [] ++ space ∷ back → parts_of value ≡ parts_of back
+nothing_before value back e = ap parts_of e

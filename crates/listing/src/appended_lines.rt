@@ -7,7 +7,7 @@ ghost use Rattle.link_model.specs.Quoting.{escaped_character};
 ghost use Rattle.listing.specs.AppendedLines.{separated};
 ghost use Rattle.listing.specs.Pieces.{own_line, octets_of_piece, octets_of_pieces};
 
-use crate::locations::{ROOM, write_location};
+use crate::locations::location_of;
 use crate::pieces::{Piece, attribute_pieces, endpoint_pieces, is_escaped};
 use rd_base::{Bytes, Item, Pair, Record, Starved, Text};
 
@@ -170,9 +170,11 @@ fn append_own(record_of: &Record, into: &mut Bytes) -> Result<(), Starved>
     ensures ok { OnOk result (into.new ≡ into.old ++ own_line record_of.now) }
     ensures starved { OnErr result (into.new ≡ into.old) }
 {
-    let mut octets = [0; ROOM];
-    let start = write_location(record_of.number, &mut octets);
-    append_pieces(&endpoint_pieces(record_of, &octets[start..]), into)
+    let location = location_of(record_of.number);
+    append_pieces(
+        &endpoint_pieces(record_of, location.as_str().as_bytes()),
+        into,
+    )
 }
 
 /// Appends the line of an endpoint. Out of memory, the octets are as before.

@@ -8,38 +8,38 @@ ghost use Rattle.record_model.specs.ListingLines as listing_model;
 ghost use Rattle.listing.specs.ListedLinks.{listed_of};
 ghost use Rattle.listing.specs.JudgedEndpoints.{AreJudged, AreJudgedOf};
 
-use crate::locations::{ROOM, write_location};
+use crate::locations::location_of;
 use crate::patterns::{matches_named, matches_value};
 use rd_base::{Criterion, Item, Pair, Query, Record};
 
 /// Whether a criterion of this name and pattern matches an attribute of that name and value.
 #[inline(always)]
-fn matches_attribute(name: &[u8], pattern: &[u8], attribute: &[u8], value: &[u8]) -> bool
+fn matches_attribute(name: &str, pattern: &str, attribute: &str, value: &str) -> bool
     ensures { result ≡ (bytes_eq attribute.now name.now && model.matches_named name.now pattern.now value.now) }
 {
     attribute == name && matches_named(name, pattern, value)
 }
 
 /// Whether a criterion of this name and pattern matches one of the attributes.
-fn matches_pairs(name: &[u8], pattern: &[u8], pairs: &[Pair]) -> bool
+fn matches_pairs(name: &str, pattern: &str, pairs: &[Pair]) -> bool
     ensures { result ≡ model.matches_pairs (record { name = name.now; pattern = pattern.now }) pairs.now }
 {
-    pairs.iter().any(|pair| pair.name.as_bytes() == name
-        && matches_named(name, pattern, pair.value.as_bytes()))
+    pairs.iter().any(|pair| pair.name.as_str() == name
+        && matches_named(name, pattern, pair.value.as_str()))
 }
 
 /// Whether criteria of this name are about targets.
-fn is_href(name: &[u8]) -> bool
+fn is_href(name: &str) -> bool
     ensures { result ≡ bytes_eq name.now (codes "href") }
 {
-    name == b"href".as_slice()
+    name == "href"
 }
 
 /// Whether criteria of this name are about anchors.
-fn is_anchor(name: &[u8]) -> bool
+fn is_anchor(name: &str) -> bool
     ensures { result ≡ bytes_eq name.now (codes "anchor") }
 {
-    name == b"anchor".as_slice()
+    name == "anchor"
 }
 
 /// Whether the criterion matches the link by itself: `href` by its target, `anchor` by its anchor where it has one,
@@ -48,14 +48,14 @@ fn is_anchor(name: &[u8]) -> bool
 pub fn link_matches(criterion: &Criterion, item: &Item) -> bool
     ensures { result ≡ model.link_matches criterion.now item.now }
 {
-    let name = criterion.name.as_bytes();
-    let pattern = criterion.pattern.as_bytes();
+    let name = criterion.name.as_str();
+    let pattern = criterion.pattern.as_str();
     if is_href(name) {
-        return matches_value(pattern, item.target.as_bytes());
+        return matches_value(pattern, item.target.as_str());
     }
     if is_anchor(name) {
         return match &item.anchor {
-            Some(anchor) => matches_value(pattern, anchor.as_bytes()),
+            Some(anchor) => matches_value(pattern, anchor.as_str()),
             None => false,
         };
     }
@@ -64,25 +64,25 @@ pub fn link_matches(criterion: &Criterion, item: &Item) -> bool
 
 /// Whether a criterion of this name and pattern matches the type that each endpoint has.
 #[tactic(auto, using(crate::proofs::EndpointLaws::is_of_type))]
-fn matches_type(name: &[u8], pattern: &[u8]) -> bool
+fn matches_type(name: &str, pattern: &str) -> bool
     ensures { result ≡ (bytes_eq (codes "rt") name.now && model.matches_named name.now pattern.now model.endpoint_type) }
 {
-    name == b"rt".as_slice() && matches_value(pattern, b"core.rd-ep")
+    name == "rt" && matches_value(pattern, "core.rd-ep")
 }
 
 /// Whether a criterion of this name and pattern matches one of the attributes that each endpoint has: its base, its
 /// name, its sector where it has one, and its type.
-fn matches_own(name: &[u8], pattern: &[u8], record_of: &Record) -> bool
+fn matches_own(name: &str, pattern: &str, record_of: &Record) -> bool
     ensures { result ≡ model.matches_pairs (record { name = name.now; pattern = pattern.now }) (listing_model.own_pairs record_of.now) }
 {
-    if matches_attribute(name, pattern, b"base", record_of.base.as_bytes()) {
+    if matches_attribute(name, pattern, "base", record_of.base.as_str()) {
         return true;
     }
-    if matches_attribute(name, pattern, b"ep", record_of.name.ep.as_bytes()) {
+    if matches_attribute(name, pattern, "ep", record_of.name.ep.as_str()) {
         return true;
     }
     if let Some(sector) = &record_of.name.sector {
-        if matches_attribute(name, pattern, b"d", sector.as_bytes()) {
+        if matches_attribute(name, pattern, "d", sector.as_str()) {
             return true;
         }
     }
@@ -90,12 +90,10 @@ fn matches_own(name: &[u8], pattern: &[u8], record_of: &Record) -> bool
 }
 
 /// Whether the pattern matches the location of the registration.
-fn matches_location(pattern: &[u8], number: u64) -> bool
+fn matches_location(pattern: &str, number: u64) -> bool
     ensures { result ≡ model.matches_value pattern.now (model.location number) }
 {
-    let mut octets = [0; ROOM];
-    let start = write_location(number, &mut octets);
-    matches_value(pattern, &octets[start..])
+    matches_value(pattern, location_of(number).as_str())
 }
 
 /// Whether the criterion matches the endpoint by itself: `href` by its location, and any other name by its base, its
@@ -104,8 +102,8 @@ fn matches_location(pattern: &[u8], number: u64) -> bool
 pub fn endpoint_matches(criterion: &Criterion, record_of: &Record) -> bool
     ensures { result ≡ model.endpoint_matches criterion.now record_of.now }
 {
-    let name = criterion.name.as_bytes();
-    let pattern = criterion.pattern.as_bytes();
+    let name = criterion.name.as_str();
+    let pattern = criterion.pattern.as_str();
     if is_href(name) {
         return matches_location(pattern, record_of.number);
     }

@@ -1,22 +1,21 @@
 //! The location of a registration, as it stands in a link (RFC 9176 section 5).
-ghost use Rattle.std.specs.Prelude.{◌≡◌, ◌≤◌, drop};
+ghost use Rattle.std.specs.Prelude.{◌≡◌};
 ghost use Rattle.record_model.specs.Matching as model;
 
-use itoa::write_digits;
+use arrayvec::ArrayString;
+use itoa::Buffer;
 
 /// The octets that a location has at most: its path, and the digits of a number of 64 bits.
 pub const ROOM: usize = 24;
 
-/// Writes the location to the end of the octets, and answers where it begins.
-pub fn write_location(number: u64, into: &mut [u8; ROOM]) -> usize
-    ensures within { result ≤ 20 }
-    ensures text { drop result into.new ≡ model.location number }
+/// The location of the registration of this number. Takes no memory.
+#[tactic(auto, unfolding(record_model::specs::Matching::location))]
+pub fn location_of(number: u64) -> ArrayString<ROOM>
+    ensures { result.bytes ≡ model.location number }
 {
-    let digits = write_digits(number, into, ROOM);
-    let start = digits - 4;
-    into[start + 3] = b'/';
-    into[start + 2] = b'd';
-    into[start + 1] = b'r';
-    into[start] = b'/';
-    start
+    let mut digits = Buffer::new();
+    let mut location = ArrayString::new();
+    location.push_str("/rd/");
+    location.push_str(digits.format(number));
+    location
 }

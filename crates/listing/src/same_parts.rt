@@ -11,7 +11,7 @@ ghost use Rattle.listing.specs.Views.{FirstListed, left};
 ghost use Rattle.listing.specs.ListedLinks.{listed_endpoint, listed_lines};
 
 use crate::criteria::{endpoint_listed, is_listed, judge};
-use crate::locations::{ROOM, write_location};
+use crate::locations::location_of;
 use crate::octets::{Octets, octets_of, same_octets};
 use crate::pieces::{endpoint_pieces, link_pieces};
 use rd_base::{Criterion, Item, Kind, Query, Record, Text};
@@ -125,12 +125,10 @@ fn endpoint_octets<'a>(record_of: &'a Record, location: &'a [u8]) -> Octets<'a>
 fn same_endpoint(old: &Record, new: &Record) -> bool
     ensures { result ≡ bytes_eq (listing_model.endpoint_line old.now) (listing_model.endpoint_line new.now) }
 {
-    let mut old_octets = [0; ROOM];
-    let old_start = write_location(old.number, &mut old_octets);
-    let mut new_octets = [0; ROOM];
-    let new_start = write_location(new.number, &mut new_octets);
-    let mut old_line = endpoint_octets(old, &old_octets[old_start..]);
-    let mut new_line = endpoint_octets(new, &new_octets[new_start..]);
+    let old_location = location_of(old.number);
+    let new_location = location_of(new.number);
+    let mut old_line = endpoint_octets(old, old_location.as_str().as_bytes());
+    let mut new_line = endpoint_octets(new, new_location.as_str().as_bytes());
     same_octets(&mut old_line, &mut new_line)
 }
 
