@@ -43,7 +43,7 @@ impl Observer {
     pub(crate) fn is_named(&self, peer: &Peer, token: &Token) -> bool
         ensures { result ≡ is_named peer.now token.now self.now }
     {
-        *peer == self.peer && *token == self.token
+        *token == self.token && *peer == self.peer
     }
 
     /// Whether it is due.

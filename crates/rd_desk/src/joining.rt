@@ -57,7 +57,7 @@ impl Joining {
 fn is_of(observer: &Observer, peer: &Peer, token: &Token) -> bool
     ensures { result ≡ is_named peer.now token.now observer.now }
 {
-    *peer == observer.peer && *token == observer.token
+    *token == observer.token && *peer == observer.peer
 }
 
 /// The place of the query of the observer of a peer and a token, where there is one.
