@@ -33,7 +33,7 @@ fn same_anchor(old: &Option<Text>, new: &Option<Text>) -> bool
 fn same_text(old: &Text, new: &Text) -> bool
     ensures { IsTrue result → old.now ≡ new.now }
 {
-    old.as_bytes() == new.as_bytes()
+    old == new
 }
 
 /// Whether the lines of both links are spelled of the same texts.

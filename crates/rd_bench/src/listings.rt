@@ -54,8 +54,14 @@ fn same_parts(rt: &HostRuntime, name: &'static str, pattern: &str) -> Result<(),
         let mut rounds = Rounds::new(rt.alloc());
         for _ in 0..ROUNDS {
             let start = begin(rt)?;
-            for _ in 0..CALLS {
-                if same_part(&query, Some(&old), Some(&new)) {
+            for call in 0..CALLS {
+                // (in turns, since calls that are alike may be made once)
+                let (one, other) = if call % 2 == 0 {
+                    (&old, &new)
+                } else {
+                    (&new, &old)
+                };
+                if same_part(&query, Some(one), Some(other)) {
                     counted = u64::wrapping_add(counted, 1);
                 }
             }
