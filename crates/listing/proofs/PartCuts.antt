@@ -32,7 +32,3 @@ one_part (c ∷ cs) nowhere some = ap (λ (texts : List (List ℕ)). filter (λ 
 pub part_before : (value front back : List ℕ) → value ≡ front ++ space ∷ back → HasNoSpace front → front ≢ [] → parts_of value ≡ front ∷ parts_of back
 part_before value [] back e nowhere some = absurd (some refl)
 part_before value (c ∷ cs) back e nowhere some = ap parts_of e ∙ ap (λ (texts : List (List ℕ)). filter (λ part. not (is_empty part)) texts) (cut (c ∷ cs) back nowhere)
-
--- or nothing
-pub nothing_before : (value back : List ℕ) → value ≡ [] ++ space ∷ back → parts_of value ≡ parts_of back
-nothing_before value back e = ap parts_of e
