@@ -20,6 +20,10 @@ ascends_changed {K} {V} {R} o gives es key es' up h = subst (λ xs. IsAscending 
     by None = ascends_remove R (is_at (R key)) es up
     by (Some v) = ascends_insert o key v es up
 
+-- equal pairs are changed alike
+pub changed_alike : {K V : Type 0} (R : K → K → Ordering) (gives : Option V → Option V → Type 0) {es es' fs fs' : List (K × V)} (key : K) → es ≡ fs → es' ≡ fs' → IsChanged R gives es key es' → IsChanged R gives fs key fs'
+changed_alike R gives {es} {es'} {fs} {fs'} key old new h = subst (λ xs. IsChanged R gives xs key fs') old (subst (λ xs. IsChanged R gives es key xs) new h)
+
 -- ---- how many there are
 
 counted_between : {E : Type 0} (t : Tally) (front middle middle' behind : List E) → IsCounted t (length middle) (length middle') → IsCounted t (length (front ++ (middle ++ behind))) (length (front ++ (middle' ++ behind)))

@@ -5,35 +5,40 @@ ghost use Rattle.std.specs.Map.{lookup};
 ghost use Rattle.std.specs.BTreeMap.{is_at};
 ghost use Rattle.chunk_map.specs.Changes.{IsChanged, IsCounted};
 ghost use Rattle.chunk_map.specs.Sorted.{IsAscending};
-ghost use Rattle.chunk_map.specs.Groups.{chunk_pairs, group_pairs, list_pairs, IsWholeChunk, IsWholeGroup, IsWholeList};
+ghost use Rattle.chunk_map.specs.Groups.{chunk_pairs, group_pairs, section_pairs, list_pairs, IsWholeChunk, IsWholeGroup, IsWholeSection, IsWholeList};
 ghost use Rattle.chunk_map.specs.Levels.{AreWhole, pairs_in};
 
 use crate::change::Tally;
-use crate::part::Part;
-use crate::parts::{MOST_PARTS, changed, copied, get, split};
+use crate::part::{MOST_PARTS, Part};
+use crate::parts::{changed, copied, get, split};
 use crate::{Change, Shared};
 use rd_base::Starved;
 use std::alloc::Global;
 use std::sync::Arc;
 
-/// A chunk: one to 24 pairs, in ascending order of their keys.
+/// A chunk: one pair or more, in ascending order of their keys.
 pub(crate) type Chunk<K, V> = Arc<Vec<(K, V)>>;
 
-/// A group: one to 24 chunks, whose pairs ascend from chunk to chunk.
+/// A group: one to 12 chunks, whose pairs ascend from chunk to chunk.
 pub(crate) type Group<K, V> = Arc<Vec<Chunk<K, V>>>;
 
-/// A section: one to 24 groups, whose pairs ascend from group to group.
+/// A section: one to 12 groups, whose pairs ascend from group to group.
 pub(crate) type Section<K, V> = Arc<Vec<Group<K, V>>>;
+
+/// A division: one to 12 sections, whose pairs ascend from section to section.
+pub(crate) type Division<K, V> = Arc<Vec<Section<K, V>>>;
 
 /// The pairs of a map, in the levels that they need: with too many parts for one list comes one level more.
 #[derive(Drop)]
 pub(crate) enum Levels<K: Ord + Shared, V: Shared> {
-    /// At most 24 chunks.
+    /// At most 12 chunks.
     Chunks(Vec<Chunk<K, V>>),
-    /// At most 24 groups of chunks.
+    /// At most 12 groups of chunks.
     Groups(Vec<Group<K, V>>),
-    /// Sections of groups of chunks, as many as there are.
+    /// At most 12 sections of groups.
     Sections(Vec<Section<K, V>>),
+    /// Divisions of sections, as many as there are.
+    Divisions(Vec<Division<K, V>>),
 }
 
 /// Two parts that have these parts after a change of the value at this key; or one, where they are not too many for one.
@@ -95,6 +100,23 @@ fn over_groups<K: Ord + Shared, V: Shared>(
     Ok(Levels::Sections(sections))
 }
 
+/// Levels over these sections, after a change of the value at this key.
+fn over_sections<K: Ord + Shared, V: Shared>(
+    alloc: Global,
+    sections: Vec<Section<K, V>>,
+    key: &K,
+) -> Result<Levels<K, V>, Starved>
+    requires whole { All IsWholeSection sections.items }
+    ensures pairs { IfOk result (λ levels. pairs_in levels ≡ flat_map section_pairs sections.items) }
+    ensures whole { IfOk result AreWhole }
+{
+    if sections.len() <= MOST_PARTS {
+        return Ok(Levels::Sections(sections));
+    }
+    let divisions = raised(alloc, sections, key)?;
+    Ok(Levels::Divisions(divisions))
+}
+
 impl<K: Ord + Shared, V: Shared> Levels<K, V> {
     /// Levels that show the same pairs, and share all parts.
     pub(crate) fn again(&self, alloc: Global) -> Result<Levels<K, V>, Starved>
@@ -107,6 +129,9 @@ impl<K: Ord + Shared, V: Shared> Levels<K, V> {
             Levels::Groups(groups) => Ok(Levels::Groups(copied(alloc, groups.as_slice())?)),
             Levels::Sections(sections) => {
                 Ok(Levels::Sections(copied(alloc, sections.as_slice())?))
+            }
+            Levels::Divisions(divisions) => {
+                Ok(Levels::Divisions(copied(alloc, divisions.as_slice())?))
             }
         }
     }
@@ -121,6 +146,7 @@ impl<K: Ord + Shared, V: Shared> Levels<K, V> {
             Levels::Chunks(chunks) => get(chunks.as_slice(), key),
             Levels::Groups(groups) => get(groups.as_slice(), key),
             Levels::Sections(sections) => get(sections.as_slice(), key),
+            Levels::Divisions(divisions) => get(divisions.as_slice(), key),
         }
     }
 
@@ -150,7 +176,12 @@ impl<K: Ord + Shared, V: Shared> Levels<K, V> {
             }
             Levels::Sections(sections) => {
                 let (sections, tally) = changed(alloc, sections.as_slice(), key, change)?;
-                Ok((Levels::Sections(sections), tally))
+                let levels = over_sections(alloc, sections, key)?;
+                Ok((levels, tally))
+            }
+            Levels::Divisions(divisions) => {
+                let (divisions, tally) = changed(alloc, divisions.as_slice(), key, change)?;
+                Ok((Levels::Divisions(divisions), tally))
             }
         }
     }

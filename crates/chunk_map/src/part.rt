@@ -9,12 +9,22 @@ ghost use Rattle.chunk_map.specs.Changes.{IsChanged, IsCounted};
 ghost use Rattle.chunk_map.specs.Sorted.{IsAscending, HasAny, begins_by, option_flat};
 
 use crate::change::Tally;
-use crate::parts::{JOINED_PARTS, changed, copied, get, join, split};
+use crate::parts::{changed, copied, get, join, split, three_quarters};
 use crate::{Change, Shared};
 use rd_base::Starved;
 use std::alloc::Global;
 use std::cmp::Ordering;
 use std::sync::Arc;
+
+/// The greatest number of pairs that a chunk keeps where each is numbers alone.
+const MOST_PLAIN_PAIRS: usize = 56;
+
+/// The greatest number of pairs that a chunk keeps where a count is raised for each that is copied.
+const MOST_SHARED_PAIRS: usize = 24;
+
+/// The greatest number of parts that a list of shared parts keeps. Most of what a change of a large map costs is raising and
+/// lowering their counts.
+pub(crate) const MOST_PARTS: usize = 12;
 
 /// A part after a change of the value at a key.
 #[derive(Drop)]
@@ -59,6 +69,10 @@ pub(crate) trait Part<K: Ord + Drop, V: Drop>: Drop {
 
     /// Whether no list in it is empty.
     ghost is_whole: { Self → Type 0 };
+
+    /// The greatest number of such parts that a list keeps: with one more it is split in two.
+    fn most() -> usize
+        ensures { 1 < result };
 
     /// A part that shows one pair.
     fn one(alloc: Global, key: &K, value: V) -> Result<Self, Starved>
@@ -178,6 +192,14 @@ impl<K: Ord + Shared, V: Shared> Part<K, V> for (K, V) {
 
     ghost is_whole = { λ _. Unit {0} };
 
+    fn most() -> usize {
+        if K::is_plain() && V::is_plain() {
+            MOST_PLAIN_PAIRS
+        } else {
+            MOST_SHARED_PAIRS
+        }
+    }
+
     fn one(_: Global, key: &K, value: V) -> Result<(K, V), Starved> {
         let key = key.share()?;
         Ok((key, value))
@@ -242,6 +264,10 @@ impl<K: Ord + Drop, V: Drop, P: Part<K, V>> Part<K, V> for Arc<P> {
 
     ghost is_whole = { λ a. P.is_whole (arc_value a) };
 
+    fn most() -> usize {
+        MOST_PARTS
+    }
+
     fn one(alloc: Global, key: &K, value: V) -> Result<Arc<P>, Starved> {
         let part = P::one(alloc, key, value)?;
         Ok(Arc::new(alloc, part)?)
@@ -300,6 +326,10 @@ impl<K: Ord + Drop, V: Drop, P: Part<K, V>> Part<K, V> for Vec<P> {
 
     ghost is_whole = { λ parts. (0 < length parts.items) × All P.is_whole parts.items };
 
+    fn most() -> usize {
+        MOST_PARTS
+    }
+
     fn one(alloc: Global, key: &K, value: V) -> Result<Vec<P>, Starved> {
         let part = P::one(alloc, key, value)?;
         let mut parts = Vec::with_capacity(alloc, 1)?;
@@ -342,7 +372,7 @@ impl<K: Ord + Drop, V: Drop, P: Part<K, V>> Part<K, V> for Vec<P> {
     }
 
     fn joined(&self, alloc: Global, next: &Vec<P>) -> Result<Option<Vec<P>>, Starved> {
-        if usize::saturating_add(self.len(), next.len()) > JOINED_PARTS {
+        if usize::saturating_add(self.len(), next.len()) > three_quarters(P::most()) {
             return Ok(None);
         }
         let joined = join(alloc, self.as_slice(), next.as_slice())?;

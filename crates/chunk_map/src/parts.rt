@@ -1,10 +1,9 @@
 //! Lists of parts: the parts of a chunk, of a group, of a section and of a map.
-ghost use Rattle.std.specs.Prelude.{◌≡◌, ◌<◌, ◌+◌, List, [], ◌∷◌, ◌++◌, length, take, drop, IfOk, OnOk, IfSome, IfNone, option_map};
+ghost use Rattle.std.specs.Prelude.{◌≡◌, ◌<◌, ◌≤◌, ◌+◌, List, [], ◌∷◌, ◌++◌, length, take, drop, IfOk, OnOk, IfSome, IfNone, option_map};
 ghost use Rattle.std.specs.List.{All, flat_map};
 ghost use Rattle.std.specs.Map.{lookup, remove_entry};
 ghost use Rattle.std.specs.BTreeMap.{insert_entry, is_at};
 ghost use Rattle.std.specs.BTreeMap.Range.{entries_from};
-ghost use Rattle.chunk_map.specs.declared.parts.TheConstants.{MOST_PARTS};
 ghost use Rattle.chunk_map.specs.Changes.{IsChanged, IsCounted};
 ghost use Rattle.chunk_map.specs.Sorted.{IsAscending, AllGreater, AllLess, option_flat};
 ghost use Rattle.chunk_map.specs.Groups.{list_pairs, IsWholeList};
@@ -16,18 +15,16 @@ use rd_base::Starved;
 use std::alloc::Global;
 use std::sync::Arc;
 
-/// The greatest number of parts that a list keeps: with one more it is split in two.
-pub(crate) const MOST_PARTS: usize = 24;
-
-/// How many parts the first list keeps when a list that was not changed in its last part is split in two.
-const SPLIT_PARTS: usize = 12;
-
-/// How many parts the first list keeps when a list that was changed in its last part is split in two. So lists that are
-/// filled in ascending order are three quarters full: fuller ones would be fewer, but a change copies one of them.
-const END_PARTS: usize = 18;
-
-/// The greatest number of parts together with which two lists that stand side by side are joined.
-pub(crate) const JOINED_PARTS: usize = 18;
+/// Three quarters of the greatest number of parts that a list keeps. With at most so many together two lists that stand
+/// side by side are joined. A list that was changed in its last part keeps so many when it is split in two: so lists that
+/// are filled in ascending order are three quarters full; fuller ones would be fewer, but a change copies one of them.
+pub(crate) fn three_quarters(most: usize) -> usize
+    requires { 1 < most }
+    ensures any { 0 < result }
+    ensures within { result ≤ most }
+{
+    most - most / 4
+}
 
 /// The index of the part where this key stands, or would stand.
 pub(crate) fn find<K: Ord + Drop, V: Drop, P: Part<K, V>>(parts: &[P], key: &K) -> usize
@@ -318,17 +315,19 @@ pub(crate) fn changed<K: Ord + Drop, V: Drop, P: Part<K, V>, C: Change<V>>(
     Ok((changed, tally))
 }
 
-/// How many parts the first list keeps when a list with too many is split in two after a change of the value at this key.
-fn front_count<K: Ord + Drop, V: Drop, P: Part<K, V>>(parts: &[P], key: &K) -> usize
-    requires many { MOST_PARTS < length parts.now }
+/// How many parts the first list keeps when a list with more than so many is split in two after a change of the value at
+/// this key.
+fn front_count<K: Ord + Drop, V: Drop, P: Part<K, V>>(parts: &[P], most: usize, key: &K) -> usize
+    requires some { 1 < most }
+    requires many { most < length parts.now }
     requires whole { All P.is_whole parts.now }
     ensures any { 0 < result }
     ensures within { result < length parts.now }
 {
     if parts[parts.len() - 1].begins_by(key) {
-        END_PARTS
+        three_quarters(most)
     } else {
-        SPLIT_PARTS
+        most / 2
     }
 }
 
@@ -343,10 +342,11 @@ pub(crate) fn split<K: Ord + Drop, V: Drop, P: Part<K, V>>(
     ensures any { IfOk result (λ split. (0 < length split.0.items) × IfSome split.1 (λ back. 0 < length back.items)) }
     ensures whole { IfOk result (λ split. All P.is_whole split.0.items × IfSome split.1 (λ back. All P.is_whole back.items)) }
 {
-    if parts.len() <= MOST_PARTS {
+    let most = P::most();
+    if parts.len() <= most {
         return Ok((parts, None));
     }
-    let count = front_count(parts.as_slice(), key);
+    let count = front_count(parts.as_slice(), most, key);
     let back = parts.split_off(count)?;
     Ok((parts, Some(back)))
 }

@@ -8,6 +8,11 @@ pub trait Shared: Drop {
     /// An equal value.
     fn share(&self) -> Result<Self, Starved>
         ensures { IfOk result (λ equal. equal ≡ self.now) };
+
+    /// Whether a value is numbers alone, so that an equal one costs nothing: chunks of such pairs are larger.
+    fn is_plain() -> bool {
+        false
+    }
 }
 
 /// A number costs nothing.
@@ -15,11 +20,19 @@ impl Shared for u64 {
     fn share(&self) -> Result<u64, Starved> {
         Ok(*self)
     }
+
+    fn is_plain() -> bool {
+        true
+    }
 }
 
 /// The value of a map that is a set of its keys.
 impl Shared for () {
     fn share(&self) -> Result<(), Starved> {
         Ok(())
+    }
+
+    fn is_plain() -> bool {
+        true
     }
 }

@@ -3,7 +3,7 @@
 ghost use Rattle.std.specs.Prelude.{◌≡◌, ◌<◌};
 
 use super::*;
-use crate::levels::{Group, Levels};
+use crate::levels::{Group, Levels, Section};
 use rd_base::{Starved, Steps};
 use std::alloc::Global;
 use std::collections::BTreeMap;
@@ -111,7 +111,7 @@ fn versions_stay(rt: HostRuntime) -> Result<(), Fail> {
 /// The keys of these changes, as many as chunks and groups need to be split and joined.
 const CHANGES: u64 = 2000;
 
-/// Pseudo-random keys, put and taken beside std's map; and ascending and descending ones.
+/// Pseudo-random keys, put and taken beside std's map.
 #[test]
 fn as_a_plain_map(rt: HostRuntime) -> Result<(), Fail> {
     let mut map = ChunkMap::empty(rt.alloc())?;
@@ -138,24 +138,49 @@ fn as_a_plain_map(rt: HostRuntime) -> Result<(), Fail> {
     }
     let pairs = pairs_from::<Brand>(Blank::new(1), rt.alloc(), &map, 0)?;
     assert_eq!(rt; pairs.as_slice(), want.as_slice());
-    for key in 0..6000 {
+    Ok(())
+}
+
+/// How many keys need each level.
+const KEYS: u64 = 45_000;
+
+/// Keys in ascending order, as many as need each level; and taken again in descending order.
+#[test]
+fn keys_in_all_levels(rt: HostRuntime) -> Result<(), Fail> {
+    let mut map = ChunkMap::empty(rt.alloc())?;
+    for key in 0..KEYS {
         map = map.put(key, key)?;
     }
-    assert_eq!(rt; map.len(), 6000);
-    for key in 0..6000 {
-        map = map.take(&u64::wrapping_sub(5999, key))?;
+    assert_eq!(rt; map.len(), KEYS);
+    assert!(rt; matches!(map.levels(), Levels::Divisions(_)));
+    for from in [0, 1, 44_000, 44_999] {
+        let pairs = pairs_from::<Brand>(Blank::new(1), rt.alloc(), &map, from)?;
+        let mut want = Vec::new(rt.alloc());
+        for key in from..KEYS {
+            want.push(key)?;
+            want.push(key)?;
+        }
+        assert_eq!(rt; pairs.as_slice(), want.as_slice());
+    }
+    for key in 0..KEYS {
+        map = map.take(&(KEYS - 1 - key))?;
     }
     assert_eq!(rt; map.len(), 0);
     Ok(())
 }
 
-/// How many pairs are put, and how many of them are taken again.
-const PUTS: u64 = 10_000;
+/// A value that is not plain.
+#[derive(Drop)]
+struct Counted;
 
-const TAKES: u64 = 9_900;
+impl Shared for Counted {
+    fn share(&self) -> Result<Counted, Starved> {
+        Ok(Counted)
+    }
+}
 
 /// How many chunks groups have.
-fn chunks_in(groups: &[Group<u64, ()>]) -> usize {
+fn chunks_in<V: Shared>(groups: &[Group<u64, V>]) -> usize {
     let mut count = 0;
     for group in groups {
         count = usize::saturating_add(count, group.len());
@@ -163,64 +188,100 @@ fn chunks_in(groups: &[Group<u64, ()>]) -> usize {
     count
 }
 
+/// How many chunks sections have.
+fn chunks_of<V: Shared>(sections: &[Section<u64, V>]) -> usize {
+    let mut count = 0;
+    for section in sections {
+        count = usize::saturating_add(count, chunks_in(section.as_slice()));
+    }
+    count
+}
+
 /// How many chunks there are.
-fn count_chunks(levels: &Levels<u64, ()>) -> usize {
+fn count_chunks<V: Shared>(levels: &Levels<u64, V>) -> usize {
     match levels {
         Levels::Chunks(chunks) => chunks.len(),
         Levels::Groups(groups) => chunks_in(groups.as_slice()),
-        Levels::Sections(sections) => {
+        Levels::Sections(sections) => chunks_of(sections.as_slice()),
+        Levels::Divisions(divisions) => {
             let mut count = 0;
-            for section in sections {
-                count = usize::saturating_add(count, chunks_in(section.as_slice()));
+            for division in divisions {
+                count = usize::saturating_add(count, chunks_of(division.as_slice()));
             }
             count
         }
     }
 }
 
-/// Small chunks are joined: where most pairs were taken, chunks are at least a quarter full on the whole.
-#[test]
-fn chunks_are_joined(rt: HostRuntime) -> Result<(), Fail> {
-    let mut map = ChunkMap::empty(rt.alloc())?;
+/// How many pairs are put, and how many of them are taken again.
+const PUTS: u64 = 10_000;
+
+const TAKES: u64 = 9_900;
+
+/// A map of which most pairs were taken.
+fn mostly_taken<V: Shared>(alloc: Global, value: &V) -> Result<ChunkMap<u64, V>, Starved> {
+    let mut map = ChunkMap::empty(alloc)?;
     for key in 0..PUTS {
-        map = map.put(key, ())?;
+        map = map.put(key, value.share()?)?;
     }
     for take in 0..TAKES {
         map = map.take(&(u64::wrapping_mul(take, 7919) % PUTS))?;
     }
-    assert_eq!(rt; map.len(), 100);
-    let chunks = count_chunks(map.levels());
-    assert!(rt; chunks <= 16, "{chunks}");
-    Ok(())
+    Ok(map)
 }
 
-/// Where keys were put in ascending order, chunks are three quarters full.
-#[test]
-fn ascending_puts_fill_chunks(rt: HostRuntime) -> Result<(), Fail> {
-    let mut map = ChunkMap::empty(rt.alloc())?;
+/// A map whose keys were put in ascending order.
+fn put_in_order<V: Shared>(alloc: Global, value: &V) -> Result<ChunkMap<u64, V>, Starved> {
+    let mut map = ChunkMap::empty(alloc)?;
     for key in 0..1800 {
-        map = map.put(key, ())?;
+        map = map.put(key, value.share()?)?;
     }
-    let chunks = count_chunks(map.levels());
-    assert!(rt; chunks <= 100, "{chunks}");
-    Ok(())
+    Ok(map)
 }
 
-/// Where short runs of ascending keys were put between two chunks, each run before the last one, chunks are at least a quarter
-/// full on the whole.
-#[test]
-fn runs_between_chunks(rt: HostRuntime) -> Result<(), Fail> {
-    let mut map = ChunkMap::empty(rt.alloc())?;
-    for number in 0..25 {
-        map = map.put(u64::wrapping_mul(number, 1000), ())?;
+/// A map where short runs of ascending keys were put between two chunks, each run before the last one.
+fn put_in_runs<V: Shared>(alloc: Global, value: &V) -> Result<ChunkMap<u64, V>, Starved> {
+    let mut map = ChunkMap::empty(alloc)?;
+    for number in 0..57 {
+        map = map.put(u64::wrapping_mul(number, 1000), value.share()?)?;
     }
     for number in 0..980 {
-        let first = u64::wrapping_sub(17_990, u64::wrapping_mul(number / 7, 7));
-        map = map.put(u64::wrapping_add(first, number % 7), ())?;
+        let first = u64::wrapping_sub(50_990, u64::wrapping_mul(number / 7, 7));
+        map = map.put(u64::wrapping_add(first, number % 7), value.share()?)?;
     }
-    let chunks = count_chunks(map.levels());
-    assert_eq!(rt; map.len(), 1005);
-    assert!(rt; chunks <= 167, "{chunks}");
+    Ok(map)
+}
+
+/// How many pairs and how many chunks a map has.
+fn counts<V: Shared>(map: &ChunkMap<u64, V>) -> (u64, usize) {
+    (map.len(), count_chunks(map.levels()))
+}
+
+/// The pairs and the chunks of maps with this value: one of which most was taken, one in order, and one in runs.
+fn all_counts<V: Shared>(
+    alloc: Global,
+    value: &V,
+) -> Result<((u64, usize), (u64, usize), (u64, usize)), Starved> {
+    let taken = counts(&mostly_taken(alloc, value)?);
+    let ordered = counts(&put_in_order(alloc, value)?);
+    let runs = counts(&put_in_runs(alloc, value)?);
+    Ok((taken, ordered, runs))
+}
+
+/// Chunks keep 56 pairs of numbers, and 24 others: where pairs were put in ascending order they are three quarters full on
+/// the whole, and at least a quarter wherever pairs were put and taken.
+#[test]
+fn chunks_are_full(rt: HostRuntime) -> Result<(), Fail> {
+    let (taken, ordered, runs) = all_counts(rt.alloc(), &())?;
+    assert_eq!(rt; (taken.0, ordered.0, runs.0), (100, 1800, 1037));
+    assert!(rt; taken.1 <= 7, "{}", taken.1);
+    assert!(rt; ordered.1 <= 43, "{}", ordered.1);
+    assert!(rt; runs.1 <= 74, "{}", runs.1);
+    let (taken, ordered, runs) = all_counts(rt.alloc(), &Counted)?;
+    assert_eq!(rt; (taken.0, ordered.0, runs.0), (100, 1800, 1037));
+    assert!(rt; taken.1 <= 16, "{}", taken.1);
+    assert!(rt; ordered.1 <= 100, "{}", ordered.1);
+    assert!(rt; runs.1 <= 172, "{}", runs.1);
     Ok(())
 }
 

@@ -25,6 +25,10 @@ impl Shared for NameSlot {
     fn share(&self) -> Result<NameSlot, Starved> {
         Ok(*self)
     }
+
+    fn is_plain() -> bool {
+        true
+    }
 }
 
 /// The number that a hash begins with (FNV-1a, 64 bits).

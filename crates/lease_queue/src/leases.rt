@@ -20,6 +20,10 @@ impl Shared for Lease {
     fn share(&self) -> Result<Lease, Starved> {
         Ok(*self)
     }
+
+    fn is_plain() -> bool {
+        true
+    }
 }
 
 /// Whether the lease has lapsed at this moment, which may be that of its lapse.
