@@ -144,7 +144,7 @@ fn as_a_plain_map(rt: HostRuntime) -> Result<(), Fail> {
 /// How many keys need each level.
 const KEYS: u64 = 45_000;
 
-/// Keys in ascending order, as many as need each level; and taken again in descending order.
+/// As many keys as need each level, put in ascending order and taken in descending order, and the other way round.
 #[test]
 fn keys_in_all_levels(rt: HostRuntime) -> Result<(), Fail> {
     let mut map = ChunkMap::empty(rt.alloc())?;
@@ -164,6 +164,15 @@ fn keys_in_all_levels(rt: HostRuntime) -> Result<(), Fail> {
     }
     for key in 0..KEYS {
         map = map.take(&(KEYS - 1 - key))?;
+    }
+    assert_eq!(rt; map.len(), 0);
+    for key in 0..KEYS {
+        map = map.put(KEYS - 1 - key, key)?;
+    }
+    assert_eq!(rt; map.len(), KEYS);
+    assert_eq!(rt; map.get(&0), Some(&(KEYS - 1)));
+    for key in 0..KEYS {
+        map = map.take(&key)?;
     }
     assert_eq!(rt; map.len(), 0);
     Ok(())

@@ -9,7 +9,7 @@ use std::marker::Brand;
 use std::sync::ledger::{Blank, Ledger};
 
 /// How many entries stand in the index.
-const SIZES: [u64; 4] = [64, 1_024, 4_096, 25_000];
+const SIZES: [u64; 5] = [64, 1_024, 4_096, 25_000, 100_000];
 
 /// How many calls a round makes.
 const CALLS: u64 = 1_000;
