@@ -56,9 +56,10 @@ impl Conversation {
     {
         write_line(page, self.alloc, &line)?;
         match done(&mut self.machine, line)? {
-            None => write_sent(page, self.alloc, self.machine.sent()),
-            Some(why) => write_bad(page, self.lines, why),
+            None => write_sent(page, self.alloc, self.machine.sent())?,
+            Some(why) => write_bad(page, self.lines, why)?,
         }
+        Ok(())
     }
 
     /// What a line of the trace says and what the directory sends then; of a bad line its number and why. The conversation goes on after a bad line, which changes nothing. `Starved`: out of memory;
