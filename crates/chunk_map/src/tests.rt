@@ -248,14 +248,15 @@ fn put_in_order<V: Shared>(alloc: Global, value: &V) -> Result<ChunkMap<u64, V>,
     Ok(map)
 }
 
-/// A map where short runs of ascending keys were put between two chunks, each run before the last one.
+/// A map where short runs of ascending keys were put between two chunks, each run before the last one: a chunk begins with
+/// key 126,000, since 126 is a multiple of 42 and of 18.
 fn put_in_runs<V: Shared>(alloc: Global, value: &V) -> Result<ChunkMap<u64, V>, Starved> {
     let mut map = ChunkMap::empty(alloc)?;
-    for number in 0..57 {
+    for number in 0..141 {
         map = map.put(u64::wrapping_mul(number, 1000), value.share()?)?;
     }
     for number in 0..980 {
-        let first = u64::wrapping_sub(50_990, u64::wrapping_mul(number / 7, 7));
+        let first = u64::wrapping_sub(125_990, u64::wrapping_mul(number / 7, 7));
         map = map.put(u64::wrapping_add(first, number % 7), value.share()?)?;
     }
     Ok(map)
@@ -282,15 +283,15 @@ fn all_counts<V: Shared>(
 #[test]
 fn chunks_are_full(rt: HostRuntime) -> Result<(), Fail> {
     let (taken, ordered, runs) = all_counts(rt.alloc(), &())?;
-    assert_eq!(rt; (taken.0, ordered.0, runs.0), (100, 1800, 1037));
+    assert_eq!(rt; (taken.0, ordered.0, runs.0), (100, 1800, 1121));
     assert!(rt; taken.1 <= 7, "{}", taken.1);
     assert!(rt; ordered.1 <= 43, "{}", ordered.1);
-    assert!(rt; runs.1 <= 74, "{}", runs.1);
+    assert!(rt; runs.1 <= 80, "{}", runs.1);
     let (taken, ordered, runs) = all_counts(rt.alloc(), &Counted)?;
-    assert_eq!(rt; (taken.0, ordered.0, runs.0), (100, 1800, 1037));
+    assert_eq!(rt; (taken.0, ordered.0, runs.0), (100, 1800, 1121));
     assert!(rt; taken.1 <= 16, "{}", taken.1);
     assert!(rt; ordered.1 <= 100, "{}", ordered.1);
-    assert!(rt; runs.1 <= 172, "{}", runs.1);
+    assert!(rt; runs.1 <= 186, "{}", runs.1);
     Ok(())
 }
 
