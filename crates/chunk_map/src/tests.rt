@@ -108,10 +108,11 @@ fn versions_stay(rt: HostRuntime) -> Result<(), Fail> {
     Ok(())
 }
 
-/// The keys of these changes, as many as chunks and groups need to be split and joined.
-const CHANGES: u64 = 2000;
+/// How many changes there are: as many as chunks and groups need to be split and joined.
+const CHANGES: u64 = 8000;
 
-/// Pseudo-random keys, put and taken beside std's map.
+/// Pseudo-random keys, put and taken beside std's map. Of eight changes one is a take in the first half, and seven in the
+/// second.
 #[test]
 fn as_a_plain_map(rt: HostRuntime) -> Result<(), Fail> {
     let mut map = ChunkMap::empty(rt.alloc())?;
@@ -120,8 +121,9 @@ fn as_a_plain_map(rt: HostRuntime) -> Result<(), Fail> {
     for change in 0..CHANGES {
         drawn = u64::wrapping_mul(drawn, 6_364_136_223_846_793_005);
         drawn = u64::wrapping_add(drawn, 1_442_695_040_888_963_407);
-        let key = (drawn >> 40) % 700;
-        if (drawn >> 60) % 3 == 0 {
+        let key = (drawn >> 40) % 2000;
+        let takes = if change < CHANGES / 2 { 1 } else { 7 };
+        if (drawn >> 60) % 8 < takes {
             map = map.take(&key)?;
             plain.remove(&key);
         } else {
