@@ -9,6 +9,3 @@ mod values;
 
 pub use carriers::Carriers;
 pub use index::AttributeIndex;
-
-#[cfg(test)]
-mod tests;

@@ -9,6 +9,3 @@ pub use message_model::Block;
 pub use slices::{block_size, slice_of};
 pub use uint_values::{uint_of, uint_write};
 pub use values::{Szx7, block_read, block_write};
-
-#[cfg(test)]
-mod tests;

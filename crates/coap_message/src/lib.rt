@@ -16,6 +16,3 @@ pub use options::{Opt, OptionsIter, options_of};
 pub use roles::role_of;
 pub use views::View;
 pub use writers::{TooLong, Writer};
-
-#[cfg(test)]
-mod tests;

@@ -22,6 +22,3 @@ pub use methods::allowed;
 pub use option_walks::meaning;
 pub use requests::request;
 pub use values::{EtagIter, QueryIter, etags, queries};
-
-#[cfg(test)]
-mod tests;

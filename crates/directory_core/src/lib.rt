@@ -26,6 +26,3 @@ pub use boards::{Board, NoBoard};
 pub use directory::Directory;
 pub use lapsing::LapsingIter;
 pub use refusals::Refusal;
-
-#[cfg(test)]
-mod tests;

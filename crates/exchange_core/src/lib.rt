@@ -13,6 +13,3 @@ pub use octets::{Octets, Reply, Token};
 pub use resends::{Again, Resend, Sent};
 pub use table::Exchanges;
 pub use writes::{Exchange, Keyed};
-
-#[cfg(test)]
-mod tests;

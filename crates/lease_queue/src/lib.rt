@@ -8,6 +8,3 @@ mod queue;
 pub use lapses::LapsedIter;
 pub use leases::Lease;
 pub use queue::{LeaseQueue, Swept};
-
-#[cfg(test)]
-mod tests;

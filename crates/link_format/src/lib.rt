@@ -16,6 +16,3 @@ pub use documents::{LinkBad, check};
 pub use links::{LinkRef, Links, params};
 pub use parameters::{Param, Params};
 pub use values::{quoted, value_of};
-
-#[cfg(test)]
-mod tests;

@@ -16,6 +16,3 @@ pub use own_links::{discovery, page_bounds};
 pub use parts::lines;
 pub use patterns::{before_wildcard, first_part, is_list_name, matches_named, matches_value};
 pub use same_parts::same_part;
-
-#[cfg(test)]
-mod tests;

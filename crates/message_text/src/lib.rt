@@ -8,6 +8,3 @@ mod options;
 mod table;
 
 pub use messages::write_datagram;
-
-#[cfg(test)]
-mod tests;

@@ -7,6 +7,3 @@ mod walks;
 
 pub use observer::Observer;
 pub use table::{FullObservers, Observers};
-
-#[cfg(test)]
-mod tests;

@@ -17,6 +17,3 @@ pub use lookups::lookup_query;
 pub use parameters::{reg_params, update_params};
 pub use rd_base::Pieces;
 pub use record_model::{Reading, Why};
-
-#[cfg(test)]
-mod tests;

@@ -42,8 +42,3 @@ pub use submitted_links::{SubmittedLink, SubmittedLinks};
 pub use sure_ends::{SureSink, SureSource};
 pub use tags::Tag;
 pub use texts::Text;
-
-#[cfg(test)]
-mod copies_tests;
-#[cfg(test)]
-mod ends_tests;

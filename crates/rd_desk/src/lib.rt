@@ -59,12 +59,3 @@ pub use requests::is_look;
 pub use steps::Stepped;
 pub use watchers::Watcher;
 pub use write_jobs::WriteJob;
-
-#[cfg(test)]
-mod desk_tests;
-#[cfg(test)]
-mod stories;
-#[cfg(test)]
-mod tests;
-#[cfg(test)]
-mod watching_tests;

@@ -17,6 +17,3 @@ pub use machine::Machine;
 pub use replays::{replay, report};
 pub use trace_text::{LineBad, Reason};
 pub use troubles::Trouble;
-
-#[cfg(test)]
-mod tests;

@@ -11,6 +11,3 @@ mod resolution;
 pub use components::Parts;
 pub use references::{RefBad, host, is_uri, parts};
 pub use resolution::resolve;
-
-#[cfg(test)]
-mod tests;

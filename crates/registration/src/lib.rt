@@ -11,6 +11,3 @@ mod weights;
 pub use drafts::{Draft, DraftFault, build};
 pub use other_bases::rebased;
 pub use weights::weight;
-
-#[cfg(test)]
-mod tests;

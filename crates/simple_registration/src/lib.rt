@@ -12,6 +12,3 @@ pub use asks::Ask;
 pub use hearing::Heard;
 pub use starts::StartFault;
 pub use table::Fetches;
-
-#[cfg(test)]
-mod tests;

@@ -15,6 +15,3 @@ pub use line_model::{Line, LineBad, Reason};
 pub use line_parser::line_read;
 pub use line_printer::{line_print, out_print};
 pub use numbers::number_read;
-
-#[cfg(test)]
-mod tests;

@@ -14,6 +14,3 @@ pub use kept::Kept;
 pub use named::{Answer, Answers};
 pub use readiness::Ready;
 pub use table::Transfers;
-
-#[cfg(test)]
-mod tests;

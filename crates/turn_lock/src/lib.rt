@@ -12,6 +12,3 @@ pub use lock::{Ended, TurnLock, Unmade, seen_in_order};
 pub use rows::{Added, Replays};
 pub use seats::{Pass, Passes};
 pub use views::View;
-
-#[cfg(test)]
-mod tests;

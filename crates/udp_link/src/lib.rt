@@ -19,8 +19,3 @@ pub use links::{Came, Link, MAX_DATAGRAM, Went};
 pub use memory_clock::MemClock;
 pub use memory_link::MemLink;
 pub use udp_ends::{UdpClock, UdpLink};
-
-#[cfg(test)]
-mod memory_tests;
-#[cfg(test)]
-mod udp_tests;

@@ -18,8 +18,3 @@ pub use looker::Looker;
 pub use lookers::Lookers;
 pub use opening::board;
 pub use publisher::Publisher;
-
-#[cfg(test)]
-mod sample_boards;
-#[cfg(test)]
-mod tests;

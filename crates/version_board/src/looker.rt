@@ -104,19 +104,3 @@ impl Looker {
         }
     }
 }
-
-#[cfg(test)]
-impl Looker {
-    /// Its reader.
-    pub(crate) fn into_reader(self) -> BoardReader
-        ensures { (view result.place).known ≡ true }
-    {
-        let Looker {
-            reader: held,
-            front: _front,
-            entries: _,
-        } = self;
-        let Some(reader) = held else { unreachable!() };
-        reader
-    }
-}

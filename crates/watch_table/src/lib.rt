@@ -9,6 +9,3 @@ mod watch;
 
 pub use faults::WatchFault;
 pub use table::WatchTable;
-
-#[cfg(test)]
-mod tests;

@@ -1,5 +1,0 @@
-use Rattle.std.proofs.Common.{length}
-use Rattle.lease_queue.proofs.tests.lapsed_numbers.Given as goal
-
-abbrev pub decreases-loop-number : goal.decreases-loop-number
-decreases-loop-number g l = length l.lapsed

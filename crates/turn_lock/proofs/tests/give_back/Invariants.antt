@@ -1,6 +1,0 @@
-use Rattle.std.proofs.Common.{Some}
-use Rattle.turn_lock.specs.Shown.{number_of}
-use Rattle.turn_lock.proofs.tests.give_back.Given as goal
-
-abbrev pub ghosts-give : goal.ghosts-give
-ghosts-give a = record { added = Some (record { by = number_of a.pass.now }) }
