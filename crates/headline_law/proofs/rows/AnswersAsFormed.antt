@@ -19,8 +19,7 @@ use Rattle.journal_model.specs.Rows.{effects, row_moment, row}
 use Rattle.journal_model.specs.Machine.{MayMake, MayBegin, IsJournal, begun, made}
 use Rattle.journal_model.specs.BodyFormers.{former_of_body}
 use Rattle.journal_model.specs.AnswersAsFormed.{FormedAs, is_content, Sent, is_listing, AnswersAsFormed}
-use Rattle.journal_model.proofs.NoteKinds.{of_tick, none_of}
-use Rattle.journal_model.proofs.StepNotes.{requests_again-notes, tick_effects-notes}
+use Rattle.journal_model.proofs.StepNotes.{requests_again-notes}
 use Rattle.journal_model.proofs.EntriesNoted.{entries_in}
 use Rattle.journal_model.proofs.sends.PlainSteps.{ArePlain}
 use Rattle.journal_model.proofs.entries.QuietSteps.{tick_effects-entries_in}
@@ -35,7 +34,7 @@ use Rattle.journal_model.proofs.notes.LookupNotes.{IsAsking, NotesAsAsked, OfWat
 use Rattle.journal_model.proofs.flights.NoticesAgain.{events_after_again, stood}
 use Rattle.headline_law.proofs.flights.TickNotices.{TickSoFar}
 use Rattle.headline_law.proofs.flights.TickFolds.{tick_begins, tick_notifies}
-use Rattle.headline_law.proofs.flights.CarriedListings.{Carried, is_used}
+use Rattle.headline_law.proofs.flights.CarriedListings.{Carried}
 use Rattle.headline_law.proofs.rows.TickRows.{TickRow, tick_carried}
 use Rattle.headline_law.proofs.flights.TickFlights.{tick_flights}
 use Rattle.headline_law.proofs.notes.TickNotes.{tick_notes_as_asked}
@@ -87,13 +86,6 @@ tick_of rows r starved past all tick sent notes = by starved sent notes
     same_entries : entries (r ∷ rows) ≡ entries rows
     same_entries = entries-none_noted rows r (ap entries_in notes ∙ tick_effects-entries_in starved rows r.moment.0 r.step)
 
-    unused : list_any is_used r.notes ≡ false
-    unused = ap (list_any is_used) notes ∙ none_of of_tick is_used never (tick_effects starved rows r.moment.0 r.step).notes (tick_effects-notes starved rows r.moment.0 r.step)
-      where
-        never : (n : Note) → of_tick n ≡ true → is_used n ≡ false
-        never (note.Used peer key) h = absurd (false≢true h)
-        never _ h = refl
-
     asking : (o : Observer) → Among o (observers (events_after_again rows r.moment.0 r.step.word)) → IsAsking o
     asking o stands = all_among IsAsking o (observers (events_after_again rows r.moment.0 r.step.word)) (stood rows r.moment.0 r.step.word IsAsking all.asking) stands
 
@@ -108,7 +100,6 @@ tick_of rows r starved past all tick sent notes = by starved sent notes
       plain = requests_plain rows r.moment.0 past.asked;
       resent = requests_again-notes rows r.moment.0;
       same_entries = same_entries;
-      unused = unused;
       known = all.flights;
     }
 

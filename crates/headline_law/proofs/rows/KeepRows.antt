@@ -32,14 +32,14 @@ use Rattle.journal_model.specs.AnswersAsFormed.{asked_at, Carries}
 use Rattle.journal_model.proofs.EntriesNoted.{entries_in}
 use Rattle.journal_model.proofs.StepNotes.{keep_effects-notes}
 use Rattle.journal_model.proofs.notes.SilentSteps.{looked_notes}
-use Rattle.journal_model.proofs.entries.JournalLaws.{Made, each_row, entries-none_noted, entries-IsPrefix-row}
+use Rattle.journal_model.proofs.entries.JournalLaws.{Made, each_row, entries-none_noted}
 use Rattle.journal_model.proofs.Jobs.{KeepsOf, keeps_of}
 use Rattle.message_model.proofs.ReadingLaws.{header_read}
 use Rattle.journal_model.proofs.sends.BodyAnswers.{wanted_by, asking, Bears, tag-length, same_message, bears_carries}
 use Rattle.headline_law.proofs.sends.LookupSends.{IsAnswerOf, keep_bears}
 use Rattle.journal_model.proofs.notes.LookupNotes.{look_fits, KeptAt}
 use Rattle.headline_law.proofs.sends.ValidLaw.{LooksAt, a_look_reads, looked_a_look}
-use Rattle.headline_law.proofs.flights.CarriedListings.{Carried}
+use Rattle.headline_law.proofs.flights.CarriedListings.{Carried, former_holds_seen}
 use Rattle.headline_law.proofs.rows.RowCarries.{NoteAsFormed, RowCarries, asked_in-own}
 use Rattle.rd_base.proofs.lemmas.Each.{each_weaker}
 
@@ -192,13 +192,16 @@ keep_row rows r m body current journal may kind read sent notes = record {
     short : length current ≡ 8
     short = ap length it.is_kept.tag_is ∙ tag-length (entries (it.look.row ∷ it.look.before)) it.look.row.moment.0
 
+    formed : (peer : Peer) (mid : ℕ) → former_at r.step.kind peer mid here ≡ Some it.look
+    formed peer mid = ap (λ k. former_at k peer mid here) kind ∙ it.found
+
     one : (d : Peer × List ℕ) → IsAnswerOf r.step.peer (wanted_by m) body current d → Carried here d
     one d bears n e listed _ = record {
       former = it.look;
-      formed = ap (λ k. former_at k d.0 n.mid here) kind ∙ it.found;
+      formed = formed d.0 n.mid;
       asked = asking (wanted_by m) (query_of m);
       asks = ap (λ k. asked_at k (d.0, n.token) here) kind ∙ asked_in-own r.step.peer m (d.0, n.token) (reading r.step.datagram) read bears.0 (bears.1 n e listed).token_is;
-      holds_seen = entries-IsPrefix-row it.look.before it.look.row;
+      holds_seen = former_holds_seen r.step.kind d.0 n.mid here it.look (formed d.0 n.mid);
       carries = subst (λ q. Carries n (asking (wanted_by m) q) (entries (it.look.row ∷ it.look.before)) it.look.row.moment.0) it.query_is
           (bears_carries (wanted_by m) it.is_kept.query (entries (it.look.row ∷ it.look.before)) it.look.row.moment.0 n
           (subst (λ t. Bears (wanted_by m) (listing it.is_kept.query (entries (it.look.row ∷ it.look.before)) it.look.row.moment.0) t n) it.is_kept.tag_is

@@ -14,25 +14,25 @@ use Rattle.event_model.specs.declared.notes.Note.TheVariants as note
 use Rattle.event_model.specs.Same.{RequestName, is_same_request}
 use Rattle.event_model.specs.Events.{Event, last_said}
 use Rattle.event_model.specs.KeptAnswers.{Answer, answer_kept, is_live_answer, kept_answer}
-use Rattle.event_model.proofs.SameLaws.{is_same_request-Decides}
+use Rattle.event_model.proofs.SameLaws.{is_same_request-Decides, is_same_request-refl}
 use Rattle.journal_model.specs.declared.rows.Row.{Row}
 use Rattle.journal_model.specs.Journal.{is_heard, events, entries}
-use Rattle.journal_model.specs.Requests.{query_of, is_lookup}
+use Rattle.journal_model.specs.Requests.{query_of, is_lookup, is_later_block}
 use Rattle.journal_model.specs.Lookups.{lookup_effects}
 use Rattle.journal_model.specs.PlacedRows.{Placed}
-use Rattle.journal_model.specs.BodyFormers.{former_of_body, former_of_kept, former_noted}
+use Rattle.journal_model.specs.BodyFormers.{former_of_body, former_of_kept, reads_answer, reads_further_block, former_of_further, former_at}
 use Rattle.journal_model.specs.AnswersAsFormed.{Carries}
 use Rattle.journal_model.proofs.EntriesNoted.{entries_in}
 use Rattle.journal_model.proofs.entries.QuietSteps.{lookup_effects-entries_in}
 use Rattle.message_model.proofs.ReadingLaws.{header_read}
 use Rattle.journal_model.proofs.sends.BodyAnswers.{wanted_by, asking, Bears, tag-length, bears_carries}
-use Rattle.headline_law.proofs.sends.LookupSends.{IsAnswerOf, AreListings, AreBodiesOf, names_earlier_row, LookupOutcome, now, kept, lookup_outcome}
+use Rattle.headline_law.proofs.sends.LookupSends.{IsAnswerOf, AreListings, AreBodiesOf, reads_kept, LookupOutcome, now, kept, lookup_outcome}
 use Rattle.journal_model.proofs.EventRows.{AllRows, row_of, row_within, said_by}
 use Rattle.journal_model.proofs.notes.LookupNotes.{asks_once, lookup_fits, KeptAt, NotesAsAsked, lookup_notes_as_asked}
-use Rattle.headline_law.proofs.flights.CarriedListings.{Carried}
+use Rattle.headline_law.proofs.flights.CarriedListings.{Carried, former_holds_seen}
 use Rattle.headline_law.proofs.rows.RowCarries.{KeptAsFormed, NoteAsFormed, RowCarries, heard_former, heard_asked, asked_in-own, lookup_no_discovery, heard_forms_itself, now_carried, own_notes_as_formed}
 use Rattle.rd_base.proofs.lemmas.Among.{all_among}
-use Rattle.journal_model.proofs.entries.JournalLaws.{entries-none_noted, entries-IsPrefix-row}
+use Rattle.journal_model.proofs.entries.JournalLaws.{entries-none_noted}
 use Rattle.rd_base.proofs.lemmas.Each.{each_weaker}
 
 -- ---- kept answers
@@ -83,22 +83,31 @@ kept_from rows moment name answer all e =
 -- ---- a row of a lookup
 
 -- one that reads a kept answer
-used_carried : (rows : List Row) (r : Row) (m : Message) (answer : Answer) → is_heard r.step.kind ≡ true → reading r.step.datagram ≡ Ok m → is_lookup (path_in m) ≡ true
+used_carried : (rows : List Row) (r : Row) (m : Message) (answer : Answer) → is_later_block m ≡ true → is_heard r.step.kind ≡ true → reading r.step.datagram ≡ Ok m → is_lookup (path_in m) ≡ true
     → r.notes ≡ note.Used r.step.peer (key_in m) ∷ [] → KeptFrom rows (r.step.peer, key_in m) answer → AreBodiesOf r.step.peer (wanted_by m) answer.body answer.tag r.sent → AllByRecursion (Carried (record { row = r; before = rows })) r.sent
-used_carried rows r m answer heard read lookup notes from all =
+used_carried rows r m answer further heard read lookup notes from all =
     each_weaker (IsAnswerOf r.step.peer (wanted_by m) answer.body answer.tag) (Carried (record { row = r; before = rows })) one r.sent all
   where
     same_query : from.is_kept.query ≡ query_of m
     same_query = asks_once (key_in m) from.is_kept.query m from.is_kept.asks (lookup_fits (path_in m) lookup) refl
 
+    here : Placed
+    here = record { row = r; before = rows }
+
+    reads : reads_further_block (reading r.step.datagram) here ≡ true
+    reads = ap (λ read_as. reads_further_block read_as here) read
+        ∙ rw (further, ap (list_any (reads_answer (r.step.peer, key_in m))) notes, is_same_request-refl (r.step.peer, key_in m)) refl
+
+    formed : (peer : Peer) (mid : ℕ) → former_at r.step.kind peer mid here ≡ Some from.former
+    formed peer mid = heard_former r.step.kind peer mid here heard ∙ rw reads (ap (λ read_as. former_of_further read_as here) read ∙ from.formed)
+
     one : (d : Peer × List ℕ) → IsAnswerOf r.step.peer (wanted_by m) answer.body answer.tag d → Carried (record { row = r; before = rows }) d
     one d body n e listed _ = record {
       former = from.former;
-      formed = heard_former r.step.kind d.0 n.mid (record { row = r; before = rows }) heard
-          ∙ (ap (λ ns. former_noted d.0 n.mid ns (record { row = r; before = rows })) notes ∙ from.formed);
+      formed = formed d.0 n.mid;
       asked = asking (wanted_by m) (query_of m);
       asks = heard_asked r.step.kind (d.0, n.token) (record { row = r; before = rows }) heard ∙ asked_in-own r.step.peer m (d.0, n.token) (reading r.step.datagram) read body.0 (body.1 n e listed).token_is;
-      holds_seen = entries-IsPrefix-row from.former.before from.former.row;
+      holds_seen = former_holds_seen r.step.kind d.0 n.mid here from.former (formed d.0 n.mid);
       carries = subst (λ q. Carries n (asking (wanted_by m) q) (entries (from.former.row ∷ from.former.before)) from.former.row.moment.0) same_query
           (bears_carries (wanted_by m) from.is_kept.query (entries (from.former.row ∷ from.former.before)) from.former.row.moment.0 n
           (subst (λ t. Bears (wanted_by m) (listing from.is_kept.query (entries (from.former.row ∷ from.former.before)) from.former.row.moment.0) t n) from.is_kept.tag_is
@@ -120,9 +129,9 @@ lookup_row rows r m all heard read lookup sent notes = record {
     same_entries = entries-none_noted rows r (ap entries_in notes ∙ lookup_effects-entries_in rows r.moment.0 r.step m)
 
     by : LookupOutcome rows r.moment.0 r.step m (lookup_effects rows r.moment.0 r.step m) → AllByRecursion (Carried (record { row = r; before = rows })) r.sent
-    by (now none listed) = now_carried rows r m heard read same_entries (ap (list_any names_earlier_row) notes ∙ none) (subst (AreListings r.step.peer m (entries rows) r.moment.0) (sym sent) listed)
-    by (kept answer found used bodies) =
+    by (now none listed) = now_carried rows r m heard read same_entries (ap (list_any reads_kept) notes ∙ none) (subst (AreListings r.step.peer m (entries rows) r.moment.0) (sym sent) listed)
+    by (kept answer further found used bodies) =
         let from = kept_from rows r.moment.0 (r.step.peer, key_in m) answer all found in
-        used_carried rows r m answer heard read lookup (notes ∙ used) from
+        used_carried rows r m answer further heard read lookup (notes ∙ used) from
         (subst (AreBodiesOf r.step.peer (wanted_by m) answer.body answer.tag) (sym sent)
         (bodies (ap length from.is_kept.tag_is ∙ tag-length (entries (from.former.row ∷ from.former.before)) from.former.row.moment.0)))
