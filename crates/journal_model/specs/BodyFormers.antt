@@ -1,6 +1,6 @@
 -- Which row formed the body of a message that a row sends: its own, the look whose job a keep ends, or an earlier one, where a further block is read
 -- from a kept answer or a notice is sent again.
-use Rattle.std.specs.Prelude.{ℕ, Bool, false, ◌&&◌, ◌==◌, List, Option, Some, is_some, option_and_then, Result, Ok, Err, if◌then◌else◌}
+use Rattle.std.specs.Prelude.{ℕ, Bool, true, false, not, ◌&&◌, ◌==◌, List, Option, Some, None, is_some, option_and_then, Result, Ok, Err, if◌then◌else◌}
 use Rattle.std.specs.List.{list_any}
 use Rattle.rd_base.specs.declared.peers.Peer.{Peer}
 use Rattle.message_model.specs.declared.messages.Unread.{Unread}
@@ -28,10 +28,13 @@ abbrev pub former_of_body : StepKind → Placed → Option Placed
 former_of_body (step.Keep body tag) p = look_of p.row.step.worker p.before
 former_of_body _ p = Some p
 
+-- the last row that kept the answer of a name
+abbrev pub last_kept : RequestName → List Row → Option Placed
+last_kept name rows = last_row (λ r. list_any (λ n. is_some (answer_kept name n)) r.notes) rows
+
 -- the row that formed the kept answer of a name
 abbrev pub former_of_kept : RequestName → List Row → Option Placed
-former_of_kept name rows =
-    option_and_then (λ p. former_of_body p.row.step.kind p) (last_row (λ r. list_any (λ n. is_some (answer_kept name n)) r.notes) rows)
+former_of_kept name rows = option_and_then (λ p. former_of_body p.row.step.kind p) (last_kept name rows)
 
 -- the notice of a peer and a Message ID is formed by the note
 abbrev pub forms_notice : Peer → ℕ → Note → Bool
@@ -79,3 +82,26 @@ former_at _ peer mid here =
 abbrev pub asker_at : StepKind → Placed → Option Placed
 asker_at (step.Keep body tag) here = look_of here.row.step.worker here.before
 asker_at _ here = Some here
+
+-- ---- where nothing is known of keeps, as in a journal of a desk
+
+-- the step is a keep
+abbrev pub is_keep : StepKind → Bool
+is_keep (step.Keep body tag) = true
+is_keep _ = false
+
+-- a row is one of a keep
+abbrev pub is_of_keep : Option Placed → Bool
+is_of_keep None = false
+is_of_keep (Some p) = is_keep p.row.step.kind
+
+-- a further block is read from an answer that a keep kept
+abbrev pub reads_body_of_keep : Result Message Unread → Placed → Bool
+reads_body_of_keep (Err fault) here = false
+reads_body_of_keep (Ok m) here = reads_further_block (Ok m) here && is_of_keep (last_kept (here.row.step.peer, key_in m) here.before)
+
+-- the body of what a row sends was formed in a row: the row is no keep, and reads no answer that a keep kept
+abbrev pub is_formed_in_rows : StepKind → Placed → Bool
+is_formed_in_rows (step.Keep body tag) here = false
+is_formed_in_rows step.Tick here = true
+is_formed_in_rows _ here = not (reads_body_of_keep (reading here.row.step.datagram) here)

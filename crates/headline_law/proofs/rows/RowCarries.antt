@@ -1,5 +1,5 @@
 -- A row that is no tick: what it sends was formed as the headline says, and so was what it keeps.
-use Rattle.std.proofs.Common.{◌≡◌, ℕ, ◌≤◌, ◌&&◌, Bool, true, false, cond, List, [], ◌∷◌, length, Some, Result, Ok, Err, refl, sym, ap, ap₂, subst, ◌∙◌}
+use Rattle.std.proofs.Common.{◌≡◌, ℕ, ◌≤◌, ◌&&◌, ◌||◌, Bool, true, false, not, cond, List, [], ◌∷◌, length, Some, Result, Ok, Err, refl, sym, ap, ap₂, subst, ◌∙◌}
 use Rattle.std.specs.List.{list_any, AllByRecursion}
 use Rattle.std.proofs.lemmas.Bool.{false≢true}
 use Rattle.rd_base.specs.declared.peers.Peer.{Peer}
@@ -22,7 +22,7 @@ use Rattle.journal_model.specs.Journal.{is_heard, entries}
 use Rattle.journal_model.specs.Requests.{query_of, is_lookup, is_discovery, is_later_block}
 use Rattle.journal_model.specs.Looks.{look_effects}
 use Rattle.journal_model.specs.PlacedRows.{Placed}
-use Rattle.journal_model.specs.BodyFormers.{former_of_body, reads_answer, reads_further_block, former_of_further, former_at}
+use Rattle.journal_model.specs.BodyFormers.{former_of_body, reads_answer, reads_further_block, former_of_further, former_at, is_keep, is_formed_in_rows}
 use Rattle.journal_model.specs.AnswersAsFormed.{asked_in, asked_at, names_lookup, answers_lookup}
 use Rattle.journal_model.proofs.EntriesNoted.{entries_in}
 use Rattle.journal_model.proofs.StepNotes.{look_effects-notes}
@@ -30,7 +30,7 @@ use Rattle.message_model.proofs.ReadingLaws.{header_read}
 use Rattle.journal_model.proofs.sends.BodyAnswers.{wanted_by, asking, Bears, IsUntagged, other_code, bears_carries}
 use Rattle.journal_model.proofs.sends.PlainSteps.{ArePlain, IsPlain}
 use Rattle.headline_law.proofs.sends.LookupSends.{IsAnswerOf, AreListings, look_lists, look_discovers, reads_kept}
-use Rattle.journal_model.proofs.notes.LookupNotes.{IsAsking, KeptAt, NoteAsAsked, NotesAsAsked}
+use Rattle.journal_model.proofs.notes.LookupNotes.{IsAsking, KeptAt, NoteAsAsked, NotesAsAsked, OfWatched}
 use Rattle.headline_law.proofs.flights.CarriedListings.{Carried, former_holds_seen}
 use Rattle.headline_law.proofs.sends.StepOutcomes.{is_keeping}
 use Rattle.journal_model.proofs.entries.JournalLaws.{entries-none_noted}
@@ -48,10 +48,20 @@ NoteAsFormed here (note.Kept peer key body current) = KeptAsFormed here key body
 NoteAsFormed here (note.Watched o) = IsAsking o
 NoteAsFormed here _ = Unit {0}
 
--- what holds of each row
-pub record RowCarries (before : List Row) (r : Row) : Type 0 where
-  pub carried : AllByRecursion (Carried (record { row = r; before = before })) r.sent
-  pub noted : AllByRecursion (NoteAsFormed (record { row = r; before = before })) r.notes
+-- what holds of each row: where the keeps are known to end looks, as in a journal of the machine, of all rows; else of those whose bodies were formed in rows
+pub record RowCarries (keeps : Bool) (before : List Row) (r : Row) : Type 0 where
+  pub carried : (keeps || is_formed_in_rows r.step.kind (record { row = r; before = before })) ≡ true
+      → AllByRecursion (Carried (record { row = r; before = before })) r.sent
+  pub noted : (keeps || not (is_keep r.step.kind)) ≡ true → AllByRecursion (NoteAsFormed (record { row = r; before = before })) r.notes
+  pub asking : AllByRecursion (OfWatched IsAsking) r.notes
+
+-- an observer that a note adds asks for its query
+pub asks_as_noted : (here : Placed) (notes : List Note) → AllByRecursion (NoteAsFormed here) notes → AllByRecursion (OfWatched IsAsking) notes
+asks_as_noted here notes all = each_weaker (NoteAsFormed here) (OfWatched IsAsking) by notes all
+  where
+    by : (n : Note) → NoteAsFormed here n → OfWatched IsAsking n
+    by (note.Watched o) h = h
+    by _ h = tt
 
 -- ---- plain rows
 
@@ -65,10 +75,11 @@ keeps_nothing here notes none = each_failing is_keeping (NoteAsFormed here) by n
     by _ h = tt
 
 -- so it is of a row of plain messages
-pub plain_row : (rows : List Row) (r : Row) → ArePlain r.sent → list_any is_keeping r.notes ≡ false → RowCarries rows r
-plain_row rows r plain none = record {
-  carried = each_weaker (λ (d : Peer × List ℕ). IsPlain d.1) (Carried (record { row = r; before = rows })) (λ d p m e listed _. absurd (false≢true (sym (other_code d.1 p.no_content m e) ∙ listed))) r.sent plain;
-  noted = keeps_nothing (record { row = r; before = rows }) r.notes none;
+pub plain_row : (keeps : Bool) (rows : List Row) (r : Row) → ArePlain r.sent → list_any is_keeping r.notes ≡ false → RowCarries keeps rows r
+plain_row keeps rows r plain none = record {
+  carried = λ _. each_weaker (λ (d : Peer × List ℕ). IsPlain d.1) (Carried (record { row = r; before = rows })) (λ d p m e listed _. absurd (false≢true (sym (other_code d.1 p.no_content m e) ∙ listed))) r.sent plain;
+  noted = λ _. keeps_nothing (record { row = r; before = rows }) r.notes none;
+  asking = asks_as_noted (record { row = r; before = rows }) r.notes (keeps_nothing (record { row = r; before = rows }) r.notes none);
 }
 
 -- ---- rows of datagrams that are heard
@@ -172,11 +183,12 @@ lookup_no_discovery p h = by (is_discovery p) refl
     by false e = refl
 
 -- a row of a look
-pub look_row : (rows : List Row) (r : Row) (m : Message) → is_heard r.step.kind ≡ true → reading r.step.datagram ≡ Ok m → r.sent ≡ (look_effects (entries rows) r.moment.0 r.step m).sent
-    → r.notes ≡ (look_effects (entries rows) r.moment.0 r.step m).notes → RowCarries rows r
-look_row rows r m hears read sent notes = record {
-  carried = by (is_discovery (path_in m)) refl;
-  noted = subst (AllByRecursion (NoteAsFormed (record { row = r; before = rows }))) (sym none) tt;
+pub look_row : (keeps : Bool) (rows : List Row) (r : Row) (m : Message) → is_heard r.step.kind ≡ true → reading r.step.datagram ≡ Ok m → r.sent ≡ (look_effects (entries rows) r.moment.0 r.step m).sent
+    → r.notes ≡ (look_effects (entries rows) r.moment.0 r.step m).notes → RowCarries keeps rows r
+look_row keeps rows r m hears read sent notes = record {
+  carried = λ _. by (is_discovery (path_in m)) refl;
+  noted = λ _. subst (AllByRecursion (NoteAsFormed (record { row = r; before = rows }))) (sym none) tt;
+  asking = subst (AllByRecursion (OfWatched IsAsking)) (sym none) tt;
 }
   where
     none : r.notes ≡ []
