@@ -1,6 +1,5 @@
 -- What a tick sends carries the listing of the row that formed it, and what is in flight after it is known.
-use Rattle.std.proofs.Common.{◌≡◌, ℕ, ◌||◌, ◌&&◌, ◌==◌, Bool, true, false, cond, List, [], ◌∷◌, Option, Some, option_map, Ok, refl, sym, ap, ap₂, subst, ◌∙◌}
-use Rattle.std.specs.List.{list_any}
+use Rattle.std.proofs.Common.{◌≡◌, ℕ, ◌||◌, Bool, true, false, cond, List, ◌∷◌, Option, Some, option_map, Ok, refl, sym, ap, ap₂, subst, ◌∙◌}
 use Rattle.std.proofs.lemmas.Bool.{false≢true}
 use Rattle.std.proofs.lemmas.Option.{same_Some}
 use Rattle.rd_base.specs.declared.peers.Peer.{Peer}
@@ -9,7 +8,7 @@ use Rattle.message_model.specs.Reading.{reading}
 use Rattle.history_model.specs.Live.{IsFront}
 use Rattle.history_model.specs.Listing.{listing, tag}
 use Rattle.event_model.specs.declared.notes.Observer.{Observer}
-use Rattle.event_model.specs.Same.{RequestName, is_same_peer, is_same_request}
+use Rattle.event_model.specs.Same.{RequestName, is_same_request}
 use Rattle.event_model.specs.Observers.{name_of, observers}
 use Rattle.event_model.proofs.SameLaws.{is_same_request-refl}
 use Rattle.event_model.proofs.ObserverLaws.{observers-apart, Only, apart_only}

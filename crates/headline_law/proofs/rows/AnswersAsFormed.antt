@@ -4,8 +4,6 @@ use Rattle.std.specs.List.{list_any, AllByRecursion}
 use Rattle.std.proofs.lemmas.Bool.{false≢true, and_parts}
 use Rattle.message_model.specs.Message.{Message}
 use Rattle.message_model.specs.Reading.{reading}
-use Rattle.event_model.specs.declared.notes.Note.{Note}
-use Rattle.event_model.specs.declared.notes.Note.TheVariants as note
 use Rattle.event_model.specs.declared.notes.Observer.{Observer}
 use Rattle.event_model.specs.Observers.{observers}
 use Rattle.journal_model.specs.declared.steps.Step.{Step}
@@ -30,7 +28,7 @@ use Rattle.headline_law.proofs.sends.ValidLaw.{RowFacts, rows_facts, settled_pla
 use Rattle.headline_law.proofs.rows.Validations.{sent_validates}
 use Rattle.journal_model.proofs.EventRows.{AllRows, row_within}
 use Rattle.rd_base.proofs.lemmas.Among.{Among, all_among, all_at_index}
-use Rattle.journal_model.proofs.notes.LookupNotes.{IsAsking, NotesAsAsked, OfWatched, observers_all}
+use Rattle.journal_model.proofs.notes.LookupNotes.{IsAsking, NotesAsAsked, observers_all}
 use Rattle.journal_model.proofs.flights.NoticesAgain.{events_after_again, stood}
 use Rattle.headline_law.proofs.flights.TickNotices.{TickSoFar}
 use Rattle.headline_law.proofs.flights.TickFolds.{tick_begins, tick_notifies}

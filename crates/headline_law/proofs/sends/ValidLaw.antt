@@ -16,7 +16,7 @@ use Rattle.event_model.specs.declared.notes.Note.{Note}
 use Rattle.event_model.specs.declared.notes.Note.TheVariants as note
 use Rattle.event_model.specs.Events.{Event}
 use Rattle.event_model.specs.Repeats.{answer_noted, settled}
-use Rattle.event_model.specs.Fetches.{Request, is_request_to, request_noted}
+use Rattle.event_model.specs.Fetches.{is_request_to, request_noted}
 use Rattle.journal_model.specs.declared.steps.Step.{Step}
 use Rattle.journal_model.specs.declared.steps.StepKind.{StepKind}
 use Rattle.journal_model.specs.declared.steps.StepKind.TheVariants as step
