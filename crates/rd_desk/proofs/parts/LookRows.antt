@@ -3,24 +3,20 @@ use Rattle.std.proofs.Common.{◌≡◌, ℕ, ◌≤◌, true, not, cond, List, 
 use Rattle.history_model.specs.declared.entries.Entry.{Entry}
 use Rattle.history_model.specs.Versions.{VersionStandsFor}
 use Rattle.event_model.specs.declared.notes.Note.{Note}
-use Rattle.event_model.specs.Due.{Transition}
 use Rattle.event_model.specs.Events.{Event, noted}
 use Rattle.event_model.specs.Observers.{observe_values_sent}
 use Rattle.journal_model.specs.declared.rows.Row.{Row}
-use Rattle.journal_model.specs.Journal.{is_look, entry_noted, events, entries, now, transition_of, transitions}
+use Rattle.journal_model.specs.Journal.{is_look, entry_noted, events, entries, now}
 use Rattle.journal_model.specs.Ticks.{octets_sent}
-use Rattle.journal_model.proofs.RowEquations.{events-row, now-row, transitions-row}
-use Rattle.journal_model.proofs.observers.SentOctets.{observers_standing-row}
+use Rattle.journal_model.proofs.RowEquations.{events-row, now-row}
 use Rattle.exchange_core.specs.ExchangeEvents.{ExchangesStandFor}
 use Rattle.transfers.specs.TransferEvents.{TransfersStandFor}
 use Rattle.simple_registration.specs.FetchEvents.{FetchesStandFor}
 use Rattle.simple_registration.proofs.DeskLaws.{FetchesStandFor-row}
 use Rattle.rd_desk.specs.Desks.{Seen, DirectoryStandsFor, StandsFor}
-use Rattle.rd_desk.specs.Watching.{Watching, WatchingStandsFor}
-use Rattle.rd_desk.proofs.observers.WatchingLaws.{to_parts, from_parts}
-use Rattle.rd_desk.proofs.observers.WatchingParts.{StandsOver, shown_same}
+use Rattle.rd_desk.proofs.observers.WatchingLaws.{WatchingStandsFor-looked}
 
--- it notes nothing, so the events, the entries, the moment and the transitions are as before
+-- it notes nothing, so the events, the entries and the moment are as before
 events-same : (rows : List Row) (r : Row) → r.notes ≡ [] → events (r ∷ rows) ≡ events rows
 events-same rows r none = events-row rows r ∙ ap (λ (notes : List Note). noted (length rows) r.moment.0 r.step.word notes (events rows)) none
 
@@ -31,9 +27,6 @@ entries-same rows r none = ap (λ (notes : List Note). entries rows ++ filter_ma
 now-same : (rows : List Row) (r : Row) → is_look r.step.kind ≡ true → now (r ∷ rows) ≡ now rows
 now-same rows r looks = now-row rows r ∙ ap (λ b. cond (not b) r.moment.0 (now rows)) looks
 
-transitions-same : (rows : List Row) (r : Row) → is_look r.step.kind ≡ true → transitions (r ∷ rows) ≡ transitions rows
-transitions-same rows r looks = transitions-row rows r ∙ ap (λ b. cond (not b) (transition_of r rows ∷ transitions rows) (transitions rows)) looks
-
 -- so is what each table stands for
 DirectoryStandsFor-looked : (rows : List Row) (r : Row) (d : Seen) → is_look r.step.kind ≡ true → r.notes ≡ [] → DirectoryStandsFor rows d.version → DirectoryStandsFor (r ∷ rows) d.version
 DirectoryStandsFor-looked rows r d looks none h = record {
@@ -41,16 +34,6 @@ DirectoryStandsFor-looked rows r d looks none h = record {
   at = subst (λ (n : ℕ). d.version.at ≤ n) (sym (now-same rows r looks)) h.at;
   swept = subst (λ (n : ℕ). d.version.swept ≤ n) (sym (now-same rows r looks)) h.swept;
 }
-
-WatchingStandsFor-looked : (rows : List Row) (r : Row) (w : Watching) → is_look r.step.kind ≡ true → r.notes ≡ [] → WatchingStandsFor rows w → WatchingStandsFor (r ∷ rows) w
-WatchingStandsFor-looked rows r w looks none h =
-    from_parts (r ∷ rows) w
-    (subst (λ (past : List Event). StandsOver (octets_sent (r ∷ rows)) past (transitions (r ∷ rows)) (entries (r ∷ rows)) (now (r ∷ rows)) w) (sym (events-same rows r none))
-    (subst (λ (seen : List Transition). StandsOver (octets_sent (r ∷ rows)) (events rows) seen (entries (r ∷ rows)) (now (r ∷ rows)) w) (sym (transitions-same rows r looks))
-    (subst (λ (history : List Entry). StandsOver (octets_sent (r ∷ rows)) (events rows) (transitions rows) history (now (r ∷ rows)) w) (sym (entries-same rows r none))
-    (subst (λ (moment : ℕ). StandsOver (octets_sent (r ∷ rows)) (events rows) (transitions rows) (entries rows) moment w) (sym (now-same rows r looks))
-    (shown_same (octets_sent rows) (octets_sent (r ∷ rows)) (events rows) (events rows) (transitions rows) (transitions rows) (entries rows) (now rows) w
-    (observers_standing-row rows r (transitions rows)) (to_parts rows w h))))))
 
 -- A desk that stands for rows stands for them with the row of a look.
 pub StandsFor-looked : (rows : List Row) (r : Row) (d : Seen) → is_look r.step.kind ≡ true → r.notes ≡ [] → StandsFor rows d → StandsFor (r ∷ rows) d
@@ -62,7 +45,7 @@ StandsFor-looked rows r d looks none h =
       directory = DirectoryStandsFor-looked rows r d looks none h.directory;
       exchanges = subst (λ (n : ℕ). ExchangesStandFor n (events (r ∷ rows)) d.exchanges) still (subst (λ (es : List Event). ExchangesStandFor (now rows) es d.exchanges) past h.exchanges);
       transfers = subst (λ (n : ℕ). TransfersStandFor n (events (r ∷ rows)) d.transfers) still (subst (λ (es : List Event). TransfersStandFor (now rows) es d.transfers) past h.transfers);
-      watching = WatchingStandsFor-looked rows r d.watching looks none h.watching;
+      watching = WatchingStandsFor-looked rows r d.watching (ap not looks) none h.watching;
       fetches = subst (λ (es : List Event). FetchesStandFor (octets_sent (r ∷ rows)) es d.fetches) past (FetchesStandFor-row rows r d.fetches h.fetches);
       observed = h.observed ∙ ap observe_values_sent past;
     }
