@@ -3,6 +3,9 @@
 use rd_base::Starved;
 use std::alloc::Global;
 
+/// From how many equal octets on their number is shown.
+const LONG: usize = 32;
+
 /// Whether an octet is shown as it is: those that are printed in ASCII, but a backslash that stands before `x`.
 fn is_plain(octet: u8, next: Option<&u8>) -> bool {
     if octet == b'\\' {
@@ -11,7 +14,7 @@ fn is_plain(octet: u8, next: Option<&u8>) -> bool {
     octet == b' ' || octet.is_ascii_graphic()
 }
 
-/// Writes an octet that another one may follow.
+/// Writes an octet before the next one.
 fn put_octet(page: &mut String, octet: u8, next: Option<&u8>) -> Result<(), Starved> {
     if is_plain(octet, next) {
         return Ok(page.push(char::from(octet))?);
@@ -19,7 +22,24 @@ fn put_octet(page: &mut String, octet: u8, next: Option<&u8>) -> Result<(), Star
     Ok(write!(page, "\\x{octet:02x}")?)
 }
 
-/// Writes octets as [`octets_of`](crate::octets_of) reads them: what is printed in ASCII as it is, everything else and a backslash before `x` as `\xHH`, and none as `-`. `Starved`: out of memory.
+/// Writes equal octets before the next one.
+fn put_equal(page: &mut String, equal: &[u8], next: Option<&u8>) -> Result<(), Starved> {
+    let [first, others @ ..] = equal else {
+        return Ok(());
+    };
+    let octet = *first;
+    let count = equal.len();
+    if count >= LONG {
+        return Ok(write!(page, "\\x{{{octet:02x}*{count}}}")?);
+    }
+    'others: for other in others {
+        put_octet(page, octet, Some(other))?;
+    }
+    put_octet(page, octet, next)
+}
+
+/// Writes octets as [`octets_of`](crate::octets_of) reads them: what is printed in ASCII as it is, everything else and a backslash before `x` as `\xHH`, 32 equal ones or more as `\x{HH*32}`,
+/// and none as `-`. `Starved`: out of memory.
 pub fn put_octets(page: &mut String, octets: &[u8]) -> Result<(), Starved> {
     if octets.is_empty() {
         return Ok(page.push_str("-")?);
@@ -27,8 +47,10 @@ pub fn put_octets(page: &mut String, octets: &[u8]) -> Result<(), Starved> {
     if octets == b"-".as_slice() {
         return Ok(page.push_str("\\x2d")?);
     }
-    'octets: for index in 0..octets.len() {
-        put_octet(page, octets[index], octets.get(index + 1))?;
+    let mut end = 0usize;
+    'runs: for equal in octets.chunk_by(|one, other| one == other) {
+        end = end.saturating_add(equal.len());
+        put_equal(page, equal, octets.get(end))?;
     }
     Ok(())
 }
@@ -40,14 +62,29 @@ pub fn shown(alloc: Global, octets: &[u8]) -> Result<String, Starved> {
     Ok(page)
 }
 
-/// Writes octets in hexadecimal, none as `-`. `Starved`: out of memory.
+/// Writes equal octets in hexadecimal.
+fn put_digits(page: &mut String, equal: &[u8]) -> Result<(), Starved> {
+    let [first, ..] = equal else {
+        return Ok(());
+    };
+    let octet = *first;
+    let count = equal.len();
+    if count >= LONG {
+        return Ok(write!(page, "{{{octet:02x}*{count}}}")?);
+    }
+    'octets: for _ in equal {
+        write!(page, "{octet:02x}")?;
+    }
+    Ok(())
+}
+
+/// Writes octets in hexadecimal, 32 equal ones or more as `{HH*32}`, and none as `-`. `Starved`: out of memory.
 pub fn put_datagram(page: &mut String, octets: &[u8]) -> Result<(), Starved> {
     if octets.is_empty() {
         return Ok(page.push_str("-")?);
     }
-    'octets: for octet in octets {
-        let octet = *octet;
-        write!(page, "{octet:02x}")?;
+    'runs: for equal in octets.chunk_by(|one, other| one == other) {
+        put_digits(page, equal)?;
     }
     Ok(())
 }

@@ -1,8 +1,40 @@
 //! The octets that a word stands for.
 
-use crate::NoAnswer;
+use crate::{NoAnswer, number_of};
 use rd_base::{Bytes, Starved};
 use std::alloc::Global;
+
+/// The most often that octets are repeated.
+const MOST: u64 = 100_000;
+
+/// The octets that hexadecimal digits say.
+fn decoded(alloc: Global, digits: &str) -> Result<Vec<u8>, NoAnswer> {
+    match hex::decode(alloc, digits) {
+        Ok(octets) => Ok(octets),
+        Err(hex::FromHexError::OutOfMemory) => Err(NoAnswer::Starved),
+        Err(_) => Err(NoAnswer::Form),
+    }
+}
+
+/// Appends the octets of hexadecimal digits, as often as a number after `*` says.
+fn append_digits(alloc: Global, octets: &mut Bytes, said: &str) -> Result<(), NoAnswer> {
+    let Some((digits, count)) = said.split_once('*') else {
+        let piece = decoded(alloc, said)?;
+        return Ok(octets.append(piece.as_slice())?);
+    };
+    let count = number_of(count, MOST)?;
+    let piece = decoded(alloc, digits)?;
+    'times: for _ in 0..count {
+        octets.append(piece.as_slice())?;
+    }
+    Ok(())
+}
+
+/// What stands in the braces that a text begins with, and what follows them.
+fn braced(text: &str) -> Option<(&str, &str)> {
+    let text = text.strip_prefix('{')?;
+    text.split_once('}')
+}
 
 /// The octet that two hexadecimal digits say.
 fn octet_of(high: u8, low: u8) -> Option<u8> {
@@ -11,8 +43,8 @@ fn octet_of(high: u8, low: u8) -> Option<u8> {
     Some((high * 16 + low) as u8)
 }
 
-/// The octets of what follows `\x`.
-fn append_part(octets: &mut Bytes, part: &[u8]) -> Result<(), Starved> {
+/// Appends what follows `\x`, of which two digits are an octet.
+fn append_octet(octets: &mut Bytes, part: &[u8]) -> Result<(), Starved> {
     if let [high, low, rest @ ..] = part {
         if let Some(octet) = octet_of(*high, *low) {
             octets.push(octet)?;
@@ -23,7 +55,20 @@ fn append_part(octets: &mut Bytes, part: &[u8]) -> Result<(), Starved> {
     octets.append(part)
 }
 
-/// The octets that a text stands for: `\xHH` with two hexadecimal digits is that octet, `-` alone is none, and everything else is itself. `Starved`: out of memory.
+/// Appends what follows `\x`.
+fn append_part(alloc: Global, octets: &mut Bytes, part: &str) -> Result<(), Starved> {
+    if let Some((said, rest)) = braced(part) {
+        match append_digits(alloc, octets, said) {
+            Ok(()) => return octets.append(rest.as_bytes()),
+            Err(NoAnswer::Starved) => return Err(Starved),
+            Err(NoAnswer::Form) => (),
+        }
+    }
+    append_octet(octets, part.as_bytes())
+}
+
+/// The octets that a text stands for: `\xHH` with two hexadecimal digits is that octet, `\x{3c3e*9}` are these octets nine times, `-` alone is none, and everything else is itself.
+/// `Starved`: out of memory.
 pub fn octets_of(alloc: Global, said: &str) -> Result<Bytes, Starved> {
     if said == "-" {
         return Ok(Bytes::new(alloc));
@@ -33,7 +78,7 @@ pub fn octets_of(alloc: Global, said: &str) -> Result<Bytes, Starved> {
     };
     let mut octets = Bytes::copy_of(alloc, first.as_bytes())?;
     'parts: for part in rest.split("\\x") {
-        append_part(&mut octets, part.as_bytes())?;
+        append_part(alloc, &mut octets, part)?;
     }
     Ok(octets)
 }
@@ -47,14 +92,17 @@ pub fn text_of(alloc: Global, said: &str) -> Result<String, NoAnswer> {
     }
 }
 
-/// The octets that a word of hexadecimal digits says, `-` for none. `Form`: it is neither. `Starved`: out of memory.
+/// The octets that a word of hexadecimal digits says, in which `{3c3e*9}` are these octets nine times; `-` is none. `Form`: it is no such word. `Starved`: out of memory.
 pub fn datagram_of(alloc: Global, word: &str) -> Result<Bytes, NoAnswer> {
+    let mut octets = Bytes::new(alloc);
     if word == "-" {
-        return Ok(Bytes::new(alloc));
+        return Ok(octets);
     }
-    match hex::decode(alloc, word) {
-        Ok(octets) if !octets.is_empty() => Ok(Bytes::of(octets)),
-        Err(hex::FromHexError::OutOfMemory) => Err(NoAnswer::Starved),
-        _ => Err(NoAnswer::Form),
+    'parts: for part in word.split(|c| c == '{' || c == '}') {
+        append_digits(alloc, &mut octets, part)?;
     }
+    if octets.is_empty() {
+        return Err(NoAnswer::Form);
+    }
+    Ok(octets)
 }
