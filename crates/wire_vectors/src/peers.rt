@@ -1,0 +1,93 @@
+//! Peers: an address, as its octets in hexadecimal, and a port.
+
+use rd_base::{Host, Peer, PeerBad, base_of, peer_read, peer_read_ascii, peer_text};
+use std::alloc::Global;
+use vector_words::{NoAnswer, cut, datagram_of, number_of, octets_of};
+
+/// The address of four octets or of sixteen.
+fn host_of(octets: &[u8]) -> Option<Host> {
+    match octets {
+        [a, b, c, d] => Some(Host::V4([*a, *b, *c, *d])),
+        [_, _, _, _, _, _, _, _, _, _, _, _, _, _, _, _] => Some(Host::V6(groups_of(octets))),
+        _ => None,
+    }
+}
+
+/// The eight groups of an address of sixteen octets.
+fn groups_of(octets: &[u8]) -> [u16; 8] {
+    let mut groups = [0u16; 8];
+    'groups: for (group, pair) in groups.iter_mut().zip(octets.chunks(2)) {
+        if let [high, low] = pair {
+            *group = u16::from_be_bytes([*high, *low]);
+        }
+    }
+    groups
+}
+
+/// The peer of an address and a port.
+fn peer_of(alloc: Global, address: &str, port: &str) -> Result<Peer, NoAnswer> {
+    let octets = datagram_of(alloc, address)?;
+    let port = number_of(port, 65_535)? as u16;
+    match host_of(octets.as_slice()) {
+        Some(host) => Ok(Peer { host, port }),
+        None => Err(NoAnswer::Form),
+    }
+}
+
+/// A peer as its address and its port.
+fn shown_peer(alloc: Global, read: Result<Peer, PeerBad>) -> Result<String, NoAnswer> {
+    let Ok(peer) = read else {
+        return Ok(String::from_str(alloc, "no peer")?);
+    };
+    let mut page = String::new(alloc);
+    match peer.host {
+        Host::V4([a, b, c, d]) => write!(page, "{a:02x}{b:02x}{c:02x}{d:02x}")?,
+        Host::V6(groups) => {
+            'groups: for group in groups {
+                write!(page, "{group:04x}")?;
+            }
+        }
+    }
+    let port = peer.port;
+    write!(page, " {port}")?;
+    Ok(page)
+}
+
+/// `peer TEXT`: the peer that a text prints.
+fn peer(alloc: Global, said: &str) -> Result<String, NoAnswer> {
+    shown_peer(alloc, peer_read(said))
+}
+
+/// `peer_octets OCTETS`: the peer that octets print.
+fn peer_octets(alloc: Global, said: &str) -> Result<String, NoAnswer> {
+    let octets = octets_of(alloc, said)?;
+    shown_peer(alloc, peer_read_ascii(octets.as_slice()))
+}
+
+/// `peer_text ADDRESS PORT`: a peer as text.
+fn text_of_peer(alloc: Global, said: &str) -> Result<String, NoAnswer> {
+    let (address, port) = cut(said);
+    let peer = peer_of(alloc, address, port)?;
+    let text = peer_text(alloc, &peer)?;
+    Ok(String::from_str(alloc, text.as_str())?)
+}
+
+/// `base_of ADDRESS PORT`: the base of what a peer registers without giving one.
+fn base_of_peer(alloc: Global, said: &str) -> Result<String, NoAnswer> {
+    let (address, port) = cut(said);
+    let peer = peer_of(alloc, address, port)?;
+    let text = base_of(alloc, &peer)?;
+    Ok(String::from_str(alloc, text.as_str())?)
+}
+
+/// The answer to a call about peers.
+pub(crate) fn answer(alloc: Global, call: &str, said: &str) -> Result<Option<String>, NoAnswer> {
+    let answer = match call {
+        "peer" => peer(alloc, said)?,
+        "peer_octets" => peer_octets(alloc, said)?,
+        "peer_text" => text_of_peer(alloc, said)?,
+        "base_of" => base_of_peer(alloc, said)?,
+        _ => return Ok(None),
+    };
+    Ok(Some(answer))
+}
