@@ -1,8 +1,8 @@
 //! Peers: an address, as its octets in hexadecimal, and a port.
 
-use rd_base::{Host, Peer, PeerBad, base_of, peer_read, peer_read_ascii, peer_text};
+use rd_base::{Host, Peer, PeerBad, Starved, base_of, peer_read, peer_read_ascii, peer_text};
 use std::alloc::Global;
-use vector_words::{NoAnswer, cut, datagram_of, number_of, octets_of};
+use vector_words::{NoAnswer, cut, datagram_of, number_of, octets_of, put_datagram};
 
 /// The address of four octets or of sixteen.
 fn host_of(octets: &[u8]) -> Option<Host> {
@@ -34,21 +34,34 @@ fn peer_of(alloc: Global, address: &str, port: &str) -> Result<Peer, NoAnswer> {
     }
 }
 
+/// Writes the octets of an IPv4 address.
+fn put_octets_of(page: &mut String, octets: [u8; 4]) -> Result<(), Starved> {
+    put_datagram(page, octets.as_slice())
+}
+
+/// Writes the groups of an IPv6 address.
+fn put_groups(page: &mut String, groups: [u16; 8]) -> Result<(), Starved> {
+    'groups: for group in groups {
+        write!(page, "{group:04x}")?;
+    }
+    Ok(())
+}
+
+/// Writes an address.
+fn put_host(page: &mut String, host: Host) -> Result<(), Starved> {
+    match host {
+        Host::V4(octets) => put_octets_of(page, octets),
+        Host::V6(groups) => put_groups(page, groups),
+    }
+}
+
 /// A peer as its address and its port.
 fn shown_peer(alloc: Global, read: Result<Peer, PeerBad>) -> Result<String, NoAnswer> {
-    let Ok(peer) = read else {
+    let Ok(Peer { host, port }) = read else {
         return Ok(String::from_str(alloc, "no peer")?);
     };
     let mut page = String::new(alloc);
-    match peer.host {
-        Host::V4([a, b, c, d]) => write!(page, "{a:02x}{b:02x}{c:02x}{d:02x}")?,
-        Host::V6(groups) => {
-            'groups: for group in groups {
-                write!(page, "{group:04x}")?;
-            }
-        }
-    }
-    let port = peer.port;
+    put_host(&mut page, host)?;
     write!(page, " {port}")?;
     Ok(page)
 }
