@@ -1,4 +1,5 @@
-//! `rd_vectors`: shows what the calls of the directory's crates answer, line by line. A line is the name of a call and what it is given; headings begin with `#`.
+//! `rd_vectors`: shows what the calls of the directory's crates answer, line by line. A line is
+//! the name of a call and what it is given; headings begin with `#`.
 #![tactic(auto)]
 
 mod vectors;

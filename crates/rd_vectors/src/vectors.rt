@@ -41,7 +41,8 @@ impl Vectors {
         })
     }
 
-    /// A line, and what its call answers; an empty line and a heading as they are. `Starved`: out of memory.
+    /// A line, and what its call answers; an empty line and a heading as they are. `Starved`: out
+    /// of memory.
     pub fn show(&mut self, line: &str) -> Result<Shown, Starved> {
         if line.is_empty() || line.starts_with('#') {
             return Ok(Shown {

@@ -1,4 +1,5 @@
-//! How calls, what they are given and what they answer are written in one line each: what the crates of vectors share.
+//! How calls, what they are given and what they answer are written in one line each: what the
+//! crates of vectors share.
 #![tactic(auto)]
 
 mod answers;

@@ -6,7 +6,8 @@ use std::alloc::Global;
 /// From how many equal octets on their number is shown.
 const LONG: usize = 32;
 
-/// Whether an octet is shown as it is: those that are printed in ASCII, but a backslash that stands before `x`.
+/// Whether an octet is shown as it is: those that are printed in ASCII, but a backslash that
+/// stands before `x`.
 fn is_plain(octet: u8, next: Option<&u8>) -> bool {
     if octet == b'\\' {
         return next != Some(&b'x');
@@ -38,8 +39,9 @@ fn put_equal(page: &mut String, equal: &[u8], next: Option<&u8>) -> Result<(), S
     put_octet(page, octet, next)
 }
 
-/// Writes octets as [`octets_of`](crate::octets_of) reads them: what is printed in ASCII as it is, everything else and a backslash before `x` as `\xHH`, 32 equal ones or more as `\x{HH*32}`,
-/// and none as `-`. `Starved`: out of memory.
+/// Writes octets as [`octets_of`](crate::octets_of) reads them: what is printed in ASCII as it is,
+/// everything else and a backslash before `x` as `\xHH`, 32 equal ones or more as `\x{HH*32}`, and
+/// none as `-`. `Starved`: out of memory.
 pub fn put_octets(page: &mut String, octets: &[u8]) -> Result<(), Starved> {
     if octets.is_empty() {
         return Ok(page.push_str("-")?);
@@ -78,7 +80,8 @@ fn put_digits(page: &mut String, equal: &[u8]) -> Result<(), Starved> {
     Ok(())
 }
 
-/// Writes octets in hexadecimal, 32 equal ones or more as `{HH*32}`, and none as `-`. `Starved`: out of memory.
+/// Writes octets in hexadecimal, 32 equal ones or more as `{HH*32}`, and none as `-`. `Starved`:
+/// out of memory.
 pub fn put_datagram(page: &mut String, octets: &[u8]) -> Result<(), Starved> {
     if octets.is_empty() {
         return Ok(page.push_str("-")?);

@@ -67,7 +67,8 @@ fn append_part(alloc: Global, octets: &mut Bytes, part: &str) -> Result<(), Star
     append_octet(octets, part.as_bytes())
 }
 
-/// The octets that a text stands for: `\xHH` with two hexadecimal digits is that octet, `\x{3c3e*9}` are these octets nine times, `-` alone is none, and everything else is itself.
+/// The octets that a text stands for: `\xHH` with two hexadecimal digits is that octet,
+/// `\x{3c3e*9}` are these octets nine times, `-` alone is none, and everything else is itself.
 /// `Starved`: out of memory.
 pub fn octets_of(alloc: Global, said: &str) -> Result<Bytes, Starved> {
     if said == "-" {
@@ -92,7 +93,8 @@ pub fn text_of(alloc: Global, said: &str) -> Result<String, NoAnswer> {
     }
 }
 
-/// The octets that a word of hexadecimal digits says, in which `{3c3e*9}` are these octets nine times; `-` is none. `Form`: it is no such word. `Starved`: out of memory.
+/// The octets that a word of hexadecimal digits says, in which `{3c3e*9}` are these octets nine
+/// times; `-` is none. `Form`: it is no such word. `Starved`: out of memory.
 pub fn datagram_of(alloc: Global, word: &str) -> Result<Bytes, NoAnswer> {
     let mut octets = Bytes::new(alloc);
     if word == "-" {

@@ -3,7 +3,8 @@ ghost use Rattle.std.specs.Prelude.{◌≤◌, IfOk};
 
 use crate::NoAnswer;
 
-/// What stands before the first space and what stands after it: all and nothing where there is none.
+/// What stands before the first space and what stands after it: all and nothing where there is
+/// none.
 pub fn cut(said: &str) -> (&str, &str) {
     match said.split_once(' ') {
         Some(parts) => parts,

@@ -1,4 +1,5 @@
-//! What the calls that read and write messages, their options, blocks, peers and the lines of a trace answer, line by line.
+//! What the calls that read and write messages, their options, blocks, peers and the lines of a
+//! trace answer, line by line.
 #![tactic(auto)]
 
 mod blocks;
@@ -13,7 +14,8 @@ mod texts;
 use std::alloc::Global;
 use vector_words::NoAnswer;
 
-/// What a call answers to what it is given; nothing where it is none of these. `Form`: what it is given has not the form of the call. `Starved`: out of memory.
+/// What a call answers to what it is given; nothing where it is none of these. `Form`: what it is
+/// given has not the form of the call. `Starved`: out of memory.
 pub fn answer(alloc: Global, call: &str, said: &str) -> Result<Option<String>, NoAnswer> {
     if let Some(answer) = peers::answer(alloc, call, said)? {
         return Ok(Some(answer));

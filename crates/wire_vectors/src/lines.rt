@@ -96,7 +96,8 @@ fn read_again(alloc: Global, trace: &[u8]) -> Result<u64, Starved> {
     Ok(count)
 }
 
-/// `trace_lines DEVICES WORKERS`: how many lines of the trace that is generated are printed as they are read, and how many there are.
+/// `trace_lines DEVICES WORKERS`: how many lines of the trace that is generated are printed as
+/// they are read, and how many there are.
 fn trace_lines(alloc: Global, said: &str) -> Result<String, NoAnswer> {
     let (devices, workers) = cut(said);
     let trace = made(alloc, devices, workers)?;

@@ -87,7 +87,8 @@ fn write(alloc: Global, said: &str) -> Result<String, NoAnswer> {
     Ok(page)
 }
 
-/// `note MESSAGE`: a message as a person reads it, its payload after two spaces on a line of its own.
+/// `note MESSAGE`: a message as a person reads it, its payload after two spaces on a line of its
+/// own.
 fn note(alloc: Global, said: &str) -> Result<String, NoAnswer> {
     let datagram = message_of(alloc, said)?;
     let mut page = String::new(alloc);

@@ -166,7 +166,8 @@ fn put_key(page: &mut String, alloc: Global, meaning: &Meaning<'_>) -> Result<()
     put_datagram(page, key.as_slice())
 }
 
-/// `queries MESSAGE`, `etags MESSAGE` and `key MESSAGE`: the query options, the entity tags and the key of a message.
+/// `queries MESSAGE`, `etags MESSAGE` and `key MESSAGE`: the query options, the entity tags and
+/// the key of a message.
 fn part_of(alloc: Global, call: &str, said: &str) -> Result<String, NoAnswer> {
     let datagram = message_of(alloc, said)?;
     let Ok(read) = view(datagram.as_slice()) else {

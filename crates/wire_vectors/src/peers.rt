@@ -1,5 +1,6 @@
 //! Peers: an address, as its octets in hexadecimal, and a port.
 
+use crate::texts::order_word;
 use rd_base::{Host, Peer, PeerBad, Starved, base_of, peer_read, peer_read_ascii, peer_text};
 use std::alloc::Global;
 use vector_words::{NoAnswer, cut, datagram_of, number_of, octets_of, put_datagram};
@@ -93,12 +94,23 @@ fn base_of_peer(alloc: Global, said: &str) -> Result<String, NoAnswer> {
     Ok(String::from_str(alloc, text.as_str())?)
 }
 
+/// `peer_order ADDRESS PORT ADDRESS PORT`: the order of two peers.
+fn peer_order(alloc: Global, said: &str) -> Result<String, NoAnswer> {
+    let (address, rest) = cut(said);
+    let (port, rest) = cut(rest);
+    let (other_address, other_port) = cut(rest);
+    let one = peer_of(alloc, address, port)?;
+    let other = peer_of(alloc, other_address, other_port)?;
+    Ok(String::from_str(alloc, order_word(one.cmp(&other)))?)
+}
+
 /// The answer to a call about peers.
 pub(crate) fn answer(alloc: Global, call: &str, said: &str) -> Result<Option<String>, NoAnswer> {
     let answer = match call {
         "peer" => peer(alloc, said)?,
         "peer_octets" => peer_octets(alloc, said)?,
         "peer_text" => text_of_peer(alloc, said)?,
+        "peer_order" => peer_order(alloc, said)?,
         "base_of" => base_of_peer(alloc, said)?,
         _ => return Ok(None),
     };

@@ -161,7 +161,8 @@ fn written_empty(alloc: Global, kind: Kind4, mid: u16) -> Result<Option<Bytes>, 
     }
 }
 
-/// The datagram of a message with this head, these options and this payload; nothing where it is too long.
+/// The datagram of a message with this head, these options and this payload; nothing where it is
+/// too long.
 fn written_parts(
     alloc: Global,
     head: &Head,
@@ -179,7 +180,8 @@ fn written_parts(
     script.finish(alloc, payload.as_slice())
 }
 
-/// The datagram of a message that is given in words; nothing where it is too long. `Form`: the words are not of that form, or no such message can be written. `Starved`: out of memory.
+/// The datagram of a message that is given in words; nothing where it is too long. `Form`: the
+/// words are not of that form, or no such message can be written. `Starved`: out of memory.
 pub(crate) fn written(alloc: Global, said: &str) -> Result<Option<Bytes>, NoAnswer> {
     let (front, payload) = match said.split_once(" | ") {
         Some(parts) => parts,

@@ -23,17 +23,21 @@ fn character(alloc: Global, said: &str) -> Result<String, NoAnswer> {
     Ok(shown(alloc, text.copy(alloc)?.as_bytes())?)
 }
 
+/// The word for an order.
+pub(crate) fn order_word(order: Ordering) -> &'static str {
+    match order {
+        Ordering::Less => "less",
+        Ordering::Equal => "equal",
+        Ordering::Greater => "greater",
+    }
+}
+
 /// `text_order TEXT TEXT`: the order of two texts.
 fn text_order(alloc: Global, said: &str) -> Result<String, NoAnswer> {
     let (one, other) = cut(said);
     let one = Text::of(text_of(alloc, one)?);
     let other = Text::of(text_of(alloc, other)?);
-    let word = match one.cmp(&other) {
-        Ordering::Less => "less",
-        Ordering::Equal => "equal",
-        Ordering::Greater => "greater",
-    };
-    Ok(String::from_str(alloc, word)?)
+    Ok(String::from_str(alloc, order_word(one.cmp(&other)))?)
 }
 
 /// `truncate NUMBER HEX`: the first octets.
