@@ -1,6 +1,6 @@
 use Rattle.std.proofs.Common.{◌≡◌, false}
 use Rattle.turn_lock.specs.Shown.{lock_of, is_holding}
-use Rattle.rd_bench.proofs.turns.turns.Given as goal
+use Rattle.rd_bench.proofs.turns.take_turns.Given as goal
 
 abbrev pub invariant-steps : goal.invariant-steps
 invariant-steps g l = record {
