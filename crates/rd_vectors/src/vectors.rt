@@ -7,6 +7,7 @@ use vector_words::{NoAnswer, cut};
 /// All calls.
 #[derive(Drop)]
 pub(crate) struct Vectors {
+    /// Where their memory comes from.
     alloc: Global,
 }
 
