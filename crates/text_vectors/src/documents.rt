@@ -1,5 +1,5 @@
-//! The calls of `link_format` (RFC 6690 section 2): `check BODY`, `params BODY` and `value_of BODY` of the first link of the
-//! body, and `quoted TEXT`.
+//! The calls of `link_format` (RFC 6690 section 2): `check BODY`, `params BODY` and `value_of
+//! BODY` of the first link of the body, and `quoted TEXT`.
 
 use crate::pages::{begin, put_fault, put_text};
 use link_format::{LinkBad, Links, Param, Params, check, params, quoted, value_of};

@@ -1,19 +1,33 @@
-//! The calls of `registration` (RFC 9176 sections 5 and 5.3.1). A registration is `PEER?OPTIONS BODY`: where it comes from
-//! with its parameters, and its links. The calls are `build REGISTRATION`, `weight NUMBER REGISTRATION`, and
-//! `rebased update?OPTIONS REGISTRATION`: its links against the base that the update gives, and those again against their own.
-ghost use Rattle.std.specs.Prelude.{◌≡◌, true, IfOk};
+//! The calls of `registration` (RFC 9176 sections 5 and 5.3.1). A registration is `PEER?OPTIONS
+//! BODY`: where it comes from with its parameters, and its links. The calls are `build
+//! REGISTRATION`, `weight NUMBER REGISTRATION`, and `rebased update?OPTIONS REGISTRATION`: its
+//! links against the base that the update gives, and those again against their own.
+ghost use Rattle.std.specs.Prelude.{◌≡◌, true, IfOk, IfSome};
 ghost use Rattle.std.specs.List.{list_all};
 ghost use Rattle.record_model.specs.Parameters.{is_base};
 ghost use Rattle.registration.specs.Drafts.{has_references};
 
-use crate::pages::{begin, put_fault, put_given, put_items, put_named, put_number, put_pairs, text_in};
+use crate::pages::{
+    begin, put_fault, put_given, put_items, put_named, put_number, put_pairs, text_in,
+};
 use crate::queries::params_of;
 use crate::requests::Request;
 use query_text::{QueryBad, update_params};
-use rd_base::{Peer, Starved, Text, peer_read};
+use rd_base::{Bytes, Peer, RegParams, Starved, Text, peer_read};
 use registration::{Draft, DraftFault, build, rebased, weight};
 use std::alloc::Global;
 use vector_words::{NoAnswer, cut, number_of, octets_of};
+
+/// What is submitted to be registered.
+#[derive(Drop)]
+struct Submission {
+    /// The parameters.
+    params: RegParams,
+    /// Where it comes from.
+    peer: Peer,
+    /// The links.
+    body: Bytes,
+}
 
 /// Where a request comes from. `Form`: it says no peer.
 fn peer_of(request: &Request<'_>) -> Result<Peer, NoAnswer> {
@@ -23,25 +37,25 @@ fn peer_of(request: &Request<'_>) -> Result<Peer, NoAnswer> {
     }
 }
 
-/// What `build` answers for a registration. `Form`: none is said.
-fn built(alloc: Global, said: &str) -> Result<Result<Draft, DraftFault>, NoAnswer>
-    ensures references { IfOk result (λ built. IfOk built (λ draft. list_all has_references draft.items ≡ true)) }
-    ensures base { IfOk result (λ built. IfOk built (λ draft. is_base draft.base ≡ true)) }
+/// The registration that is said. `Form`: none is.
+fn submission_of(alloc: Global, said: &str) -> Result<Submission, NoAnswer>
+    ensures { IfOk result (λ said. IfSome said.params.base (λ base. is_base base ≡ true)) }
 {
     let (word, body) = cut(said);
     let request = Request::of(alloc, word)?;
     let peer = peer_of(&request)?;
     let params = params_of(alloc, &request)?;
     let body = octets_of(alloc, body)?;
-    Ok(build(alloc, params, peer, body.as_slice()))
+    Ok(Submission { params, peer, body })
 }
 
-/// The draft of a registration. `Form`: none is said, or it is refused.
+/// The draft of a registration. `Form`: none is said, or its body is refused.
 fn draft_of(alloc: Global, said: &str) -> Result<Draft, NoAnswer>
     ensures references { IfOk result (λ draft. list_all has_references draft.items ≡ true) }
     ensures base { IfOk result (λ draft. is_base draft.base ≡ true) }
 {
-    match built(alloc, said)? {
+    let Submission { params, peer, body } = submission_of(alloc, said)?;
+    match build(alloc, params, peer, body.as_slice()) {
         Ok(draft) => Ok(draft),
         Err(DraftFault::Starved) => Err(NoAnswer::Starved),
         Err(_) => Err(NoAnswer::Form),
@@ -54,14 +68,19 @@ fn put_draft(page: &mut String, draft: &Draft) -> Result<(), Starved> {
     put_given(page, "d", text_in(&draft.name.sector))?;
     put_number(page, "lt", u64::from(draft.lt))?;
     put_named(page, "base", draft.base.as_str())?;
-    page.push_str(if draft.base_given { " given" } else { " of the peer" })?;
+    page.push_str(if draft.base_given {
+        " given"
+    } else {
+        " of the peer"
+    })?;
     put_pairs(page, draft.attrs.as_slice())?;
     put_items(page, draft.items.as_slice())
 }
 
 /// Writes what `build` answers for a registration.
 fn put_built(page: &mut String, alloc: Global, said: &str) -> Result<(), NoAnswer> {
-    match built(alloc, said)? {
+    let Submission { params, peer, body } = submission_of(alloc, said)?;
+    match build(alloc, params, peer, body.as_slice()) {
         Ok(draft) => put_draft(page, &draft)?,
         Err(DraftFault::Links(at)) => put_fault(page, "links", at)?,
         Err(DraftFault::Reference(at)) => put_fault(page, "reference", at)?,

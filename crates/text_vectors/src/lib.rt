@@ -1,5 +1,6 @@
-//! What the calls of the crates of text answer, by the name of the call and its input: documents, references, query
-//! options, drafts and listings (RFC 3986, RFC 6690, RFC 9176). How each call's input is written stands in its module.
+//! What the calls of the crates of text answer, by the name of the call and its input: documents,
+//! references, query options, drafts and listings (RFC 3986, RFC 6690, RFC 9176). How each call's
+//! input is written stands in its module.
 #![tactic(auto)]
 
 mod documents;
@@ -16,12 +17,7 @@ use std::alloc::Global;
 use vector_words::NoAnswer;
 
 /// Writes what a call of one of the crates answers, and tells whether it is one.
-fn put_answer(
-    page: &mut String,
-    alloc: Global,
-    call: &str,
-    said: &str,
-) -> Result<bool, NoAnswer> {
+fn put_answer(page: &mut String, alloc: Global, call: &str, said: &str) -> Result<bool, NoAnswer> {
     if documents::put_answer(page, alloc, call, said)? {
         return Ok(true);
     }
@@ -40,12 +36,13 @@ fn put_answer(
     listings::put_answer(page, alloc, call, said)
 }
 
-/// What the call of that name answers to what is said. None: no crate of text has such a call. Parts of an answer stand
-/// between ` | `; one without any is `-`.
+/// What the call of that name answers to what is said. None: no crate of text has such a call.
+/// Parts of an answer stand between ` | `; one without any is `-`.
 ///
 /// # Errors
 ///
-/// `Form` where what is said has not the form that the call's module tells. `Starved`: out of memory.
+/// `Form` where what is said has not the form that the call's module tells. `Starved`: out of
+/// memory.
 pub fn answer(alloc: Global, call: &str, said: &str) -> Result<Option<String>, NoAnswer> {
     let mut page = String::new(alloc);
     if !put_answer(&mut page, alloc, call, said)? {

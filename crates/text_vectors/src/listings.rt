@@ -1,7 +1,7 @@
-//! The calls of `listing` on lookups (RFC 9176 section 6). A lookup is `KIND?OPTIONS`. The calls are
-//! `matches LOOKUP INDEX RECORD`, `endpoint_listed LOOKUP RECORD`, `same_part LOOKUP OLD -> NEW`, of which each is a record
-//! or `-`, `lines LOOKUP SKIP MOST BEFORE RECORD`, where `BEFORE` is what stands there already, `discovery LOOKUP` and
-//! `page_bounds LOOKUP`.
+//! The calls of `listing` on lookups (RFC 9176 section 6). A lookup is `KIND?OPTIONS`. The calls
+//! are `matches LOOKUP INDEX RECORD`, `endpoint_listed LOOKUP RECORD`, `same_part LOOKUP OLD ->
+//! NEW`, of which each is a record or `-`, `lines LOOKUP SKIP MOST BEFORE RECORD`, where `BEFORE`
+//! is what stands there already, `discovery LOOKUP` and `page_bounds LOOKUP`.
 
 use crate::pages::{begin, put_number};
 use crate::queries::query_of;
@@ -40,7 +40,8 @@ fn is_same(alloc: Global, query: &Query, said: &str) -> Result<bool, NoAnswer> {
     Ok(same_part(query, old.as_ref(), new.as_ref()))
 }
 
-/// Writes the lines that a registration gives to a query, after how many were skipped and written.
+/// Writes the lines that a registration gives to a query, after how many were skipped and
+/// written.
 fn put_lines(page: &mut String, alloc: Global, query: &Query, said: &str) -> Result<(), NoAnswer> {
     let (skip, rest) = cut(said);
     let (most, rest) = cut(rest);

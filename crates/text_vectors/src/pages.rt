@@ -28,11 +28,7 @@ pub(crate) fn put_named(page: &mut String, name: &str, value: &str) -> Result<()
 }
 
 /// Writes a part of a name and a value, where there is one.
-pub(crate) fn put_given(
-    page: &mut String,
-    name: &str,
-    value: Option<&str>,
-) -> Result<(), Starved> {
+pub(crate) fn put_given(page: &mut String, name: &str, value: Option<&str>) -> Result<(), Starved> {
     match value {
         None => Ok(()),
         Some(value) => put_named(page, name, value),
@@ -85,7 +81,8 @@ fn put_link(
     Ok(())
 }
 
-/// Writes a link as a part: its target and anchor as they were submitted, the link as it is listed, and its attributes.
+/// Writes a link as a part: its target and anchor as they were submitted, the link as it is
+/// listed, and its attributes.
 fn put_item(page: &mut String, item: &Item) -> Result<(), Starved> {
     begin(page)?;
     put_link(page, &item.target_ref, "", &item.anchor_ref)?;

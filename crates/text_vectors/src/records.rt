@@ -1,5 +1,5 @@
-//! Registrations as listings have them: `/rd/NUMBER?OPTIONS LINKS`. The options give its base too; the links are those of
-//! a document as they stand, their targets and anchors resolved.
+//! Registrations as listings have them: `/rd/NUMBER?OPTIONS LINKS`. The options give its base
+//! too; the links are those of a document as they stand, their targets and anchors resolved.
 
 use crate::queries::params_of;
 use crate::requests::Request;

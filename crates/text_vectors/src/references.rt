@@ -1,5 +1,5 @@
-//! The calls of `ref_resolve` (RFC 3986): `parts REFERENCE`, `is_uri REFERENCE`, `host REFERENCE` and
-//! `resolve BASE REFERENCE`.
+//! The calls of `ref_resolve` (RFC 3986): `parts REFERENCE`, `is_uri REFERENCE`, `host REFERENCE`
+//! and `resolve BASE REFERENCE`.
 
 use crate::pages::{put_fault, put_given, put_named};
 use rd_base::Starved;
@@ -39,7 +39,8 @@ fn put_resolved(
     Ok(put_octets(page, text.as_bytes())?)
 }
 
-/// Writes what one of the calls answers for a reference that is read; the base is for `resolve` alone.
+/// Writes what one of the calls answers for a reference that is read; the base is for `resolve`
+/// alone.
 fn put_of(
     page: &mut String,
     alloc: Global,

@@ -1,5 +1,6 @@
-//! Requests in a word: `PLACE?OPTION&OPTION..`. What stands before the question mark says what the options are for. Without
-//! a question mark there are no options; `?` alone is followed by an empty one.
+//! Requests in a word: `PLACE?OPTION&OPTION..`. What stands before the question mark says what
+//! the options are for. Without a question mark there are no options; `?` alone is followed by an
+//! empty one.
 
 use rd_base::{Bytes, Pieces, Starved};
 use std::alloc::Global;
