@@ -8,12 +8,12 @@ ghost use Rattle.record_model.specs.Parameters.{is_base};
 ghost use Rattle.registration.specs.Drafts.{has_references};
 
 use crate::pages::{
-    begin, put_fault, put_given, put_items, put_named, put_number, put_pairs, text_in,
+    begin, put_fault, put_items, put_named, put_number, put_optional, put_pairs, text_in,
 };
 use crate::queries::params_of;
 use crate::requests::Request;
 use query_text::{QueryBad, update_params};
-use rd_base::{Bytes, Peer, RegParams, Starved, Text, peer_read};
+use rd_base::{Bytes, Peer, RegParams, Starved, Text, UpdateParams, peer_read};
 use registration::{Draft, DraftFault, build, rebased, weight};
 use std::alloc::Global;
 use vector_words::{NoAnswer, cut, number_of, octets_of};
@@ -65,7 +65,7 @@ fn draft_of(alloc: Global, said: &str) -> Result<Draft, NoAnswer>
 /// Writes a draft; of its base also whether it was given.
 fn put_draft(page: &mut String, draft: &Draft) -> Result<(), Starved> {
     put_named(page, "ep", draft.name.ep.as_str())?;
-    put_given(page, "d", text_in(&draft.name.sector))?;
+    put_optional(page, "d", text_in(&draft.name.sector))?;
     put_number(page, "lt", u64::from(draft.lt))?;
     put_named(page, "base", draft.base.as_str())?;
     page.push_str(if draft.base_given {
@@ -104,13 +104,14 @@ fn base_of(alloc: Global, word: &str) -> Result<Text, NoAnswer>
     ensures { IfOk result (λ base. is_base base ≡ true) }
 {
     let request = Request::of(alloc, word)?;
-    match update_params(alloc, request.queries()) {
-        Ok(params) => match params.base {
-            Some(base) => Ok(base),
-            None => Err(NoAnswer::Form),
-        },
-        Err(QueryBad::At { .. }) => Err(NoAnswer::Form),
-        Err(QueryBad::Starved) => Err(NoAnswer::Starved),
+    let UpdateParams { base, .. } = match update_params(alloc, request.queries()) {
+        Ok(params) => params,
+        Err(QueryBad::At { .. }) => return Err(NoAnswer::Form),
+        Err(QueryBad::Starved) => return Err(NoAnswer::Starved),
+    };
+    match base {
+        Some(base) => Ok(base),
+        None => Err(NoAnswer::Form),
     }
 }
 

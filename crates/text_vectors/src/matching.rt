@@ -13,13 +13,18 @@ use rd_base::{Criterion, Starved, Text};
 use std::alloc::Global;
 use vector_words::{NoAnswer, cut, put_octets, text_of, yes_or_no};
 
+/// What stands before the first equals sign and after it: all and nothing where there is none.
+fn name_and_pattern(text: &str) -> (&str, &str) {
+    match text.split_once('=') {
+        Some(parts) => parts,
+        None => (text, ""),
+    }
+}
+
 /// A criterion in a word. `Form`: its octets are no UTF-8.
 fn criterion_of(alloc: Global, word: &str) -> Result<Criterion, NoAnswer> {
     let text = text_of(alloc, word)?;
-    let (name, pattern) = match text.as_str().split_once('=') {
-        Some(parts) => parts,
-        None => (text.as_str(), ""),
-    };
+    let (name, pattern) = name_and_pattern(text.as_str());
     let name = Text::copy_of(alloc, name)?;
     let pattern = Text::copy_of(alloc, pattern)?;
     Ok(Criterion { name, pattern })

@@ -28,7 +28,11 @@ pub(crate) fn put_named(page: &mut String, name: &str, value: &str) -> Result<()
 }
 
 /// Writes a part of a name and a value, where there is one.
-pub(crate) fn put_given(page: &mut String, name: &str, value: Option<&str>) -> Result<(), Starved> {
+pub(crate) fn put_optional(
+    page: &mut String,
+    name: &str,
+    value: Option<&str>,
+) -> Result<(), Starved> {
     match value {
         None => Ok(()),
         Some(value) => put_named(page, name, value),

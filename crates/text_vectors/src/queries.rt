@@ -5,7 +5,7 @@
 ghost use Rattle.std.specs.Prelude.{◌≡◌, true, IfOk, IfSome};
 ghost use Rattle.record_model.specs.Parameters.{is_base};
 
-use crate::pages::{put_given, put_named, put_number, put_pairs, text_in};
+use crate::pages::{put_named, put_number, put_optional, put_pairs, text_in};
 use crate::requests::{Listed, Request};
 use query_text::{QueryBad, Reading, Why, fault, lookup_query, reg_params, update_params};
 use rd_base::{Kind, Query, RegParams, Starved, UpdateParams};
@@ -79,9 +79,9 @@ fn put_first_fault(page: &mut String, kind: Reading, queries: Listed<'_>) -> Res
 /// Writes the parameters of a registration.
 fn put_reg_params(page: &mut String, params: &RegParams) -> Result<(), Starved> {
     put_named(page, "ep", params.name.ep.as_str())?;
-    put_given(page, "d", text_in(&params.name.sector))?;
+    put_optional(page, "d", text_in(&params.name.sector))?;
     put_number(page, "lt", u64::from(params.lt))?;
-    put_given(page, "base", text_in(&params.base))?;
+    put_optional(page, "base", text_in(&params.base))?;
     put_pairs(page, params.attrs.as_slice())
 }
 
@@ -108,7 +108,7 @@ fn put_update_params(page: &mut String, params: &UpdateParams) -> Result<(), Sta
     if let Some(seconds) = params.lt {
         put_number(page, "lt", u64::from(seconds))?;
     }
-    put_given(page, "base", text_in(&params.base))?;
+    put_optional(page, "base", text_in(&params.base))?;
     put_pairs(page, params.attrs.as_slice())
 }
 

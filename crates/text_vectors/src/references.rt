@@ -1,7 +1,7 @@
 //! The calls of `ref_resolve` (RFC 3986): `parts REFERENCE`, `is_uri REFERENCE`, `host REFERENCE`
 //! and `resolve BASE REFERENCE`.
 
-use crate::pages::{put_fault, put_given, put_named};
+use crate::pages::{put_fault, put_named, put_optional};
 use rd_base::Starved;
 use ref_resolve::{Parts, RefBad, host, is_uri, parts, resolve};
 use std::alloc::Global;
@@ -9,11 +9,11 @@ use vector_words::{NoAnswer, cut, put_octets, text_of, yes_or_no};
 
 /// Writes the components that a reference has.
 fn put_parts(page: &mut String, parts: &Parts<'_>) -> Result<(), Starved> {
-    put_given(page, "scheme", parts.scheme)?;
-    put_given(page, "authority", parts.authority)?;
+    put_optional(page, "scheme", parts.scheme)?;
+    put_optional(page, "authority", parts.authority)?;
     put_named(page, "path", parts.path)?;
-    put_given(page, "query", parts.query)?;
-    put_given(page, "fragment", parts.fragment)
+    put_optional(page, "query", parts.query)?;
+    put_optional(page, "fragment", parts.fragment)
 }
 
 /// Writes the host of a reference, or that it has none.
