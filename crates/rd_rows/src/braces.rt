@@ -14,12 +14,7 @@ fn write_digits(text: &mut String, alloc: Global, number: u64) -> Result<(), Fau
 }
 
 /// Writes a number in the form that is named, if it is one.
-fn write_number(
-    text: &mut String,
-    alloc: Global,
-    form: &str,
-    number: u64,
-) -> Result<bool, Fault> {
+fn write_number(text: &mut String, alloc: Global, form: &str, number: u64) -> Result<bool, Fault> {
     match form {
         "n" => write!(text, "{number}")?,
         "n:04x" => write!(text, "{number:04x}")?,
@@ -63,12 +58,7 @@ fn write_inside(
 /// A text with what stands in its braces written out: `{n}` is the number that the line is repeated for, `{n:04x}`
 /// and `{n:02x}` its two octets and its low one in hexadecimal, `{n:digits}` its decimal digits as octets, and
 /// `{3c3e*9}` is `3c3e` nine times. `Form`, with the number of the line: a brace has none of these forms.
-pub fn expand(
-    alloc: Global,
-    line: u64,
-    text: &str,
-    number: Option<u64>,
-) -> Result<String, Fault> {
+pub fn expand(alloc: Global, line: u64, text: &str, number: Option<u64>) -> Result<String, Fault> {
     let mut parts = text.split('{');
     let mut written = String::new(alloc);
     written.push_str(parts.next().unwrap_or(""))?;

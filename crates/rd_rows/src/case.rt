@@ -85,23 +85,31 @@ impl Case {
             self.trace.push('\n')?;
         }
         self.steps = self.steps.saturating_add(1);
-        if self.lines.last().is_some_and(|last| last.kind == Kind::Output) {
+        if self
+            .lines
+            .last()
+            .is_some_and(|last| last.kind == Kind::Output)
+        {
             self.is_story = true;
         }
-        Ok(self.lines.push(CaseLine {
-            number,
-            kind: Kind::Step,
-            text,
-        })?)
+        Ok(
+            self.lines.push(CaseLine {
+                number,
+                kind: Kind::Step,
+                text,
+            })?,
+        )
     }
 
     /// Takes a line of the output, or the status.
     fn take_output(&mut self, number: u64, text: String) -> Result<(), Fault> {
-        Ok(self.lines.push(CaseLine {
-            number,
-            kind: Kind::Output,
-            text,
-        })?)
+        Ok(
+            self.lines.push(CaseLine {
+                number,
+                kind: Kind::Output,
+                text,
+            })?,
+        )
     }
 
     /// Takes a line of the file, which stands for a number where it is repeated. `Form`: it has none of the forms.

@@ -25,7 +25,13 @@ fn replayed(alloc: Global, case: &Case) -> Result<(Came, Status), Fault> {
     let mut source = MemSource::of(trace, Bytes::new(alloc));
     let mut out = MemSink::of(alloc, Bytes::new(alloc));
     let mut err = MemSink::of(alloc, Bytes::new(alloc));
-    let status = replay(alloc, case.words.as_slice(), &mut source, &mut out, &mut err);
+    let status = replay(
+        alloc,
+        case.words.as_slice(),
+        &mut source,
+        &mut out,
+        &mut err,
+    );
     let mut came = Came::new(alloc);
     came.add(out.as_slice())?;
     came.add(status_text(alloc, status, err.as_slice())?.as_bytes())?;

@@ -57,12 +57,7 @@ fn step(alloc: Global, machine: &mut Machine, line: &str, is_last: bool) -> Resu
 }
 
 /// Does the steps of a case up to its bad one, and tells of each the lines that are written behind it.
-fn tell(
-    alloc: Global,
-    machine: &mut Machine,
-    case: &Case,
-    bad: Option<u64>,
-) -> Result<(), Fault>
+fn tell(alloc: Global, machine: &mut Machine, case: &Case, bad: Option<u64>) -> Result<(), Fault>
     requires { IsMachine machine.old }
 {
     let mut came = Came::new(alloc);
