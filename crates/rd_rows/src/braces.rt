@@ -1,4 +1,5 @@
-//! What stands in braces in a line of a case: a number that the line is repeated for, or a text so many times.
+//! What stands in braces in a line of a case: a number that the line is repeated for, or a text so
+//! many times.
 
 use crate::faults::Fault;
 use std::alloc::Global;
@@ -55,9 +56,10 @@ fn write_inside(
     }
 }
 
-/// A text with what stands in its braces written out: `{n}` is the number that the line is repeated for, `{n:04x}`
-/// and `{n:02x}` its two octets and its low one in hexadecimal, `{n:digits}` its decimal digits as octets, and
-/// `{3c3e*9}` is `3c3e` nine times. `Form`, with the number of the line: a brace has none of these forms.
+/// A text with what stands in its braces written out: `{n}` is the number that the line is
+/// repeated for, `{n:04x}` and `{n:02x}` its two octets and its low one in hexadecimal,
+/// `{n:digits}` its decimal digits as octets, and `{3c3e*9}` is `3c3e` nine times. `Form`, with
+/// the number of the line: a brace has none of these forms.
 pub fn expand(alloc: Global, line: u64, text: &str, number: Option<u64>) -> Result<String, Fault> {
     let mut parts = text.split('{');
     let mut written = String::new(alloc);

@@ -44,7 +44,8 @@ pub struct Case {
     pub lines: Vec<CaseLine>,
     /// How many lines the trace has.
     pub steps: u64,
-    /// Whether a line of the output stands before a line of the trace: then it is told step by step too.
+    /// Whether a line of the output stands before a line of the trace: then it is told step by
+    /// step too.
     pub is_story: bool,
     /// Whether the trace ends without a line feed, so that no line may follow.
     is_cut: bool,
@@ -112,7 +113,8 @@ impl Case {
         )
     }
 
-    /// Takes a line of the file, which stands for a number where it is repeated. `Form`: it has none of the forms.
+    /// Takes a line of the file, which stands for a number where it is repeated. `Form`: it has
+    /// none of the forms.
     pub fn take(
         &mut self,
         alloc: Global,

@@ -1,8 +1,9 @@
-//! `rd_rows`: runs stored cases of the directory, and tells of each whether what comes is as it is written.
+//! `rd_rows`: runs stored cases of the directory, and tells of each whether what comes is as it is
+//! written.
 //!
 //! Standard input names the cases, one a line, as `registration/repeated`; the file of that one is
-//! `registration/repeated.case`, in the folder where the program runs. Empty lines and those that begin
-//! with `#` are passed over.
+//! `registration/repeated.case`, in the folder where the program runs. Empty lines and those that
+//! begin with `#` are passed over.
 #![tactic(auto)]
 
 mod braces;

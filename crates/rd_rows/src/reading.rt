@@ -111,8 +111,8 @@ impl<'a> Reader<'a> {
     }
 }
 
-/// The case that a file says. `Form`, with the number of the line: the file does not begin with a comment, does not
-/// end with a line feed, or has a line that no case has.
+/// The case that a file says. `Form`, with the number of the line: the file does not begin with a
+/// comment, does not end with a line feed, or has a line that no case has.
 pub fn read_case(alloc: Global, text: &str) -> Result<Case, Fault> {
     let Some(lines) = text.strip_suffix('\n') else {
         return Err(Fault::Form(1));

@@ -22,7 +22,8 @@ fn worker_of(line: &Line) -> u8 {
     }
 }
 
-/// Does what a line says, and answers which worker it names. None: the line is bad, and nothing is done.
+/// Does what a line says, and answers which worker it names. None: the line is bad, and nothing is
+/// done.
 fn perform(alloc: Global, machine: &mut Machine, line: &str) -> Result<Option<u8>, Starved>
     requires { IsMachine machine.old }
     ensures { IfOk result (λ _. IsMachine machine.new) }
@@ -56,7 +57,8 @@ fn step(alloc: Global, machine: &mut Machine, line: &str, is_last: bool) -> Resu
     Ok(came)
 }
 
-/// Does the steps of a case up to its bad one, and tells of each the lines that are written behind it.
+/// Does the steps of a case up to its bad one, and tells of each the lines that are written behind
+/// it.
 fn tell(alloc: Global, machine: &mut Machine, case: &Case, bad: Option<u64>) -> Result<(), Fault>
     requires { IsMachine machine.old }
 {
@@ -77,8 +79,8 @@ fn tell(alloc: Global, machine: &mut Machine, case: &Case, bad: Option<u64>) -> 
     Ok(())
 }
 
-/// Runs a case step by step, up to the line of its trace that is bad, if there is one. `Differs`: the first line that
-/// does not stand behind the step that writes it.
+/// Runs a case step by step, up to the line of its trace that is bad, if there is one. `Differs`:
+/// the first line that does not stand behind the step that writes it.
 pub fn check_steps(alloc: Global, case: &Case, bad: Option<u64>) -> Result<(), Fault> {
     let mut machine = Machine::make(alloc, WORKERS)?;
     tell(alloc, &mut machine, case, bad)
