@@ -6,7 +6,7 @@ use rd_base::Starved;
 use std::alloc::Global;
 
 /// Lines that came, and how many of them were told.
-#[derive(Debug, Drop)]
+#[derive(Drop)]
 pub struct Came {
     /// Where its memory comes from.
     alloc: Global,

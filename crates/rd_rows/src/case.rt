@@ -23,7 +23,7 @@ pub enum Kind {
 }
 
 /// A line of a case, as it stands for one number of its `for`.
-#[derive(Debug, Drop)]
+#[derive(Drop)]
 pub struct CaseLine {
     /// The number of the line in the file.
     pub number: u64,
@@ -34,7 +34,7 @@ pub struct CaseLine {
 }
 
 /// A case.
-#[derive(Debug, Drop)]
+#[derive(Drop)]
 pub struct Case {
     /// The words of the command line.
     pub words: Vec<String>,

@@ -5,7 +5,7 @@ use std::alloc::{AllocError, AllocFailed};
 use std::fmt;
 
 /// Why a case is not as it is written.
-#[derive(Debug, Drop)]
+#[derive(Drop)]
 pub enum Fault {
     /// Its file cannot be read as text.
     Unread,
