@@ -21,8 +21,14 @@ examples: build
 	@cd crates/rd_rows/data && ../../../bin/rd_rows < ../stdin
 
 bench:
-	@cd crates/rd_bench && rt run < stdin > out.bench 2>&1 || { cat out.bench; rm -f out.bench; exit 1; }
-	@rm -f crates/rd_bench/out.bench; crates/rd_bench/out/rd_bench > /dev/null
+	@mkdir -p bin
+	@for program in rd_bench rd_replay; do \
+		(cd crates/$$program && rt run -- $$(cat args 2>/dev/null) < stdin > out.bench 2>&1) \
+			|| { cat crates/$$program/out.bench; rm -f crates/$$program/out.bench; exit 1; }; \
+		rm -f crates/$$program/out.bench; cp crates/$$program/out/$$program bin/; \
+	done
+	@bin/rd_bench > /dev/null
+	@python3 bench/traces.py bin/rd_replay
 
 test:
 	rt ci

@@ -5,10 +5,10 @@ use Rattle.journal_model.specs.AnswersAsFormed.{AnswersAsFormed}
 use Rattle.journal_model.specs.TagsDecideStates.{TagsDecideStates}
 use Rattle.journal_model.specs.ObserversKnow.{ObserversKnow}
 use Rattle.journal_model.specs.SentDatagrams.{SendsToWhoAsked}
-use Rattle.headline_law.proofs.datagrams.DatagramLaws.{journal-SendsToWhoAsked}
+use Rattle.headline_law.proofs.datagrams.DatagramLaws.{journal-SendsToWhoAsked, desk-SendsToWhoAsked}
 use Rattle.journal_model.specs.Headline.{Headline, DeskHeadline}
 use Rattle.headline_law.proofs.entries.HoldsEachOnce.{journal-HoldsEachOnce, desk-HoldsEachOnce}
-use Rattle.headline_law.proofs.rows.AnswersAsFormed.{answers_as_formed}
+use Rattle.headline_law.proofs.rows.AnswersAsFormed.{answers_as_formed, desk-DeskAnswersAsFormed}
 use Rattle.headline_law.proofs.rows.TaggedAnswers.{journal-TagsDecideStates, desk-FormedTagsDecideStates}
 use Rattle.journal_model.proofs.observers.ObserversKnow.{journal-ObserversKnow, desk-ObserversKnow}
 use Rattle.trace_model.specs.Steps.{journal}
@@ -32,8 +32,10 @@ journal-Headline rows journal = record {
 pub desk-DeskHeadline : (rows : List Row) → IsDeskJournal rows → DeskHeadline rows
 desk-DeskHeadline rows journal = record {
   changes = desk-HoldsEachOnce rows journal;
+  answers = desk-DeskAnswersAsFormed rows journal;
   tags = desk-FormedTagsDecideStates rows journal;
   observers = desk-ObserversKnow rows journal;
+  sends = λ requests. desk-SendsToWhoAsked rows journal requests;
 }
 
 -- ---- traces

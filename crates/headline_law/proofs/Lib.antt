@@ -43,4 +43,6 @@ pub mod desks
 pub mod datagrams
 pub mod HeadlineLaw
 pub mod WrongRows
+pub mod WrongEntries
+pub mod WrongBodies
 pub mod WrongDatagrams

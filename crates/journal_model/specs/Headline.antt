@@ -2,10 +2,10 @@
 use Rattle.std.specs.Prelude.{List}
 use Rattle.journal_model.specs.declared.rows.Row.{Row}
 use Rattle.journal_model.specs.HoldsEachOnce.{HoldsEachOnce}
-use Rattle.journal_model.specs.AnswersAsFormed.{AnswersAsFormed}
+use Rattle.journal_model.specs.AnswersAsFormed.{AnswersAsFormed, DeskAnswersAsFormed}
 use Rattle.journal_model.specs.TagsDecideStates.{TagsDecideStates, FormedTagsDecideStates}
 use Rattle.journal_model.specs.ObserversKnow.{ObserversKnow}
-use Rattle.journal_model.specs.SentDatagrams.{SendsToWhoAsked}
+use Rattle.journal_model.specs.SentDatagrams.{SendsToWhoAsked, AreForRequests}
 
 -- What holds of every journal of the machine.
 pub record Headline (rows : List Row) : Type 0 where
@@ -15,8 +15,12 @@ pub record Headline (rows : List Row) : Type 0 where
   pub observers : ObserversKnow rows
   pub sends : SendsToWhoAsked rows
 
--- What holds of every journal of a desk: of its looks, which need not stand in it, and of what its keeps send, nothing is said.
+-- What holds of every journal of a desk, whose looks need not stand in it, and whose keeps may have any body and tag: of its answers what is said
+-- of those whose bodies were formed in its rows, and of its datagrams where each look, commit and keep is made for a request and each keep has a tag
+-- of eight octets.
 pub record DeskHeadline (rows : List Row) : Type 0 where
   pub changes : HoldsEachOnce rows
+  pub answers : DeskAnswersAsFormed rows
   pub tags : FormedTagsDecideStates rows
   pub observers : ObserversKnow rows
+  pub sends : AreForRequests rows → SendsToWhoAsked rows

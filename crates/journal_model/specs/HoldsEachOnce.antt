@@ -23,16 +23,17 @@ use Rattle.event_model.specs.declared.notes.Note.TheVariants as note
 use Rattle.event_model.specs.Same.{is_same_peer}
 use Rattle.event_model.specs.Events.{exchange_lifetime}
 use Rattle.event_model.specs.Repeats.{is_failure_of}
-use Rattle.event_model.specs.Fetches.{Request, collected}
+use Rattle.event_model.specs.Fetches.{Request, gathered, collected}
 use Rattle.event_model.specs.Uploads.{live_upload}
 use Rattle.journal_model.specs.declared.steps.Step.{Step}
+use Rattle.journal_model.specs.declared.steps.StepKind.{StepKind}
 use Rattle.journal_model.specs.declared.steps.StepKind.TheVariants as step
 use Rattle.journal_model.specs.declared.rows.Row.{Row}
 use Rattle.journal_model.specs.Journal.{events, entries, entries_of}
 use Rattle.journal_model.specs.Requests.{is_location, sent_block}
 use Rattle.journal_model.specs.Changes.{entry_of_step, good_body, body_read}
 use Rattle.journal_model.specs.Registrations.{collected_before}
-use Rattle.journal_model.specs.Responses.{fetch_of}
+use Rattle.journal_model.specs.Responses.{fetch_of, block_in, is_elsewhere, more_follow, ends_fetch}
 use Rattle.journal_model.specs.PlacedRows.{Within, Commits, admits, code_sent}
 
 -- the row ends the fetch of its peer
@@ -49,9 +50,18 @@ pub record AnswersFetch (before : List Row) (s : Step) : Type 0 where
   pub request : Request
   pub fetch : fetch_of s message (events before) ≡ Some request
 
--- such a response completed the fetch, which its row ends
+-- a response brings the end of a whole body: it is 2.05, it begins where what was collected ends, no more follows,
+-- and nothing of it ends the fetch without a registration
+pub record EndsBody (before : List Row) (s : Step) (m : Message) : Type 0 where
+  pub content : m.code ≡ codes_of.content
+  pub joins : is_elsewhere (block_in m) (length (collected s.peer (events before))) ≡ false
+  pub last : more_follow (block_in m) ≡ false
+  pub whole : ends_fetch m (gathered s.peer (events before)) (length (collected s.peer (events before))) ≡ false
+
+-- such a response completed the fetch: it brought the end of a whole body, and its row ends the fetch
 pub record IsCompletion (before : List Row) (r : Row) : Type 0 where
   pub answers : AnswersFetch before r.step
+  pub body : EndsBody before r.step answers.message
   pub ended : list_any (is_end_of_fetch r.step.peer) r.notes ≡ true
 
 -- the datagram names a registration by its location
@@ -72,8 +82,9 @@ abbrev pub IsCollected : Option Block → List Row → ℕ → Step → Message 
 IsCollected None rows moment s m collected = collected ≡ []
 IsCollected (Some b) rows moment s m collected = collected_before b (live_upload moment (s.peer, key_in m) (events rows)) ≡ Some collected
 
--- the links are those of the body of a registration: its payload, after what is collected before it
+-- the links are those of the body of a registration, which is whole: its payload, after what is collected before it, and no more follows
 pub record RegistersLinks (rows : List Row) (moment : ℕ) (s : Step) (m : Message) (links : List SubmittedLink) : Type 0 where
+  pub last : more_follow (sent_block m) ≡ false
   pub collected : List ℕ
   pub before : IsCollected (sent_block m) rows moment s m collected
   pub read : body_read (collected ++ m.payload) ≡ good_body links
@@ -100,12 +111,19 @@ pub record CommitAsks (rows : List Row) (moment : ℕ) (s : Step) (what : Change
 -- a step that completes a fetch makes the change
 pub record CompletionMakes (rows : List Row) (s : Step) (what : Change) : Type 0 where
   pub answers : AnswersFetch rows s
+  pub body : EndsBody rows s answers.message
   pub makes : FetchesChange rows s answers.message answers.request what
 
--- an entry has the moment, the worker and the peer of its row, and is the change that its request asks for
+-- the change is what a step of this kind makes: a commit what its own request asks for, and a datagram that is heard what its fetch was made for
+abbrev pub IsAskedBy : StepKind → List Row → ℕ → Step → Change → Type 0
+IsAskedBy (step.Commit place) rows moment s what = CommitAsks rows moment s what
+IsAskedBy step.Admit rows moment s what = CompletionMakes rows s what
+IsAskedBy _ rows moment s what = ⊥
+
+-- an entry has the moment, the worker and the peer of its row, and is the change that was asked for
 pub record IsEntryOf (rows : List Row) (moment : ℕ) (s : Step) (entry : Entry) : Type 0 where
   pub stamped : entry ≡ entry_of_step moment s entry.change
-  pub asked : CommitAsks rows moment s entry.change ⊎ CompletionMakes rows s entry.change
+  pub asked : IsAskedBy s.kind rows moment s entry.change
 
 -- the write that was admitted at a place ended in 5.00, which was sent: a row commits it, and notes that it failed
 pub record EndedWithoutMemory (rows : List Row) (place : ℕ) : Type 0 where
@@ -132,8 +150,9 @@ pub record AdmittedAt (rows : List Row) (place : ℕ) (s : Step) : Type 0 where
   pub datagram : row.step.datagram ≡ s.datagram
 
 -- Registrations are the replay of one legal history that holds each accepted request once, despite repeats:
--- a row has at most one entry; an entry stands in the row of a commit, or of a response that completed a fetch, and has the moment, the worker and
--- the peer of that row and the change that its request asks for;
+-- a row has at most one entry; an entry stands in the row of a commit, or of a response that completed a fetch with the end of a whole body, and has
+-- the moment, the worker and the peer of that row; the change of a commit is the one that its own request asks for, with its last block or a whole body,
+-- and that of a response is the one that the fetch was made for;
 -- a commit whose answer says that a change was made has exactly one, and any other has none; a commit is of a row
 -- that admitted its write, and each admission is committed at most once;
 -- and of two admissions with one peer and Message ID that are less than the lifetime of an exchange apart, the earlier ended in 5.00, which was sent,

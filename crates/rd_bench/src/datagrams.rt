@@ -1,69 +1,51 @@
-//! A link over UDP: a send and a receive of 64 octets over loopback, beside a socket of std alone.
+//! A link over UDP: a send and a receive over loopback.
 
-use crate::tables::{Beside, Trouble, begin};
+use crate::rows::{Row, Trouble};
 use rd_base::{Host, Peer};
 use std::net::{Net, UdpSocket};
 use std::sync::Arc;
-use std::time::Duration;
 use udp_link::{Came, Link, UdpLink, Went};
 
-/// The octets of a datagram.
+/// How many octets a datagram has.
 const OCTETS: usize = 64;
 
 /// How many datagrams are sent and received in a round.
 const DATAGRAMS: u64 = 2_000;
 
-/// How many rounds there are of each kind, in turn.
-const ROUNDS: u64 = 25;
-
-/// Sends datagrams to the link's own socket and receives each: how many came back whole.
-fn by_link(link: &mut impl Link, own: Peer) -> u64 {
-    let piece = [7u8; OCTETS];
-    let mut into = [0u8; 4097];
-    let mut whole = 0;
-    for _ in 0..DATAGRAMS {
-        if link.send(own, &piece) == Went::Sent
-            && link.recv(&mut into) == Came::Datagram(own, OCTETS)
-        {
-            whole = u64::wrapping_add(whole, 1);
-        }
-    }
-    whole
+/// A link that sends to its own address.
+#[derive(Drop)]
+struct Linked {
+    link: UdpLink,
+    own: Peer,
 }
 
-/// The same over a socket alone.
-fn by_socket(socket: &UdpSocket) -> Result<u64, Trouble> {
-    let own = socket.local_addr()?;
-    let piece = [7u8; OCTETS];
-    let mut into = [0u8; 4097];
-    let mut whole = 0;
-    for _ in 0..DATAGRAMS {
-        if socket.send_to(&piece, own)? == OCTETS && socket.recv_from(&mut into)? == (OCTETS, own) {
-            whole = u64::wrapping_add(whole, 1);
+impl Linked {
+    /// Sends datagrams and receives each; how many came back whole.
+    fn round(&mut self) -> u64 {
+        let piece = [7u8; OCTETS];
+        let mut into = [0u8; 4097];
+        let mut whole = 0;
+        for _ in 0..DATAGRAMS {
+            if self.link.send(self.own, &piece) == Went::Sent
+                && self.link.recv(&mut into) == Came::Datagram(self.own, OCTETS)
+            {
+                whole = u64::wrapping_add(whole, 1);
+            }
         }
+        whole
     }
-    Ok(whole)
 }
 
-/// Measures a send and a receive.
+/// Measures a link.
 pub fn measured<R: Net>(rt: &HostRuntime, net: &R) -> Result<(), Trouble> {
-    let shared = UdpSocket::bind(net, "127.0.0.1:0")?;
+    let mut row = Row::new(rt.alloc());
+    let socket = UdpSocket::bind(net, "127.0.0.1:0")?;
     let own = Peer {
         host: Host::V4([127, 0, 0, 1]),
-        port: shared.local_addr()?.port(),
+        port: socket.local_addr()?.port(),
     };
-    let alone = UdpSocket::bind(net, "127.0.0.1:0")?;
-    alone.set_read_timeout(Some(Duration::from_millis(50)))?;
-    let mut link = UdpLink::of(Arc::new(rt.alloc(), shared)?);
-    let mut beside = Beside::new(rt.alloc(), "udp_link send and recv of 64 octets", "socket");
-    let mut whole = 0;
-    for _ in 0..ROUNDS {
-        let start = begin(rt)?;
-        whole = u64::wrapping_add(whole, by_link(&mut link, own));
-        beside.own.end(rt, start, DATAGRAMS)?;
-        let start = begin(rt)?;
-        whole = u64::wrapping_add(whole, by_socket(&alone)?);
-        beside.other.end(rt, start, DATAGRAMS)?;
-    }
-    beside.print(rt, whole)
+    let link = UdpLink::of(Arc::new(rt.alloc(), socket)?);
+    let mut linked = Linked { link, own };
+    row.add(rt, OCTETS as u64, DATAGRAMS, || Ok(linked.round()))?;
+    row.print(rt, "udp_link send and recv of so many octets")
 }

@@ -1,13 +1,10 @@
-//! Lines of one registration: whether a change matters to a query, and the lines that it lists, with growing registrations.
+//! Lines of one registration: whether a change matters to a query, and the lines that it lists.
 
 use crate::registrations::{body_of, draft_of};
-use crate::tables::{Costs, ROUNDS, Rounds, Trouble, begin};
+use crate::rows::{Sample, Trouble};
 use listing::{lines, same_part};
 use rd_base::{Bytes, Criteria, Criterion, Kind, Moment, Query, Record, Text};
 use std::alloc::Global;
-
-/// How many links a registration has.
-const SIZES: [u64; 3] = [64, 256, 1_000];
 
 /// How many calls a round makes.
 const CALLS: u64 = 20;
@@ -28,79 +25,90 @@ fn record_of(alloc: Global, size: u64) -> Result<Record, Trouble> {
     })
 }
 
-/// A lookup of resources with one criterion.
-fn query_of(alloc: Global, name: &str, pattern: &str) -> Result<Query, Trouble> {
-    let mut criteria = Vec::new(alloc);
-    criteria.push(Criterion {
-        name: Text::copy_of(alloc, name)?,
+/// A lookup of links by their resource type.
+fn query_of(alloc: Global, pattern: &str) -> Result<Query, Trouble> {
+    let criterion = Criterion {
+        name: Text::copy_of(alloc, "rt")?,
         pattern: Text::copy_of(alloc, pattern)?,
-    })?;
+    };
     Ok(Query {
         kind: Kind::Resource,
-        criteria: Criteria::of(criteria),
+        criteria: Criteria::of(Vec::from_array(alloc, [criterion])?),
         page: None,
         count: None,
     })
 }
 
-/// Measures whether an unchanged registration gives the same lines, to a query that lists it or does not.
-fn same_parts(rt: &HostRuntime, name: &'static str, pattern: &str) -> Result<(), Trouble> {
-    let mut costs = Costs::new(rt.alloc(), name);
-    let query = query_of(rt.alloc(), "rt", pattern)?;
-    let mut counted = 0;
-    for size in SIZES {
-        let mut old = record_of(rt.alloc(), size)?;
-        let new = record_of(rt.alloc(), size)?;
-        let mut rounds = Rounds::new(rt.alloc());
-        for _ in 0..ROUNDS {
-            let start = begin(rt)?;
-            for _ in 0..CALLS {
-                // (so that no two calls are alike, of which one might be made for both)
-                old.number = u64::wrapping_add(old.number, 1);
-                if same_part(&query, Some(&old), Some(&new)) {
-                    counted = u64::wrapping_add(counted, 1);
-                }
-            }
-            rounds.end(rt, start, CALLS)?;
-        }
-        costs.add(rt, size, rounds)?;
-    }
-    costs.print(rt, counted)
+/// A registration before and after a change that changes nothing, and a query that lists all of
+/// its links, or none.
+#[derive(Drop)]
+pub struct Unchanged<const LISTED: bool> {
+    query: Query,
+    old: Record,
+    new: Record,
 }
 
-/// Measures the lines of a registration.
-fn all_lines(rt: &HostRuntime) -> Result<(), Trouble> {
-    let mut costs = Costs::new(rt.alloc(), "listing lines, of so many links");
-    let query = query_of(rt.alloc(), "rt", "temp*")?;
-    let mut counted = 0;
-    for size in SIZES {
-        let record = record_of(rt.alloc(), size)?;
-        let mut rounds = Rounds::new(rt.alloc());
-        for _ in 0..ROUNDS {
-            let start = begin(rt)?;
-            for _ in 0..CALLS {
-                let mut into = Bytes::new(rt.alloc());
-                let (_, written) = lines(rt.alloc(), &query, &record, 0, u64::MAX, &mut into)?;
-                counted = u64::wrapping_add(counted, written);
-            }
-            rounds.end(rt, start, CALLS)?;
-        }
-        costs.add(rt, size, rounds)?;
+impl<const LISTED: bool> Sample for Unchanged<LISTED> {
+    const CALLS: u64 = CALLS;
+
+    fn make(alloc: Global, size: u64) -> Result<Unchanged<LISTED>, Trouble> {
+        let pattern = if LISTED { "temp*" } else { "none" };
+        let query = query_of(alloc, pattern)?;
+        let old = record_of(alloc, size)?;
+        let new = record_of(alloc, size)?;
+        Ok(Unchanged { query, old, new })
     }
-    costs.print(rt, counted)
+
+    /// How often the parts are the same.
+    fn round(&mut self) -> Result<u64, Trouble> {
+        let mut same = 0;
+        for _ in 0..CALLS {
+            // (so that no two calls are alike, of which one might be made for both)
+            self.old.number = u64::wrapping_add(self.old.number, 1);
+            if same_part(&self.query, Some(&self.old), Some(&self.new)) {
+                same = u64::wrapping_add(same, 1);
+            }
+        }
+        Ok(same)
+    }
 }
 
-/// Measures the calls of listings.
-pub fn measured(rt: &HostRuntime) -> Result<(), Trouble> {
-    same_parts(
-        rt,
-        "listing same_part, all of so many links listed",
-        "temp*",
-    )?;
-    same_parts(
-        rt,
-        "listing same_part, none of so many links listed",
-        "none",
-    )?;
-    all_lines(rt)
+/// A registration and a query that lists all of its links.
+#[derive(Drop)]
+pub struct Listed {
+    query: Query,
+    record: Record,
+    alloc: Global,
+}
+
+impl Sample for Listed {
+    const CALLS: u64 = CALLS;
+
+    fn make(alloc: Global, size: u64) -> Result<Listed, Trouble> {
+        let query = query_of(alloc, "temp*")?;
+        let record = record_of(alloc, size)?;
+        Ok(Listed {
+            query,
+            record,
+            alloc,
+        })
+    }
+
+    /// How many lines were written.
+    fn round(&mut self) -> Result<u64, Trouble> {
+        let mut all = 0;
+        for _ in 0..CALLS {
+            let mut into = Bytes::new(self.alloc);
+            let (_, written) = lines(
+                self.alloc,
+                &self.query,
+                &self.record,
+                0,
+                u64::MAX,
+                &mut into,
+            )?;
+            all = u64::wrapping_add(all, written);
+        }
+        Ok(all)
+    }
 }

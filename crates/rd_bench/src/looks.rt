@@ -1,39 +1,40 @@
-//! The board of versions: a look while one worker publishes, beside a read under a lock of std while one worker writes.
+//! The board of versions: a look while one worker publishes, and publishing.
 
-use crate::sample_boards::{SampleBoard, empty, version_after};
-use crate::tables::{Beside, ROUNDS, Trouble, begin};
-use directory_core::Directory;
+use crate::rows::{Row, Trouble};
+use crate::sample_boards::SampleBoard;
 use rd_base::Starved;
 use std::alloc::Global;
+use std::sync::Wait;
 use std::sync::atomic::{AtomicU64, Ordering};
-use std::sync::{Arc, RwLock, Wait};
 use std::thread::{Threads, join};
-use std::time::Duration;
 use version_board::Looker;
 
 /// How often the version is read in a round.
 const LOOKS: u64 = 200_000;
 
-/// How many versions are made in a round at most.
+/// How many versions are made in a round of looks at most.
 const VERSIONS: u64 = 100_000_000;
 
-/// Looks at what is published again and again: how long it took.
-fn looks(rt: &HostRuntime, looker: &mut Looker) -> Result<Duration, Trouble> {
-    let start = begin(rt)?;
+/// How many versions are made in a round of publishing.
+const PUBLISHED: u64 = 2_000;
+
+/// Looks at what is published again and again.
+fn looks(looker: &mut Looker) -> Result<(), Starved> {
     for _ in 0..LOOKS {
         let _version = looker.look()?;
     }
-    Ok(start.elapsed(rt)?)
+    Ok(())
 }
 
-/// Publishes one version after another, until it is told to stop.
+/// Publishes so many versions one after another, or fewer where it is told to stop.
 fn publishes<R: Wait>(
     alloc: Global,
     waits: &R,
     board: &mut SampleBoard,
+    versions: u64,
     stop: &AtomicU64,
 ) -> Result<(), Starved> {
-    for _ in 0..VERSIONS {
+    for _ in 0..versions {
         if stop.load(Ordering::SeqCst) == 1 {
             break;
         }
@@ -42,107 +43,60 @@ fn publishes<R: Wait>(
     Ok(())
 }
 
-/// A round of looks while one worker publishes.
+/// Looks while the publisher publishes, until it is told to stop; how many looks.
 fn looks_beside<R: Threads + Wait + Sync>(
-    rt: &HostRuntime,
+    alloc: Global,
     waits: &R,
     board: &mut SampleBoard,
     looker: &mut Looker,
-) -> Result<Duration, Trouble> {
-    let alloc = rt.alloc();
-    let stop = AtomicU64::new(0);
+    stop: &AtomicU64,
+) -> Result<u64, Trouble> {
+    stop.store(0, Ordering::SeqCst);
     let (published, looked) = join(
         waits,
-        || publishes(alloc, waits, board, &stop),
+        || publishes(alloc, waits, board, VERSIONS, stop),
         || {
-            let looked = looks(rt, looker);
+            let looked = looks(looker);
             stop.store(1, Ordering::SeqCst);
             looked
         },
     );
     published?;
-    looked
-}
-
-/// Reads the version under the lock again and again: how long it took.
-fn reads<R: Wait>(
-    rt: &HostRuntime,
-    waits: &R,
-    lock: &RwLock<Arc<Directory>>,
-) -> Result<Duration, Trouble> {
-    let start = begin(rt)?;
-    for _ in 0..LOOKS {
-        let version = lock.read(waits);
-        let _version = Arc::try_clone(&*version)?;
-    }
-    Ok(start.elapsed(rt)?)
-}
-
-/// Writes one version after another, until it is told to stop.
-fn writes<R: Wait>(
-    alloc: Global,
-    waits: &R,
-    lock: &RwLock<Arc<Directory>>,
-    stop: &AtomicU64,
-) -> Result<(), Starved> {
-    let mut last = empty(alloc)?;
-    for _ in 0..VERSIONS {
-        if stop.load(Ordering::SeqCst) == 1 {
-            break;
-        }
-        let next = version_after(alloc, &last)?;
-        last = Arc::try_clone(&next)?;
-        *lock.write(waits) = next;
-    }
-    Ok(())
-}
-
-/// A round of reads while one worker writes.
-fn reads_beside<R: Threads + Wait + Sync>(
-    rt: &HostRuntime,
-    waits: &R,
-    lock: &RwLock<Arc<Directory>>,
-) -> Result<Duration, Trouble> {
-    let alloc = rt.alloc();
-    let stop = AtomicU64::new(0);
-    let (written, read) = join(
-        waits,
-        || writes(alloc, waits, lock, &stop),
-        || {
-            let read = reads(rt, waits, lock);
-            stop.store(1, Ordering::SeqCst);
-            read
-        },
-    );
-    written?;
-    read
-}
-
-/// The rounds of both.
-fn rounds<R: Threads + Wait + Sync>(
-    rt: &HostRuntime,
-    waits: &R,
-    board: &mut SampleBoard,
-    looker: &mut Looker,
-) -> Result<Beside, Trouble> {
-    let lock = RwLock::new(empty(rt.alloc())?);
-    let mut beside = Beside::new(rt.alloc(), "version_board look, one publisher", "RwLock");
-    for _ in 0..ROUNDS {
-        let time = looks_beside(rt, waits, board, looker)?;
-        beside.own.add(time, LOOKS)?;
-        let time = reads_beside(rt, waits, &lock)?;
-        beside.other.add(time, LOOKS)?;
-    }
-    Ok(beside)
+    looked?;
+    Ok(LOOKS)
 }
 
 /// Measures a look.
-pub fn measured<R: Threads + Wait + Sync>(rt: &HostRuntime, waits: &R) -> Result<(), Trouble> {
-    let (mut board, mut lookers) = SampleBoard::open(rt.alloc(), waits, 1)?;
-    let beside = match lookers.take_first() {
-        Some(mut looker) => rounds(rt, waits, &mut board, &mut looker),
+pub fn measure_looks<R: Threads + Wait + Sync>(rt: &HostRuntime, waits: &R) -> Result<(), Trouble> {
+    let alloc = rt.alloc();
+    let mut row = Row::new(alloc);
+    let (mut board, mut lookers) = SampleBoard::open(alloc, waits, 1)?;
+    let stop = AtomicU64::new(0);
+    let added = match lookers.take_first() {
+        Some(mut looker) => row.add(rt, 1, LOOKS, || {
+            looks_beside(alloc, waits, &mut board, &mut looker, &stop)
+        }),
         None => Err(Trouble::Outside),
     };
     board.end(waits);
-    beside?.print(rt, u64::wrapping_mul(ROUNDS, LOOKS))
+    added?;
+    row.print(rt, "version_board look, beside so many publishers")
+}
+
+/// Measures publishing.
+pub fn measure_publishing<R: Wait>(rt: &HostRuntime, waits: &R) -> Result<(), Trouble> {
+    let alloc = rt.alloc();
+    let mut row = Row::new(alloc);
+    let (mut board, _lookers) = SampleBoard::open(alloc, waits, 1)?;
+    let go_on = AtomicU64::new(0);
+    let added = row.add(rt, 1, PUBLISHED, || {
+        publishes(alloc, waits, &mut board, PUBLISHED, &go_on)?;
+        Ok(PUBLISHED)
+    });
+    board.end(waits);
+    added?;
+    row.print(
+        rt,
+        "version_board stage and publish, and register, with so many lookers",
+    )
 }

@@ -1,48 +1,100 @@
-//! `rd_bench`: what calls of the directory's crates cost at growing sizes. It measures, and never fails.
+//! `rd_bench`: what calls cost that no trace isolates, at growing sizes. It measures, and never
+//! fails. (`bench/traces.py` measures what a trace can, on `rd_replay`.)
 //!
-//! Times go to standard error, a line for each call: nanoseconds at each size, the middle one of several rounds, and in
-//! parentheses how many times the cost at the first size that is. Standard output has what was counted in passing, which
-//! is the same in each run.
+//! Times go to standard error, a line for each call: nanoseconds at each size, the least of several
+//! rounds, and in parentheses how many times that at the first size it is. Standard output has what
+//! the calls counted, which is the same in each run.
 #![tactic(auto)]
 
 mod attributes;
 mod blocks;
 mod datagrams;
-mod desk_requests;
-mod desks;
-mod directories;
 mod exchanges;
-mod leases;
 mod listings;
 mod looks;
 mod maps;
 mod registrations;
-mod replays;
+mod rows;
 mod sample_boards;
-mod sample_desks;
-mod tables;
 mod turns;
 
+use attributes::Carried;
+use blocks::{KeptBodies, Uploads};
+use exchanges::{Repeats, Settles};
+use listings::{Listed, Unchanged};
+use maps::{Puts, Takes};
+use registrations::Body;
+use rows::{Trouble, measure};
 use std::net::Net;
 use std::sync::Wait;
 use std::thread::Threads;
-use tables::Trouble;
 
-/// Measures all calls, one after another. `threads` starts threads, waits and opens sockets.
-fn measured<R: Threads + Wait + Net + Sync>(rt: &HostRuntime, threads: &R) -> Result<(), Trouble> {
-    exchanges::measured(rt)?;
-    blocks::measured(rt)?;
-    maps::measured(rt)?;
-    leases::measured(rt)?;
-    attributes::measured(rt)?;
-    registrations::measured(rt)?;
-    listings::measured(rt)?;
-    directories::measured(rt)?;
-    desks::measured(rt)?;
-    replays::measured(rt)?;
-    turns::measured(rt, threads)?;
-    datagrams::measured(rt, threads)?;
-    looks::measured(rt, threads)
+/// How many writes stand in the table of exchanges.
+const WRITES: [u64; 3] = [64, 1_024, 4_096];
+
+/// How many pairs stand in a map, and entries in an index.
+const PAIRS: [u64; 5] = [64, 1_024, 4_096, 25_000, 100_000];
+
+/// How many links a registration has.
+const LINKS: [u64; 3] = [64, 256, 1_000];
+
+/// Measures the calls of tables.
+fn tables(rt: &HostRuntime) -> Result<(), Trouble> {
+    measure::<Repeats>(
+        rt,
+        "exchange_core admit_key, a repeat of the oldest",
+        &WRITES,
+    )?;
+    measure::<Settles>(rt, "exchange_core settle, the oldest", &WRITES)?;
+    measure::<Uploads>(
+        rt,
+        "transfers upload of 8,192 octets, in blocks of so many",
+        &[1_024, 16],
+    )?;
+    measure::<KeptBodies>(
+        rt,
+        "transfers kept_block, the one used longest ago of 64, with bodies of so many octets",
+        &[2_048, 1_048_576],
+    )?;
+    measure::<Puts>(rt, "chunk_map put", &PAIRS)?;
+    measure::<Takes>(rt, "chunk_map take", &PAIRS)?;
+    measure::<Carried<1_000>>(
+        rt,
+        "attribute_index put and take, values of a thousand records",
+        &PAIRS,
+    )?;
+    measure::<Carried<16>>(
+        rt,
+        "attribute_index put and take, values of sixteen records",
+        &PAIRS,
+    )?;
+    measure::<Carried<1>>(
+        rt,
+        "attribute_index put and take, values of one record",
+        &PAIRS,
+    )
+}
+
+/// Measures the calls of registrations and of their listings.
+fn registrations_and_listings(rt: &HostRuntime) -> Result<(), Trouble> {
+    measure::<Body>(rt, "registration build, a body of so many links", &LINKS)?;
+    measure::<Unchanged<true>>(rt, "listing same_part, all of so many links listed", &LINKS)?;
+    measure::<Unchanged<false>>(
+        rt,
+        "listing same_part, none of so many links listed",
+        &LINKS,
+    )?;
+    measure::<Listed>(rt, "listing lines, of so many links", &LINKS)
+}
+
+/// Measures all calls, one after another. `ends` starts threads, waits and opens sockets.
+fn measured<R: Threads + Wait + Net + Sync>(rt: &HostRuntime, ends: &R) -> Result<(), Trouble> {
+    tables(rt)?;
+    registrations_and_listings(rt)?;
+    turns::measured(rt, ends)?;
+    datagrams::measured(rt, ends)?;
+    looks::measure_looks(rt, ends)?;
+    looks::measure_publishing(rt, ends)
 }
 
 fn main(rt: HostRuntime) {

@@ -1,30 +1,25 @@
-//! Bodies of registrations: the draft of a body, and its weight, with growing bodies.
-ghost use Rattle.std.specs.Prelude.{◌≡◌, None, IfOk};
+//! Bodies of registrations: the draft of a body.
+ghost use Rattle.std.specs.Prelude.{◌≡◌, IfOk};
+ghost use Rattle.version_board.specs.Samples.{sample_params};
 
-use crate::tables::{Costs, ROUNDS, Rounds, Trouble, begin};
+use crate::rows::{Sample, Trouble};
 use rd_base::{Host, Name, Pairs, Peer, RegParams, Starved, Text};
-use registration::{Draft, build, weight};
+use registration::{Draft, DraftFault, build};
 use std::alloc::Global;
 
-/// How many links a body has.
-const SIZES: [u64; 3] = [64, 256, 1_000];
-
-/// How many calls a round makes.
-const CALLS: u64 = 20;
-
 /// Where registrations come from.
-const PEER: Peer = Peer {
+pub const PEER: Peer = Peer {
     host: Host::V4([192, 0, 2, 10]),
     port: 5683,
 };
 
-/// The parameters of a registration without a base.
-fn params_of(alloc: Global) -> Result<RegParams, Starved>
-    ensures { IfOk result (λ params. params.base ≡ None) }
+/// The parameters of registrations, without a base.
+pub fn params_of(alloc: Global) -> Result<RegParams, Starved>
+    ensures { IfOk result (λ params. params ≡ sample_params) }
 {
     Ok(RegParams {
         name: Name {
-            ep: Text::copy_of(alloc, "node1")?,
+            ep: Text::copy_of(alloc, "node")?,
             sector: None,
         },
         lt: 600,
@@ -34,7 +29,7 @@ fn params_of(alloc: Global) -> Result<RegParams, Starved>
 }
 
 /// A body of so many links.
-pub fn body_of(alloc: Global, size: u64) -> Result<String, Starved> {
+pub fn body_of(alloc: Global, size: u64) -> Result<String, Trouble> {
     let mut body = String::new(alloc);
     for number in 0..size {
         if !body.is_empty() {
@@ -48,37 +43,37 @@ pub fn body_of(alloc: Global, size: u64) -> Result<String, Starved> {
 
 /// The draft of a body.
 pub fn draft_of(alloc: Global, body: &str) -> Result<Draft, Trouble> {
-    Ok(build(alloc, params_of(alloc)?, PEER, body.as_bytes())?)
+    match build(alloc, params_of(alloc)?, PEER, body.as_bytes()) {
+        Ok(draft) => Ok(draft),
+        Err(DraftFault::Starved) => Err(Trouble::Starved),
+        Err(_) => Err(Trouble::Outside),
+    }
 }
 
-/// Measures the draft of a body, and its weight.
-pub fn measured(rt: &HostRuntime) -> Result<(), Trouble> {
-    let mut costs = Costs::new(rt.alloc(), "registration build, a body of so many links");
-    let mut weights = Costs::new(
-        rt.alloc(),
-        "registration weight, of a draft with so many links",
-    );
-    let mut counted = 0;
-    for size in SIZES {
-        let body = body_of(rt.alloc(), size)?;
-        let mut rounds = Rounds::new(rt.alloc());
-        let mut weighed = Rounds::new(rt.alloc());
-        for _ in 0..ROUNDS {
-            let start = begin(rt)?;
-            for _ in 0..CALLS {
-                let _ = draft_of(rt.alloc(), body.as_str())?;
-            }
-            rounds.end(rt, start, CALLS)?;
-            let draft = draft_of(rt.alloc(), body.as_str())?;
-            let start = begin(rt)?;
-            for number in 0..CALLS {
-                counted = u64::wrapping_add(counted, weight(&draft, number));
-            }
-            weighed.end(rt, start, CALLS)?;
-        }
-        costs.add(rt, size, rounds)?;
-        weights.add(rt, size, weighed)?;
+/// A body that is built.
+#[derive(Drop)]
+pub struct Body {
+    body: String,
+    alloc: Global,
+}
+
+impl Sample for Body {
+    const CALLS: u64 = 20;
+
+    fn make(alloc: Global, size: u64) -> Result<Body, Trouble> {
+        Ok(Body {
+            body: body_of(alloc, size)?,
+            alloc,
+        })
     }
-    costs.print(rt, 0)?;
-    weights.print(rt, counted)
+
+    /// How many links the drafts have.
+    fn round(&mut self) -> Result<u64, Trouble> {
+        let mut links = 0;
+        for _ in 0..Self::CALLS {
+            let draft = draft_of(self.alloc, self.body.as_str())?;
+            links = u64::wrapping_add(links, draft.items.len() as u64);
+        }
+        Ok(links)
+    }
 }

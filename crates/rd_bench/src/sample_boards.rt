@@ -6,19 +6,14 @@ ghost use Rattle.history_model.specs.declared.entries.Entry.{Entry};
 ghost use Rattle.registration.specs.Drafts.{IsDraft, drafted};
 ghost use Rattle.version_board.specs.Samples.{sample_peer, sample_params, sample_entry};
 
+use crate::registrations::{PEER, params_of};
 use directory_core::{Board, Directory};
-use rd_base::{Host, Moment, Name, Pairs, Peer, RegParams, Starved, Text};
+use rd_base::{Moment, Starved};
 use registration::{Draft, build};
 use std::alloc::Global;
 use std::marker::Brand;
 use std::sync::{Arc, Wait};
 use version_board::{Entering, Lookers, Publisher, board};
-
-/// Where the endpoint is.
-const PEER: Peer = Peer {
-    host: Host::V4([192, 0, 2, 10]),
-    port: 5683,
-};
 
 /// A publisher, with the version that it published last.
 pub struct SampleBoard {
@@ -27,21 +22,6 @@ pub struct SampleBoard {
     ghost stands: { VersionStandsFor 0 publisher.told (arc_value last) },
     ghost unstaged: { publisher.staged ≡ None },
     ghost unswept: { (arc_value last).swept ≡ 0 },
-}
-
-/// The parameters of the endpoint.
-fn params_of(alloc: Global) -> Result<RegParams, Starved>
-    ensures { IfOk result (λ params. params ≡ sample_params) }
-{
-    Ok(RegParams {
-        name: Name {
-            ep: Text::copy_of(alloc, "node")?,
-            sector: None,
-        },
-        lt: 600,
-        base: None,
-        attrs: Pairs::of(Vec::new(alloc)),
-    })
 }
 
 /// The draft of the endpoint.
@@ -70,15 +50,6 @@ fn registered(alloc: Global, last: &Directory, now: Moment) -> Result<Directory,
         return Err(Starved);
     };
     Ok(version)
-}
-
-/// The version after this one.
-pub fn version_after(alloc: Global, last: &Directory) -> Result<Arc<Directory>, Starved> {
-    let now = Moment(last.entries().min(1_000_000) + 1);
-    if now < last.at() || now < last.swept() {
-        return Err(Starved);
-    }
-    Ok(Arc::new(alloc, registered(alloc, last, now)?)?)
 }
 
 /// The empty version.

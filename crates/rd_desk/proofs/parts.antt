@@ -14,3 +14,4 @@ pub mod AdmissionLaws
 pub mod ForgottenLaws
 pub mod LookupLaws
 pub mod HearingLaws
+pub mod LookRows

@@ -14,16 +14,21 @@ abbrev pub staged_after : List Entry → Version → Option Version → Option V
 staged_after [] version before = before
 staged_after (entry ∷ entries) version before = Some version
 
--- where a board tells what is staged, a step with these notes that left this version leaves its version staged where it made an entry, and stages nothing where it made none
-abbrev pub LeavesStaged : List Note → Version → Option (Option Version) → Option (Option Version) → Type 0
-LeavesStaged notes version before after = IfSome before (λ staged. after ≡ Some (staged_after (filter_map entry_noted notes) version staged))
+-- where a board tells what is staged, a step with these notes that left this version leaves its version staged where it made an entry, and stages nothing where it made none;
+-- and whether the board tells it or not, nothing is staged after a step that made none
+abbrev pub LeavesStaged : List Note → Version → Option (Option Version) → Option (Option Version) → Bool → Type 0
+LeavesStaged notes version before after is_staged =
+    IfSome before (λ staged. after ≡ Some (staged_after (filter_map entry_noted notes) version staged))
+    × (filter_map entry_noted notes ≡ [] → is_staged ≡ false)
 
--- a part of a step found one version and left another, beside a board: either it entered one entry and laid the version with it, or it left both as they were
-pub record IsLaid (old new : Version) (before after : Option (Option Version)) : Type 0 where
+-- a part of a step found one version and left another, beside a board: either it entered one entry and laid the version with it, or it left both as they were,
+-- and nothing is staged afterwards
+pub record IsLaid (old new : Version) (before after : Option (Option Version)) (is_staged : Bool) : Type 0 where
   pub entered : Bool
   pub staged : IfSome before (λ staged. after ≡ Some (if entered then Some new else staged))
   pub kept : entered ≡ false → new ≡ old
   pub made : entered ≡ true → (history : List Entry) → VersionStandsFor 0 history old → HasOneMore history new
+  pub free : entered ≡ false → is_staged ≡ false
 
 -- the version of what is ready to be entered, where anything is, and else the one before
 abbrev pub version_ready : Option Entering → Option Version → Option Version

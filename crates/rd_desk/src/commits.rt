@@ -87,7 +87,7 @@ impl Tables {
             → IsMadeAt (row_moment rows s) meant → IfOk planned (IsPlanned (entries rows) self.old.version.swept [] meant)
             → UnderWay rows s (is_starved_step result) nothing self.old out.old mids.old
             → UnderWay rows s (is_starved_step result) (unless_failing (is_starved_step result) place s (message_in view.now) (settling place s (message_in view.now) meant)) self.new out.new mids.new }
-        ensures laid { IsLaid self.old.version self.new.version (B.staged board.old) (B.staged board.new) }
+        ensures laid { IsLaid self.old.version self.new.version (B.staged board.old) (B.staged board.new) (B.has_staged board.new) }
         ensures name { B.name board.new ≡ B.name board.old }
         ensures told { B.told board.new ≡ B.told board.old }
     {
@@ -118,7 +118,7 @@ impl Tables {
         ensures way { (rows : List Row) (s : Step) (place : ℕ) (m : Message) → s.peer ≡ job.peer → s.word ≡ 0 → reading job.datagram ≡ Ok m → IsOpen place s.peer m.mid job.admitted (events rows)
             → UnderWay rows s (is_starved_step result) nothing self.old out.old mids.old
             → UnderWay rows s (is_starved_step result) (done (is_starved_step result) rows (row_moment rows s) place s (reading job.datagram)) self.new out.new mids.new }
-        ensures laid { IsLaid self.old.version self.new.version (B.staged board.old) (B.staged board.new) }
+        ensures laid { IsLaid self.old.version self.new.version (B.staged board.old) (B.staged board.new) (B.has_staged board.new) }
         ensures name { B.name board.new ≡ B.name board.old }
         ensures told { B.told board.new ≡ B.told board.old }
     {
@@ -160,7 +160,7 @@ impl Tables {
         requires told { AreToldOf self.old.version (B.told board.old) }
         ensures made { (rows : List Row) (s : Step) (place : ℕ) (m : Message) → s.kind ≡ step.Commit place → s.peer ≡ job.peer → s.datagram ≡ job.datagram → s.word ≡ 0 → reading job.datagram ≡ Ok m
             → IsOpen place s.peer m.mid job.admitted (events rows) → IsCalled rows s now mids.old self.old → Made rows (row rows s (is_starved_step result)) self.new out.new mids.old mids.new }
-        ensures laid { IsLaid self.old.version self.new.version (B.staged board.old) (B.staged board.new) }
+        ensures laid { IsLaid self.old.version self.new.version (B.staged board.old) (B.staged board.new) (B.has_staged board.new) }
         ensures name { B.name board.new ≡ B.name board.old }
         ensures told { B.told board.new ≡ B.told board.old }
     {

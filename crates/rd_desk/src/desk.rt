@@ -1,5 +1,5 @@
 //! The core of the directory: one call is one step, and does what the journal says of its row (RFC 9176, RFC 7252, RFC 7641, RFC 7959).
-ghost use Rattle.std.specs.Prelude.{◌≡◌, ◌≤◌, ◌^◌, ℕ, false, [], List, Some, Ok, IfOk, IfErr, IfSome, length, slice_get};
+ghost use Rattle.std.specs.Prelude.{◌≡◌, ◌≤◌, ◌^◌, ℕ, true, false, [], ◌∷◌, List, Some, Ok, IfOk, IfErr, IfSome, length, slice_get};
 ghost use Rattle.std.specs.Arc.{arc_value};
 ghost use Rattle.std.specs.Borrow.{Lends, sem};
 ghost use Rattle.message_model.specs.Message.{Message};
@@ -10,7 +10,7 @@ ghost use Rattle.event_model.specs.Observers.{observers};
 ghost use Rattle.journal_model.specs.declared.steps.Step.{Step};
 ghost use Rattle.journal_model.specs.declared.steps.StepKind.TheVariants as step;
 ghost use Rattle.journal_model.specs.declared.rows.Row.{Row};
-ghost use Rattle.journal_model.specs.Journal.{events};
+ghost use Rattle.journal_model.specs.Journal.{is_look, events};
 ghost use Rattle.journal_model.specs.Machine.{is_look_datagram};
 ghost use Rattle.journal_model.specs.Rows.{row, row_moment};
 ghost use Rattle.rd_desk.specs.Admitting.{is_starved_admission, takes_memory, IsHeldFor};
@@ -123,7 +123,7 @@ impl<B: Board> Desk<B> {
             → takes_memory rows (row_moment rows s) s (reading datagram.now) ≡ false → is_starved_admission result ≡ false }
         // Its version is staged where it makes an entry, and else nothing is.
         ensures staged { (rows : List Row) (s : Step) → s.kind ≡ step.Admit → s.peer ≡ peer → s.datagram ≡ datagram.now → s.word ≡ word → IsCalled rows s now mids.old self.old.tables
-            → LeavesStaged (row rows s (is_starved_admission result)).notes self.new.tables.version (B.staged self.old.board) (B.staged self.new.board) }
+            → LeavesStaged (row rows s (is_starved_admission result)).notes self.new.tables.version (B.staged self.old.board) (B.staged self.new.board) (B.has_staged self.new.board) }
         ensures name { B.name self.new.board ≡ B.name self.old.board }
         ensures told { B.told self.new.board ≡ B.told self.old.board }
     {
@@ -162,7 +162,7 @@ impl<B: Board> Desk<B> {
         // Its version is staged where it makes an entry, and else nothing is.
         ensures staged { (rows : List Row) (s : Step) (place : ℕ) (m : Message) → s.kind ≡ step.Commit place → s.peer ≡ job.peer → s.datagram ≡ job.datagram → s.word ≡ 0 → reading job.datagram ≡ Ok m
             → IsOpen place s.peer m.mid job.admitted (events rows) → IsCalled rows s now mids.old self.old.tables
-            → LeavesStaged (row rows s (is_starved_step result)).notes self.new.tables.version (B.staged self.old.board) (B.staged self.new.board) }
+            → LeavesStaged (row rows s (is_starved_step result)).notes self.new.tables.version (B.staged self.old.board) (B.staged self.new.board) (B.has_staged self.new.board) }
         ensures name { B.name self.new.board ≡ B.name self.old.board }
         ensures told { B.told self.new.board ≡ B.told self.old.board }
     {
@@ -201,9 +201,11 @@ impl<B: Board> Desk<B> {
         self.tables.tick(self.alloc, now, word, mids, out)
     }
 
-    /// The version of the registrations now.
+    /// The version of the registrations now, from which a look is answered ([`crate::look`]). A desk that stands for a journal stands for it with a look more.
     pub fn version(&self) -> &Arc<Directory>
-        ensures { arc_value result.now ≡ self.now.tables.version }
+        ensures value { arc_value result.now ≡ self.now.tables.version }
+        ensures looked { (rows : List Row) (r : Row) → is_look r.step.kind ≡ true → r.notes ≡ []
+            → StandsFor rows self.now.tables → StandsFor (r ∷ rows) self.now.tables }
     {
         &self.tables.version
     }

@@ -112,7 +112,7 @@ impl Tables {
         ensures way { (rows : List Row) (s : Step) (request : Request) (mids : Mids) → s.peer ≡ peer → request.params ≡ params → UnderWay rows s (is_starved_step result) nothing self.old out.old mids
             → UnderWay rows s (is_starved_step result)
             (unless_starved (is_starved_step result) (joined (acknowledgement s (message_in view.now) view.now.kind) (completed rows (row_moment rows s) s request body.now))) self.new out.new mids }
-        ensures laid { IsLaid self.old.version self.new.version (B.staged board.old) (B.staged board.new) }
+        ensures laid { IsLaid self.old.version self.new.version (B.staged board.old) (B.staged board.new) (B.has_staged board.new) }
         ensures name { B.name board.new ≡ B.name board.old }
         ensures told { B.told board.new ≡ B.told board.old }
     {
@@ -147,7 +147,7 @@ impl Tables {
             → UnderWay rows s (is_starved_step result)
             (unless_starved (is_starved_step result) (joined (acknowledgement s (message_in meaning.now.view) meaning.now.view.kind) (response_to rows (row_moment rows s) s (message_in meaning.now.view) request)))
             self.new out.new mids.new }
-        ensures laid { IsLaid self.old.version self.new.version (B.staged board.old) (B.staged board.new) }
+        ensures laid { IsLaid self.old.version self.new.version (B.staged board.old) (B.staged board.new) (B.has_staged board.new) }
         ensures name { B.name board.new ≡ B.name board.old }
         ensures told { B.told board.new ≡ B.told board.old }
     {
@@ -204,7 +204,7 @@ impl Tables {
             → UnderWay rows s (is_starved_step result) (response_heard (is_starved_step result) rows s (message_in view.now)) self.new out.new mids.new }
         ensures unstarved { (rows : List Row) (s : Step) → s.peer ≡ peer → UnderWay rows s false nothing self.old out.old mids.old → response_takes rows s (message_in view.now) ≡ false
             → is_starved_step result ≡ false }
-        ensures laid { IsLaid self.old.version self.new.version (B.staged board.old) (B.staged board.new) }
+        ensures laid { IsLaid self.old.version self.new.version (B.staged board.old) (B.staged board.new) (B.has_staged board.new) }
         ensures name { B.name board.new ≡ B.name board.old }
         ensures told { B.told board.new ≡ B.told board.old }
     {

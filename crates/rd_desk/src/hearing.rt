@@ -134,7 +134,7 @@ impl Tables {
             → IsHeldFor result (message_effects (message.role_of view.now.kind view.now.code) (is_starved_admission result) rows (row_moment rows s) s (message_in view.now)).notes s (row_moment rows s) }
         ensures unstarved { (rows : List Row) (s : Step) → s.peer ≡ peer → UnderWay rows s false nothing self.old out.old mids.old
             → message_takes (message.role_of view.now.kind view.now.code) rows (row_moment rows s) s (message_in view.now) ≡ false → is_starved_admission result ≡ false }
-        ensures laid { IsLaid self.old.version self.new.version (B.staged board.old) (B.staged board.new) }
+        ensures laid { IsLaid self.old.version self.new.version (B.staged board.old) (B.staged board.new) (B.has_staged board.new) }
         ensures name { B.name board.new ≡ B.name board.old }
         ensures told { B.told board.new ≡ B.told board.old }
     {
@@ -184,7 +184,7 @@ impl Tables {
             → IsHeldFor result (row rows s (is_starved_admission result)).notes s (row_moment rows s) }
         ensures unstarved { (rows : List Row) (s : Step) → s.peer ≡ peer → s.datagram ≡ datagram.now → IsCalled rows s now mids.old self.old
             → takes_memory rows (row_moment rows s) s (reading datagram.now) ≡ false → is_starved_admission result ≡ false }
-        ensures laid { IsLaid self.old.version self.new.version (B.staged board.old) (B.staged board.new) }
+        ensures laid { IsLaid self.old.version self.new.version (B.staged board.old) (B.staged board.new) (B.has_staged board.new) }
         ensures name { B.name board.new ≡ B.name board.old }
         ensures told { B.told board.new ≡ B.told board.old }
     {

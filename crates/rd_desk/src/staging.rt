@@ -1,5 +1,5 @@
 //! Versions that a step leaves on a board, to be published after it.
-ghost use Rattle.std.specs.Prelude.{◌≡◌, false, Some, Ok, IfOk, IfSome, OnErr};
+ghost use Rattle.std.specs.Prelude.{◌≡◌, false, Some, None, Ok, IfOk, IfSome, OnErr};
 ghost use Rattle.rd_desk.specs.Staging.{version_ready, IsNextOf, IsSweptBefore};
 
 use crate::outcomes::Outcome;
@@ -18,6 +18,8 @@ pub(crate) fn staged<B: Board>(
     ensures same { IfOk result (λ o. planned ≡ Ok o) }
     ensures laid { IfSome (B.staged board.old) (λ before. IfOk result (λ o. B.staged board.new ≡ Some (version_ready o.entering before))) }
     ensures kept { OnErr result (B.staged board.new ≡ B.staged board.old) }
+    ensures none_laid { IfOk result (λ o. o.entering ≡ None → B.has_staged board.new ≡ false) }
+    ensures none_kept { OnErr result (B.has_staged board.new ≡ false) }
     ensures name { B.name board.new ≡ B.name board.old }
     ensures told { B.told board.new ≡ B.told board.old }
 {

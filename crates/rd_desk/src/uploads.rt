@@ -196,7 +196,7 @@ impl Tables {
             (settling place s (message_in meaning.now.view)
             (registration (entries rows) (row_moment rows s) s (registration_values (queries_in (message_in meaning.now.view))) body.now (block1_option block.now) (note.Finished s.peer key.now ∷ []))))
             self.new out.new mids.new }
-        ensures laid { IsLaid self.old.version self.new.version (B.staged board.old) (B.staged board.new) }
+        ensures laid { IsLaid self.old.version self.new.version (B.staged board.old) (B.staged board.new) (B.has_staged board.new) }
         ensures name { B.name board.new ≡ B.name board.old }
         ensures told { B.told board.new ≡ B.told board.old }
     {
@@ -245,7 +245,7 @@ impl Tables {
             → UnderWay rows s (is_starved_step result) nothing self.old out.old mids.old
             → UnderWay rows s (is_starved_step result) (unless_failing (is_starved_step result) place s (message_in meaning.now.view)
             (settling place s (message_in meaning.now.view) (block_uploaded rows (row_moment rows s) s (message_in meaning.now.view) block.now))) self.new out.new mids.new }
-        ensures laid { IsLaid self.old.version self.new.version (B.staged board.old) (B.staged board.new) }
+        ensures laid { IsLaid self.old.version self.new.version (B.staged board.old) (B.staged board.new) (B.has_staged board.new) }
         ensures name { B.name board.new ≡ B.name board.old }
         ensures told { B.told board.new ≡ B.told board.old }
     {

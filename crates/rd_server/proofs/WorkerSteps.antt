@@ -45,7 +45,7 @@ use Rattle.rd_server.specs.declared.workers.Worker.{Worker}
 use Rattle.rd_server.specs.Machines.{IsJobOf, HoldsJob, IsWorkerAt, MayStep, Steps}
 use Rattle.rd_server.proofs.DeskSteps.{may_follow}
 use Rattle.rd_server.proofs.JobRows.{drawn-more, job-after, row_at-own, held-more, held-none, hearer-idle}
-use Rattle.rd_server.proofs.LookRows.{StandsFor-looked}
+use Rattle.rd_desk.proofs.parts.LookRows.{StandsFor-looked}
 
 -- ---- any step
 

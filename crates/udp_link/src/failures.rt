@@ -1,6 +1,7 @@
 //! Failures: which calls are to fail, and how they are counted.
-ghost use Rattle.std.specs.Prelude.{◌≤◌};
+ghost use Rattle.std.specs.Prelude.{◌≡◌, ◌≤◌};
 ghost use Rattle.rd_base.specs.Outside.{Rose};
+ghost use Rattle.udp_link.specs.Plans.{is_planned, Advanced};
 
 use rd_base::Bytes;
 
@@ -13,12 +14,17 @@ pub(crate) struct Plan {
 
 impl Plan {
     /// A plan before the first call.
-    pub(crate) fn of(fail: Bytes) -> Plan {
+    pub(crate) fn of(fail: Bytes) -> Plan
+        ensures { result ≡ record { calls = 0; fail = fail } }
+    {
         Plan { calls: 0, fail }
     }
 
     /// Counts a call: true where it is one of those that fail.
-    pub(crate) fn fails_now(&mut self) -> bool {
+    pub(crate) fn fails_now(&mut self) -> bool
+        ensures value { result ≡ is_planned self.old }
+        ensures advanced { Advanced self.old self.new }
+    {
         let call = self.calls;
         self.calls = call.saturating_add(1);
         self.fail.as_slice().iter().any(|n| u64::from(*n) == call)

@@ -1,5 +1,8 @@
 //! A link in memory, of which chosen calls fail.
-ghost use Rattle.std.specs.Prelude.{◌≡◌, ◌≤◌, Some, [], length, drop};
+ghost use Rattle.std.specs.Prelude.{◌≡◌, ◌↔◌, ◌≤◌, true, Some, [], length, drop};
+ghost use Rattle.udp_link.specs.Links.{IsWithinLimit, TakesFirst, AddsLast, CountsReceived, CountsSent};
+ghost use Rattle.udp_link.specs.Plans.{is_planned, Advanced};
+ghost use Rattle.udp_link.specs.declared.links.TheConstants.{MAX_DATAGRAM};
 
 use crate::datagrams::deliver;
 use crate::failures::{Plan, raised};
@@ -28,6 +31,8 @@ impl MemLink {
         ensures gone { ⟦<MemLink as Link>⟧.gone result ≡ Some [] }
         ensures received { ⟦<MemLink as Link>⟧.recv_faults result ≡ 0 }
         ensures sent { ⟦<MemLink as Link>⟧.send_faults result ≡ 0 }
+        ensures receives { result.receives ≡ record { calls = 0; fail = fail_recv } }
+        ensures sends { result.sends ≡ record { calls = 0; fail = fail_send } }
     {
         MemLink {
             alloc,
@@ -58,7 +63,18 @@ impl Link for MemLink {
 
     ghost send_faults = { λ l. l.send_faults };
 
-    fn recv(&mut self, into: &mut [u8]) -> Came {
+    /// Gives the datagram that comes next. The receives that are planned to fail do, and no others.
+    fn recv(&mut self, into: &mut [u8]) -> Came
+        requires { MAX_DATAGRAM ≤ length into.old }
+        ensures within { IsWithinLimit result }
+        ensures takes { TakesFirst result into.new (drop self.old.taken self.old.coming) (drop self.new.taken self.new.coming) }
+        ensures cause { CountsReceived self.old.recv_faults self.new.recv_faults result }
+        ensures sent_stays { self.new.gone ≡ self.old.gone }
+        ensures sends_stand { self.new.send_faults ≡ self.old.send_faults }
+        ensures planned { (is_planned self.old.receives ≡ true) ↔ (result ≡ Came.Failed) }
+        ensures advanced { Advanced self.old.receives self.new.receives }
+        ensures sends_stay { self.new.sends ≡ self.old.sends }
+    {
         if self.receives.fails_now() {
             self.recv_faults = raised(self.recv_faults);
             return Came::Failed;
@@ -71,8 +87,16 @@ impl Link for MemLink {
         came
     }
 
-    /// Out of memory, the send fails.
-    fn send(&mut self, peer: Peer, piece: &[u8]) -> Went {
+    /// Keeps the datagram. The sends that are planned to fail do, and so does one that is out of memory.
+    fn send(&mut self, peer: Peer, piece: &[u8]) -> Went
+        ensures adds { AddsLast result (peer, piece.now) self.old.gone self.new.gone }
+        ensures cause { CountsSent self.old.send_faults self.new.send_faults result }
+        ensures coming_stays { drop self.new.taken self.new.coming ≡ drop self.old.taken self.old.coming }
+        ensures receives_stand { self.new.recv_faults ≡ self.old.recv_faults }
+        ensures planned { is_planned self.old.sends ≡ true → result ≡ Went.Failed }
+        ensures advanced { Advanced self.old.sends self.new.sends }
+        ensures receives_stay { self.new.receives ≡ self.old.receives }
+    {
         if !self.sends.fails_now() && self.gone.push_copy(self.alloc, peer, piece).is_ok() {
             return Went::Sent;
         }

@@ -1,74 +1,58 @@
 -- What a tick sends carries the listing of the row that formed it, and what is in flight after it is known.
-use Rattle.std.proofs.Common.{◌≡◌, ℕ, ◌||◌, ◌&&◌, ◌==◌, Bool, true, false, cond, List, [], ◌∷◌, Some, option_map, Ok, refl, sym, ap, ap₂, subst, ◌∙◌}
-use Rattle.std.specs.List.{list_any}
+use Rattle.std.proofs.Common.{◌≡◌, ℕ, ◌||◌, Bool, true, false, cond, List, ◌∷◌, Option, Some, option_map, Ok, refl, sym, ap, ap₂, subst, ◌∙◌}
 use Rattle.std.proofs.lemmas.Bool.{false≢true}
+use Rattle.std.proofs.lemmas.Option.{same_Some}
 use Rattle.rd_base.specs.declared.peers.Peer.{Peer}
 use Rattle.message_model.specs.Message.{Message}
 use Rattle.message_model.specs.Reading.{reading}
+use Rattle.history_model.specs.Live.{IsFront}
 use Rattle.history_model.specs.Listing.{listing, tag}
-use Rattle.event_model.specs.declared.notes.Note.{Note}
-use Rattle.event_model.specs.declared.notes.Note.TheVariants as note
 use Rattle.event_model.specs.declared.notes.Observer.{Observer}
-use Rattle.event_model.specs.Same.{RequestName, is_same_peer, is_same_request}
+use Rattle.event_model.specs.Same.{RequestName, is_same_request}
 use Rattle.event_model.specs.Observers.{name_of, observers}
-use Rattle.event_model.specs.Flights.{is_again_of}
 use Rattle.event_model.proofs.SameLaws.{is_same_request-refl}
 use Rattle.event_model.proofs.ObserverLaws.{observers-apart, Only, apart_only}
+use Rattle.journal_model.specs.declared.steps.StepKind.{StepKind}
 use Rattle.journal_model.specs.declared.steps.StepKind.TheVariants as step
 use Rattle.journal_model.specs.declared.rows.Row.{Row}
 use Rattle.journal_model.specs.Journal.{events, entries}
 use Rattle.journal_model.specs.PlacedRows.{Placed}
-use Rattle.journal_model.specs.BodyFormers.{former_noted, former_of_notice, former_at}
-use Rattle.journal_model.specs.AnswersAsFormed.{is_content, is_tagged, answers_lookup, asked_by_observer, observer_named, asked_at, FormedAs}
+use Rattle.journal_model.specs.BodyFormers.{reads_further_block, sends_again, repeats_body, former_at, asker_at}
+use Rattle.journal_model.specs.AnswersAsFormed.{seen, is_content, is_tagged, answers_lookup, asked_by_observer, observer_named, asked_at, FormedAs}
 use Rattle.journal_model.proofs.entries.JournalLaws.{entries-IsPrefix-row}
 use Rattle.journal_model.proofs.sends.BodyAnswers.{wanted_by_observer, Bears, bears_carries}
 use Rattle.rd_base.proofs.lemmas.Among.{Among, all_among, among_all, find_only}
 use Rattle.journal_model.proofs.flights.NoticesAgain.{events_after_again, stood}
-use Rattle.std.proofs.lemmas.Bool.{or_parts}
 
 -- whatever listing a datagram of a row is read to have was formed as the headline says
 abbrev pub Carried : Placed → Peer × List ℕ → Type 0
 Carried here d =
     (m : Message) → reading d.1 ≡ Ok m → is_content m ≡ true → (answers_lookup here.row.step.kind (reading here.row.step.datagram) || is_tagged m) ≡ true → FormedAs here d.0 m
 
--- ---- which note names the row that formed a body
+-- ---- what the worker had seen
 
--- the note is of a kept answer that was read
-abbrev pub is_used : Note → Bool
-is_used (note.Used peer key) = true
-is_used _ = false
-
--- where the notice is noted to be sent again, it is the one that was formed last
-pub noted_again : (peer : Peer) (mid : ℕ) (notes : List Note) (here : Placed) → list_any is_used notes ≡ false → list_any (is_again_of peer mid) notes ≡ true
-    → former_noted peer mid notes here ≡ former_of_notice peer mid here.before
-noted_again peer mid [] here unused again = absurd (false≢true again)
-noted_again peer mid (n ∷ notes) here unused again = by n (or_parts (is_used n) (list_any is_used notes) unused) again (λ u a. noted_again peer mid notes here u a)
+-- unless a body is repeated, the history at the row that formed it holds all that the worker had seen when it was asked
+pub former_holds_seen : (k : StepKind) (peer : Peer) (mid : ℕ) (here former : Placed) → former_at k peer mid here ≡ Some former → repeats_body k peer mid here ≡ false
+    → (asker : Placed) → asker_at k here ≡ Some asker → IsFront (seen asker) (entries (former.row ∷ former.before))
+former_holds_seen k peer mid here former formed new asker asks = by k formed new asks
   where
-    Rest : Type 0
-    Rest = list_any is_used notes ≡ false → list_any (is_again_of peer mid) notes ≡ true → former_noted peer mid notes here ≡ former_of_notice peer mid here.before
+    one : (p : Placed) → p ≡ former → p ≡ asker → IsFront (seen asker) (entries (former.row ∷ former.before))
+    one p first second =
+        subst (λ (x : Placed). IsFront (seen x) (entries (former.row ∷ former.before))) (sym first ∙ second) (entries-IsPrefix-row former.before former.row)
 
-    test : (p : Peer) (m : ℕ) (b : Bool) → (is_same_peer p peer && m == mid) ≡ b → list_any is_used notes ≡ false → (b || list_any (is_again_of peer mid) notes) ≡ true → Rest
-        → cond b (former_of_notice peer mid here.before) (former_noted peer mid notes here) ≡ former_of_notice peer mid here.before
-    test p m true e u a more = refl
-    test p m false e u a more = more u a
+    own : (b : Bool) (earlier : Option Placed) → cond b earlier (Some here) ≡ Some former → b ≡ false → Some here ≡ Some asker → IsFront (seen asker) (entries (former.row ∷ former.before))
+    own true earlier f n a = absurd (false≢true (sym n))
+    own false earlier f n a = one here (same_Some here former f) (same_Some here asker a)
 
-    by : (x : Note) → (is_used x ≡ false) × (list_any is_used notes ≡ false) → (is_again_of peer mid x || list_any (is_again_of peer mid) notes) ≡ true → Rest
-        → former_noted peer mid (x ∷ notes) here ≡ former_of_notice peer mid here.before
-    by (note.Used p key) u a more = absurd (false≢true (sym u.0))
-    by (note.Again p m) u a more = test p m (is_same_peer p peer && m == mid) refl u.1 a more
-    by _ u a more = more u.1 a
+    by : (kind : StepKind) → former_at kind peer mid here ≡ Some former → repeats_body kind peer mid here ≡ false → asker_at kind here ≡ Some asker
+        → IsFront (seen asker) (entries (former.row ∷ former.before))
+    by (step.Keep body tag) f n a = one former refl (same_Some former asker (sym f ∙ a))
+    by step.Tick f n a = own (sends_again peer mid here) _ f n a
+    by step.Admit f n a = own (reads_further_block (reading here.row.step.datagram) here) _ f n a
+    by step.Look f n a = own (reads_further_block (reading here.row.step.datagram) here) _ f n a
+    by (step.Commit place) f n a = own (reads_further_block (reading here.row.step.datagram) here) _ f n a
 
--- where none is, it was formed here
-pub noted_here : (peer : Peer) (mid : ℕ) (notes : List Note) (here : Placed) → list_any is_used notes ≡ false → list_any (is_again_of peer mid) notes ≡ false → former_noted peer mid notes here ≡ Some here
-noted_here peer mid [] here unused none = refl
-noted_here peer mid (n ∷ notes) here unused none =
-    by n (or_parts (is_used n) (list_any is_used notes) unused).0 (or_parts (is_again_of peer mid n) (list_any (is_again_of peer mid) notes) none).0
-    (noted_here peer mid notes here (or_parts (is_used n) (list_any is_used notes) unused).1 (or_parts (is_again_of peer mid n) (list_any (is_again_of peer mid) notes) none).1)
-  where
-    by : (x : Note) → is_used x ≡ false → is_again_of peer mid x ≡ false → former_noted peer mid notes here ≡ Some here → former_noted peer mid (x ∷ notes) here ≡ Some here
-    by (note.Used p key) u a more = absurd (false≢true (sym u))
-    by (note.Again p m) u a more = rw a more
-    by _ u a more = more
+-- ---- observers
 
 -- so an observer that stands stood before
 pub stood_before : (rows : List Row) (moment word : ℕ) (o : Observer) → Among o (observers (events_after_again rows moment word)) → Among o (observers (events rows))
@@ -87,14 +71,17 @@ observer_named-Some rows o stands =
 -- a message that an observer is sent, as the headline has it
 pub observer_formed : (here former : Placed) (o : Observer) (d : Peer × List ℕ) (m : Message) → here.row.step.kind ≡ step.Tick → Among o (observers (events here.before)) → d.0 ≡ o.peer
     → Bears (wanted_by_observer o) (listing o.query (entries (former.row ∷ former.before)) former.row.moment.0) (tag (entries (former.row ∷ former.before)) former.row.moment.0) m
-    → former_noted d.0 m.mid here.row.notes here ≡ Some former → FormedAs here d.0 m
+    → former_at step.Tick d.0 m.mid here ≡ Some former → FormedAs here d.0 m
 observer_formed here former o d m tick stands same bears formed = record {
   former = former;
-  formed = subst (λ k. former_at k d.0 m.mid here ≡ Some former) (sym tick) formed;
+  formed = at_kind;
   asked = asked_by_observer o;
   asks = subst (λ k. asked_at k (d.0, m.token) here ≡ Some (asked_by_observer o)) (sym tick)
       (ap (λ (name : RequestName). option_map (λ (x : Observer). asked_by_observer x) (observer_named name here.before)) (ap₂ (λ p t. (p, t)) same bears.token_is)
       ∙ ap (λ found. option_map (λ (x : Observer). asked_by_observer x) found) (observer_named-Some here.before o stands));
   carries = bears_carries (wanted_by_observer o) o.query (entries (former.row ∷ former.before)) former.row.moment.0 m bears;
-  holds_seen = entries-IsPrefix-row former.before former.row;
+  holds_seen = former_holds_seen here.row.step.kind d.0 m.mid here former at_kind;
 }
+  where
+    at_kind : former_at here.row.step.kind d.0 m.mid here ≡ Some former
+    at_kind = subst (λ k. former_at k d.0 m.mid here ≡ Some former) (sym tick) formed

@@ -1,8 +1,8 @@
 -- Rows of keeps: what they send and keep was formed by the look whose job they end.
-use Rattle.std.proofs.Common.{◌≡◌, ℕ, ◌≤◌, Bool, true, false, cond, List, [], ◌∷◌, length, Some, None, Ok, refl, sym, ap, subst, ◌∙◌}
+use Rattle.std.proofs.Common.{◌≡◌, ℕ, ◌≤◌, Bool, true, false, not, cond, List, [], ◌∷◌, length, Some, None, Ok, refl, sym, ap, subst, ◌∙◌}
 use Rattle.std.specs.Prelude.{is_none, option_map}
 use Rattle.std.specs.List.{AllByRecursion}
-use Rattle.std.proofs.lemmas.Bool.{and_parts}
+use Rattle.std.proofs.lemmas.Bool.{false≢true, and_parts}
 use Rattle.rd_base.specs.declared.peers.Peer.{Peer}
 use Rattle.message_model.specs.declared.messages.Role.TheVariants as role
 use Rattle.message_model.specs.Message.{Message, role_of}
@@ -27,19 +27,19 @@ use Rattle.journal_model.specs.Looks.{names_tag, unless_long, unless_valid, look
 use Rattle.journal_model.specs.Rows.{effects, row_moment, row}
 use Rattle.journal_model.specs.Machine.{Job, job_of, MayBegin, hears, goes, ticks, is_look_datagram, is_look_reading, IsJournal}
 use Rattle.journal_model.specs.PlacedRows.{Placed}
-use Rattle.journal_model.specs.BodyFormers.{look_of, former_of_body, former_at}
+use Rattle.journal_model.specs.BodyFormers.{look_of, former_of_body, former_at, is_keep, is_formed_in_rows}
 use Rattle.journal_model.specs.AnswersAsFormed.{asked_at, Carries}
 use Rattle.journal_model.proofs.EntriesNoted.{entries_in}
 use Rattle.journal_model.proofs.StepNotes.{keep_effects-notes}
 use Rattle.journal_model.proofs.notes.SilentSteps.{looked_notes}
-use Rattle.journal_model.proofs.entries.JournalLaws.{Made, each_row, entries-none_noted, entries-IsPrefix-row}
+use Rattle.journal_model.proofs.entries.JournalLaws.{Made, each_row, entries-none_noted}
 use Rattle.journal_model.proofs.Jobs.{KeepsOf, keeps_of}
 use Rattle.message_model.proofs.ReadingLaws.{header_read}
 use Rattle.journal_model.proofs.sends.BodyAnswers.{wanted_by, asking, Bears, tag-length, same_message, bears_carries}
 use Rattle.headline_law.proofs.sends.LookupSends.{IsAnswerOf, keep_bears}
-use Rattle.journal_model.proofs.notes.LookupNotes.{look_fits, KeptAt}
+use Rattle.journal_model.proofs.notes.LookupNotes.{look_fits, IsAsking, KeptAt, OfWatched}
 use Rattle.headline_law.proofs.sends.ValidLaw.{LooksAt, a_look_reads, looked_a_look}
-use Rattle.headline_law.proofs.flights.CarriedListings.{Carried}
+use Rattle.headline_law.proofs.flights.CarriedListings.{Carried, former_holds_seen}
 use Rattle.headline_law.proofs.rows.RowCarries.{NoteAsFormed, RowCarries, asked_in-own}
 use Rattle.rd_base.proofs.lemmas.Each.{each_weaker}
 
@@ -173,18 +173,20 @@ keep_of rows s m body current journal may kind read = record {
         subst (λ x. only_looks x ≡ true) same (look_only looks_at.message looks_at.looks)
 
 -- any row of a keep
-pub keep_row : (rows : List Row) (r : Row) (m : Message) (body current : List ℕ) → IsJournal rows → MayBegin rows r.step → r.step.kind ≡ step.Keep body current → reading r.step.datagram ≡ Ok m
-    → r.sent ≡ (keep_effects r.step m body current).sent → r.notes ≡ (keep_effects r.step m body current).notes → RowCarries rows r
-keep_row rows r m body current journal may kind read sent notes = record {
-  carried = subst (AllByRecursion (Carried here)) (sym sent) (each_weaker (IsAnswerOf r.step.peer (wanted_by m) body current) (Carried here) one (keep_effects r.step m body current).sent (keep_bears r.step m body current small short));
-  noted = subst (AllByRecursion (NoteAsFormed here)) (sym (notes ∙ keep_effects-notes r.step m body current)) (record { former = it.look; formed = ap (λ k. former_of_body k here) kind ∙ it.found; is_kept = it.is_kept }, tt);
+-- of a journal in which it is known to end a look; of any other nothing is said of what it sends and keeps
+pub keep_row : (keeps : Bool) (rows : List Row) (r : Row) (m : Message) (body current : List ℕ) → (keeps ≡ true → KeepOf rows r.step.worker m body current) → r.step.kind ≡ step.Keep body current → reading r.step.datagram ≡ Ok m
+    → r.sent ≡ (keep_effects r.step m body current).sent → r.notes ≡ (keep_effects r.step m body current).notes → RowCarries keeps rows r
+keep_row true rows r m body current ends kind read sent notes = record {
+  carried = λ _. subst (AllByRecursion (Carried here)) (sym sent) (each_weaker (IsAnswerOf r.step.peer (wanted_by m) body current) (Carried here) one (keep_effects r.step m body current).sent (keep_bears r.step m body current small short));
+  noted = λ _. subst (AllByRecursion (NoteAsFormed here)) (sym (notes ∙ keep_effects-notes r.step m body current)) (record { former = it.look; formed = ap (λ k. former_of_body k here) kind ∙ it.found; is_kept = it.is_kept }, tt);
+  asking = subst (AllByRecursion (OfWatched IsAsking)) (sym (notes ∙ keep_effects-notes r.step m body current)) (tt, tt);
 }
   where
     here : Placed
     here = record { row = r; before = rows }
 
     it : KeepOf rows r.step.worker m body current
-    it = keep_of rows r.step m body current journal may kind read
+    it = ends refl
 
     small : length m.token ≤ 8
     small = (header_read r.step.datagram m read).token
@@ -192,15 +194,23 @@ keep_row rows r m body current journal may kind read sent notes = record {
     short : length current ≡ 8
     short = ap length it.is_kept.tag_is ∙ tag-length (entries (it.look.row ∷ it.look.before)) it.look.row.moment.0
 
+    formed : (peer : Peer) (mid : ℕ) → former_at r.step.kind peer mid here ≡ Some it.look
+    formed peer mid = ap (λ k. former_at k peer mid here) kind ∙ it.found
+
     one : (d : Peer × List ℕ) → IsAnswerOf r.step.peer (wanted_by m) body current d → Carried here d
     one d bears n e listed _ = record {
       former = it.look;
-      formed = ap (λ k. former_at k d.0 n.mid here) kind ∙ it.found;
+      formed = formed d.0 n.mid;
       asked = asking (wanted_by m) (query_of m);
       asks = ap (λ k. asked_at k (d.0, n.token) here) kind ∙ asked_in-own r.step.peer m (d.0, n.token) (reading r.step.datagram) read bears.0 (bears.1 n e listed).token_is;
-      holds_seen = entries-IsPrefix-row it.look.before it.look.row;
+      holds_seen = former_holds_seen r.step.kind d.0 n.mid here it.look (formed d.0 n.mid);
       carries = subst (λ q. Carries n (asking (wanted_by m) q) (entries (it.look.row ∷ it.look.before)) it.look.row.moment.0) it.query_is
           (bears_carries (wanted_by m) it.is_kept.query (entries (it.look.row ∷ it.look.before)) it.look.row.moment.0 n
           (subst (λ t. Bears (wanted_by m) (listing it.is_kept.query (entries (it.look.row ∷ it.look.before)) it.look.row.moment.0) t n) it.is_kept.tag_is
           (subst (λ b. Bears (wanted_by m) b current n) it.is_kept.body_is (bears.1 n e listed))));
     }
+keep_row false rows r m body current ends kind read sent notes = record {
+  carried = λ known. absurd (false≢true (sym (ap (λ k. is_formed_in_rows k (record { row = r; before = rows })) kind) ∙ known));
+  noted = λ known. absurd (false≢true (sym (ap (λ k. not (is_keep k)) kind) ∙ known));
+  asking = subst (AllByRecursion (OfWatched IsAsking)) (sym (notes ∙ keep_effects-notes r.step m body current)) (tt, tt);
+}

@@ -17,7 +17,7 @@ use Rattle.journal_model.specs.declared.steps.StepKind.TheVariants as step
 use Rattle.journal_model.specs.declared.rows.Row.{Row}
 use Rattle.journal_model.specs.Journal.{events, entries, row_at}
 use Rattle.journal_model.specs.Effects.{Effects}
-use Rattle.journal_model.specs.BodyFormers.{former_noted}
+use Rattle.journal_model.specs.BodyFormers.{former_at}
 use Rattle.journal_model.proofs.NoteKinds.{of_resent, are, none_of}
 use Rattle.journal_model.proofs.sends.BodyAnswers.{wanted_by_observer, IsBodyOf, other_code}
 use Rattle.journal_model.proofs.sends.PlainSteps.{IsPlain, ArePlain}
@@ -28,7 +28,7 @@ use Rattle.journal_model.proofs.flights.WaitedPeers.{Waits}
 use Rattle.journal_model.proofs.flights.NoticesAgain.{again_peer, AgainSent, AgainNoted, events_after_again, again_waits}
 use Rattle.headline_law.proofs.flights.TickNotices.{IsNoticeOf, FreshSent, TickSoFar}
 use Rattle.headline_law.proofs.flights.KnownFlights.{NoticeOf, FlightKnown, FlightsKnown}
-use Rattle.headline_law.proofs.flights.CarriedListings.{Carried, is_used, noted_again, noted_here, stood_before, observer_formed}
+use Rattle.headline_law.proofs.flights.CarriedListings.{Carried, stood_before, observer_formed}
 use Rattle.std.proofs.lemmas.Bool.{or_left}
 use Rattle.rd_base.proofs.lemmas.Each.{each_append, each_weaker}
 
@@ -43,7 +43,6 @@ pub record TickRow (rows : List Row) (r : Row) : Type 0 where
   pub plain : ArePlain requests.sent
   pub resent : are of_resent requests.notes ≡ true
   pub same_entries : entries (r ∷ rows) ≡ entries rows
-  pub unused : list_any is_used r.notes ≡ false
   pub known : FlightsKnown rows
 
 -- requests do nothing for observers
@@ -59,9 +58,9 @@ requests_none test resent ceased notes h = none_of of_resent test never notes h
 again_carried : (rows : List Row) (r : Row) → (t : TickRow rows r) → (d : Peer × List ℕ) → AgainSent rows r.moment.0 d → Carried (record { row = r; before = rows }) d
 again_carried rows r t d a m e listed _ =
     observer_formed (record { row = r; before = rows }) notice.placed a.observer d m t.tick a.again.stands (again_peer rows r.moment.0 d a) (found.holds found.to_peer m e listed)
-    (subst (λ p. former_noted p m.mid r.notes (record { row = r; before = rows }) ≡ Some notice.placed) (sym (again_peer rows r.moment.0 d a))
-    (subst (λ n. former_noted a.observer.peer n r.notes (record { row = r; before = rows }) ≡ Some notice.placed) (sym (mid_of_confirmable a.flight_is.mid d.1 m found.confirmable e))
-    (noted_again a.observer.peer a.flight_is.mid r.notes (record { row = r; before = rows }) t.unused again ∙ notice.last)))
+    (subst (λ p. former_at step.Tick p m.mid (record { row = r; before = rows }) ≡ Some notice.placed) (sym (again_peer rows r.moment.0 d a))
+    (subst (λ n. former_at step.Tick a.observer.peer n (record { row = r; before = rows }) ≡ Some notice.placed) (sym (mid_of_confirmable a.flight_is.mid d.1 m found.confirmable e))
+    (rw again notice.last)))
   where
     notice : NoticeOf rows a.observer a.flight_is.mid a.flight_is.formed.place
     notice = all_among (FlightKnown rows) a.observer (observers (events rows)) t.known a.again.stands a.flight_is.mid a.flight_is.formed.place (ap (λ f. option_map key_of f) a.again.flies)
@@ -90,7 +89,7 @@ fresh_carried : (rows : List Row) (r : Row) → (t : TickRow rows r) → (d : Pe
 fresh_carried rows r t d f m e listed _ =
     observer_formed (record { row = r; before = rows }) (record { row = r; before = rows }) f.observer d m t.tick (stood_before rows r.moment.0 r.step.word f.observer f.stands) f.of_peer
     (as_row rows r f.observer d.1 t.same_entries f.body m e listed)
-    (noted_here d.0 m.mid r.notes (record { row = r; before = rows }) t.unused none)
+    (rw none refl)
   where
     one : (n : Note) → AgainNoted rows r.moment.0 n → is_again_of d.0 m.mid n ≡ false
     one (note.Again p mid) a = by (is_same_peer p d.0) refl

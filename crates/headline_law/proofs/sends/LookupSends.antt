@@ -87,22 +87,21 @@ pub keep_bears : (s : Step) (m : Message) (body tag : List ℕ) → length m.tok
 unfolding keep_effects answering
 keep_bears s m body tag small short = ((refl, body_bears (answer_kind m.kind) (answer_mid s m m.kind) m.token tag None (asked_block m) body small short (request-usable m)), tt)
 
--- the note names an earlier row: what was formed there is sent now
-abbrev pub names_earlier_row : Note → Bool
-names_earlier_row (note.Used peer key) = true
-names_earlier_row (note.Again peer mid) = true
-names_earlier_row _ = false
+-- the note reads a kept answer
+abbrev pub reads_kept : Note → Bool
+reads_kept (note.Used peer key) = true
+reads_kept _ = false
 
--- what a lookup sends: of the listing now, or of the kept answer, which it then uses
+-- what a lookup sends: of the listing now, or a further block of the kept answer, which it then uses
 pub data LookupOutcome (rows : List Row) (moment : ℕ) (s : Step) (m : Message) (e : Effects) : Type 0 where
-  now : list_any names_earlier_row e.notes ≡ false → AreListings s.peer m (entries rows) moment e.sent → LookupOutcome rows moment s m e
-  kept : (answer : Answer) → kept_answer moment (s.peer, key_in m) (events rows) ≡ Some answer → e.notes ≡ note.Used s.peer (key_in m) ∷ []
+  now : list_any reads_kept e.notes ≡ false → AreListings s.peer m (entries rows) moment e.sent → LookupOutcome rows moment s m e
+  kept : (answer : Answer) → is_later_block m ≡ true → kept_answer moment (s.peer, key_in m) (events rows) ≡ Some answer → e.notes ≡ note.Used s.peer (key_in m) ∷ []
       → (length answer.tag ≡ 8 → AreBodiesOf s.peer (wanted_by m) answer.body answer.tag e.sent) → LookupOutcome rows moment s m e
 
 -- so it is of each lookup that the journal takes part in
 pub lookup_outcome : (rows : List Row) (moment : ℕ) (s : Step) (m : Message) → length m.token ≤ longest_token → is_discovery (path_in m) ≡ false → LookupOutcome rows moment s m (lookup_effects rows moment s m)
 unfolding lookup_effects later_block observed unobserved answering
-lookup_outcome rows moment s m small lists = by (is_later_block m)
+lookup_outcome rows moment s m small lists = by (is_later_block m) refl
   where
     now_block : (part : Option (List ℕ × Bool)) → block_of (listing (query_of m) (entries rows) moment) (number_of (asked_block m)) (szx_of (asked_block m)) ≡ part
         → LookupOutcome rows moment s m (block_now s m (listing_now rows moment m) part)
@@ -111,34 +110,34 @@ lookup_outcome rows moment s m small lists = by (is_later_block m)
     now_block (Some part) cut = now refl
         ((refl, part_bears (answer_kind m.kind) (answer_mid s m m.kind) (tag (entries rows) moment) None (asked_block m) m.token (listing (query_of m) (entries rows) moment) (Some part) small (tag-length (entries rows) moment) (request-usable m) cut), tt)
 
-    later : (found : Option Answer) → kept_answer moment (s.peer, key_in m) (events rows) ≡ found → LookupOutcome rows moment s m (block_of_kept s m (listing_now rows moment m) found)
-    later (Some answer) e = kept answer e refl (λ short. ((refl, body_bears (answer_kind m.kind) (answer_mid s m m.kind) m.token answer.tag None (asked_block m) answer.body small short (request-usable m)), tt))
-    later None e = now_block (block_of (listing (query_of m) (entries rows) moment) (number_of (asked_block m)) (szx_of (asked_block m))) refl
+    later : is_later_block m ≡ true → (found : Option Answer) → kept_answer moment (s.peer, key_in m) (events rows) ≡ found → LookupOutcome rows moment s m (block_of_kept s m (listing_now rows moment m) found)
+    later further (Some answer) e = kept answer further e refl (λ short. ((refl, body_bears (answer_kind m.kind) (answer_mid s m m.kind) m.token answer.tag None (asked_block m) answer.body small short (request-usable m)), tt))
+    later further None e = now_block (block_of (listing (query_of m) (entries rows) moment) (number_of (asked_block m)) (szx_of (asked_block m))) refl
 
-    removed : (b : Bool) (peer : Peer) (token : List ℕ) → list_any names_earlier_row (cond b (note.Unwatched peer token ∷ []) []) ≡ false
+    removed : (b : Bool) (peer : Peer) (token : List ℕ) → list_any reads_kept (cond b (note.Unwatched peer token ∷ []) []) ≡ false
     removed true peer token = refl
     removed false peer token = refl
 
-    keeps : (b : Bool) (a : Answer) → list_any names_earlier_row (cond b (note.Kept s.peer (key_in m) a.body a.tag ∷ []) []) ≡ false
+    keeps : (b : Bool) (a : Answer) → list_any reads_kept (cond b (note.Kept s.peer (key_in m) a.body a.tag ∷ []) []) ≡ false
     keeps true a = refl
     keeps false a = refl
 
-    ends : list_any names_earlier_row (removal (s.peer, m.token) (observers (events rows))) ≡ false
+    ends : list_any reads_kept (removal (s.peer, m.token) (observers (events rows))) ≡ false
     ends = removed (is_observer (s.peer, m.token) (observers (events rows))) s.peer m.token
 
-    keeping_now : list_any names_earlier_row (keeping s m (listing_now rows moment m)) ≡ false
+    keeping_now : list_any reads_kept (keeping s m (listing_now rows moment m)) ≡ false
     keeping_now = keeps (is_long (asked_block m) (listing_now rows moment m).body) (listing_now rows moment m)
 
     added : (b : Bool) → LookupOutcome rows moment s m (observed_if b rows s m (listing_now rows moment m))
     added true = now
-        (list_any-append names_earlier_row (removal (s.peer, m.token) (observers (events rows))) _ ∙ rw (ends, keeping_now) refl)
+        (list_any-append reads_kept (removal (s.peer, m.token) (observers (events rows))) _ ∙ rw (ends, keeping_now) refl)
         ((refl, body_bears (answer_kind m.kind) (answer_mid s m m.kind) m.token (tag (entries rows) moment) (Some (observe_value (events rows))) (asked_block m) (listing (query_of m) (entries rows) moment) small (tag-length (entries rows) moment) (request-usable m)), tt)
     added false = now
-        (list_any-append names_earlier_row (removal (s.peer, m.token) (observers (events rows))) _ ∙ rw (ends, keeping_now) refl)
+        (list_any-append reads_kept (removal (s.peer, m.token) (observers (events rows))) _ ∙ rw (ends, keeping_now) refl)
         ((refl, body_bears (answer_kind m.kind) (answer_mid s m m.kind) m.token (tag (entries rows) moment) None (asked_block m) (listing (query_of m) (entries rows) moment) small (tag-length (entries rows) moment) (request-usable m)), tt)
 
     only_looked : LookupOutcome rows moment s m (look_effects (entries rows) moment s m)
-    only_looked = now (ap (list_any names_earlier_row) (look_effects-notes (entries rows) moment s m)) (look_lists (entries rows) moment s m small lists)
+    only_looked = now (ap (list_any reads_kept) (look_effects-notes (entries rows) moment s m)) (look_lists (entries rows) moment s m small lists)
 
     valued : (b c : Bool) → LookupOutcome rows moment s m (observation_effects b c rows moment s m)
     valued true c = added (has_room_for (query_of m) (without (s.peer, m.token) (observers (events rows))))
@@ -149,6 +148,6 @@ lookup_outcome rows moment s m small lists = by (is_later_block m)
     observe None = only_looked
     observe (Some value) = valued (value == register) (value == deregister)
 
-    by : (b : Bool) → LookupOutcome rows moment s m (block_effects b rows moment s m)
-    by true = later (kept_answer moment (s.peer, key_in m) (events rows)) refl
-    by false = observe (observe_in m)
+    by : (b : Bool) → is_later_block m ≡ b → LookupOutcome rows moment s m (block_effects b rows moment s m)
+    by true further = later further (kept_answer moment (s.peer, key_in m) (events rows)) refl
+    by false first = observe (observe_in m)

@@ -1,6 +1,7 @@
 -- 2.03 is sent exactly where a look names the tag at its own row.
 use Rattle.std.proofs.Common.{◌≡◌, ℕ, ◌==◌, ◌&&◌, Bool, true, false, cond, List, [], ◌∷◌, length, Some, None, Result, Ok, Err, refl, sym, ap, subst, ◌∙◌}
 use Rattle.std.specs.Prelude.{is_some}
+use Rattle.std.specs.List.{AllByRecursion}
 use Rattle.std.proofs.lemmas.Bool.{false≢true}
 use Rattle.std.proofs.lemmas.Option.{same_Some}
 use Rattle.rd_base.specs.declared.peers.Peer.{Peer}
@@ -15,7 +16,7 @@ use Rattle.event_model.specs.declared.notes.Note.{Note}
 use Rattle.event_model.specs.declared.notes.Note.TheVariants as note
 use Rattle.event_model.specs.Events.{Event}
 use Rattle.event_model.specs.Repeats.{answer_noted, settled}
-use Rattle.event_model.specs.Fetches.{Request, is_request_to, request_noted}
+use Rattle.event_model.specs.Fetches.{is_request_to, request_noted}
 use Rattle.journal_model.specs.declared.steps.Step.{Step}
 use Rattle.journal_model.specs.declared.steps.StepKind.{StepKind}
 use Rattle.journal_model.specs.declared.steps.StepKind.TheVariants as step
@@ -23,17 +24,17 @@ use Rattle.journal_model.specs.declared.rows.Row.{Row}
 use Rattle.journal_model.specs.Journal.{is_look, events, entries, row_at}
 use Rattle.journal_model.specs.Requests.{is_look_request}
 use Rattle.journal_model.specs.Looks.{looked}
-use Rattle.journal_model.specs.Rows.{effects, row_moment, row}
+use Rattle.journal_model.specs.Rows.{effects, row_moment, row, AreRows, empty, added}
 use Rattle.journal_model.specs.Machine.{is_look_message, is_look_reading, is_look_datagram, MayMake, IsJournal, begun, made}
 use Rattle.journal_model.specs.PlacedRows.{Within, code_sent}
 use Rattle.journal_model.specs.AnswersAsFormed.{looks_with_tag}
-use Rattle.journal_model.proofs.entries.JournalLaws.{Made, each_row}
+use Rattle.journal_model.proofs.entries.JournalLaws.{Made, each_row, journal-AreRows}
 use Rattle.journal_model.proofs.Jobs.{heard_as_hearing, heard_no_look, heard_a_look}
 use Rattle.journal_model.proofs.sends.PlainSteps.{IsPlain, ArePlain, SettledPlain}
 use Rattle.journal_model.proofs.sends.ValidSends.{NoneValid, NoConfirmableValid, look_valid}
 use Rattle.journal_model.proofs.EventRows.{AllRows, RowOf, row_of, row_within, said_by}
 use Rattle.journal_model.proofs.sends.TickSends.{AskedPlain}
-use Rattle.headline_law.proofs.sends.RowSends.{NoteFact, Before, StepSends, effects_send}
+use Rattle.headline_law.proofs.sends.RowSends.{NoteFact, Before, StepSends, effects_send, step_facts}
 use Rattle.rd_base.proofs.lemmas.Among.{all_among}
 
 -- ---- all rows of a journal
@@ -52,37 +53,52 @@ no_confirmable_valid_in (x ∷ before) place r all at = by (place == length befo
     by true h more = subst (λ (y : Row). NoConfirmableValid y.sent) (same_Some x r h) all.0.confirmables
     by false h more = more h
 
--- what is known of all rows is known of those that are looked back at
-pub before_all : (rows : List Row) → AllRows RowSends rows → Before rows
-unfolding settled
-before_all rows all = record { settled = settled_plain; asked = asked_plain; confirmables = λ place r at. no_confirmable_valid_in rows place r all at }
-  where
-    fact : (test : Note → Bool) (e : Event) → (it : RowOf test rows e) → NoteFact it.placed.row.sent e.note
-    fact test e it = all_among (NoteFact it.placed.row.sent) e.note it.placed.row.notes (row_within RowSends rows it.placed.before it.placed.row all it.within).facts it.note
+-- what the notes of each row say of what it sends
+abbrev pub RowFacts : List Row → Row → Type 0
+RowFacts before r = AllByRecursion (NoteFact r.sent) r.notes
 
-    settles : (place : ℕ) (octets : List ℕ) (sent : List (Peer × List ℕ)) (n : Note) → NoteFact sent n → answer_noted place n ≡ Some octets → IsPlain octets
-    settles place octets sent (note.Settled p reply) h said = by (p == place) said
+-- so it is of all rows of steps
+pub rows_facts : (rows : List Row) → AreRows rows → AllRows RowFacts rows
+unfolding row
+rows_facts [] empty = tt
+rows_facts (r ∷ before) (added {rows} s starved rest) = (step_facts s.kind starved before (row_moment before s) s, rows_facts before rest)
+
+-- what a note says where it stands among the notes of the last row of its kind
+noted_fact : (rows : List Row) → AllRows RowFacts rows → (test : Note → Bool) (e : Event) → (it : RowOf test rows e) → NoteFact it.placed.row.sent e.note
+noted_fact rows all test e it = all_among (NoteFact it.placed.row.sent) e.note it.placed.row.notes (row_within RowFacts rows it.placed.before it.placed.row all it.within) it.note
+
+-- what is settled is plain
+pub settled_plain : (rows : List Row) → AllRows RowFacts rows → SettledPlain (events rows)
+unfolding settled
+settled_plain rows all place octets said =
+    let found = said_by (answer_noted place) (events rows) octets said in
+    let it = row_of (λ n. is_some (answer_noted place n)) rows found.0 found.1 in
+    settles it.placed.row.sent found.0.note (noted_fact rows all (λ n. is_some (answer_noted place n)) found.0 it) found.2
+  where
+    settles : (sent : List (Peer × List ℕ)) (n : Note) → NoteFact sent n → answer_noted place n ≡ Some octets → IsPlain octets
+    settles sent (note.Settled p reply) h answers = by (p == place) answers
       where
         by : (b : Bool) → cond b (Some reply) None ≡ Some octets → IsPlain octets
         by true e = subst IsPlain (same_Some reply octets e) h
         by false e = absurd (let no : None ≡ Some octets = e in cc)
-    settles place octets sent _ h said = absurd (let no : None ≡ Some octets = said in cc)
+    settles sent _ h answers = absurd (let no : None ≡ Some octets = answers in cc)
 
-    settled_plain : SettledPlain (events rows)
-    settled_plain place octets said =
-        let found = said_by (answer_noted place) (events rows) octets said in
-        let it = row_of (λ n. is_some (answer_noted place n)) rows found.0 found.1 in
-        settles place octets it.placed.row.sent found.0.note (fact (λ n. is_some (answer_noted place n)) found.0 it) found.2
+-- and so is what a fetch asks
+pub asked_plain : (rows : List Row) → AllRows RowFacts rows → AskedPlain rows
+asked_plain rows all peer e request r last noted at =
+    let it = row_of (is_request_to peer) rows e last in
+    let same : it.placed.row ≡ r = same_Some it.placed.row r (sym it.at_place ∙ at) in
+    subst (λ (x : Row). ArePlain x.sent) same (asks it.placed.row.sent e.note (noted_fact rows all (is_request_to peer) e it) noted)
+  where
+    asks : (sent : List (Peer × List ℕ)) (n : Note) → NoteFact sent n → request_noted n ≡ Some request → ArePlain sent
+    asks sent (note.Asked to token mid params number) h is_request = h
+    asks sent _ h is_request = absurd (let no : None ≡ Some request = is_request in cc)
 
-    asks : (sent : List (Peer × List ℕ)) (n : Note) (request : Request) → NoteFact sent n → request_noted n ≡ Some request → ArePlain sent
-    asks sent (note.Asked peer token mid params number) request h noted = h
-    asks sent _ request h noted = absurd (let no : None ≡ Some request = noted in cc)
-
-    asked_plain : AskedPlain rows
-    asked_plain peer e request r last noted at =
-        let it = row_of (is_request_to peer) rows e last in
-        let same : it.placed.row ≡ r = same_Some it.placed.row r (sym it.at_place ∙ at) in
-        subst (λ (x : Row). ArePlain x.sent) same (asks it.placed.row.sent e.note request (fact (is_request_to peer) e it) noted)
+-- what is known of all rows of a journal is known of those that are looked back at
+before_all : (rows : List Row) → IsJournal rows → AllRows RowSends rows → Before rows
+before_all rows journal all =
+    let facts : AllRows RowFacts rows = rows_facts rows (journal-AreRows rows journal) in
+    record { settled = settled_plain rows facts; asked = asked_plain rows facts; confirmables = λ place r at. no_confirmable_valid_in rows place r all at }
 
 -- a datagram that is admitted is no look
 admitted_no_look : (rows : List Row) (s : Step) → MayMake rows s → s.kind ≡ step.Admit → is_look_reading (reading s.datagram) ≡ false
@@ -100,7 +116,7 @@ unfolding row
 journal_sends [] begun = tt
 journal_sends (r ∷ before) (made {rows} {s} starved journal may) =
     let all : AllRows RowSends before = journal_sends before journal in
-    (effects_send s.kind starved before (row_moment before s) s (before_all before all) (admitted_no_look before s may), all)
+    (effects_send s.kind starved before (row_moment before s) s (before_all before journal all) (admitted_no_look before s may), all)
 
 -- ---- the law
 

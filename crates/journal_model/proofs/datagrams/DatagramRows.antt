@@ -11,7 +11,7 @@ use Rattle.journal_model.specs.declared.rows.Row.{Row}
 use Rattle.journal_model.specs.DeskJournal.{IsDeskJournal}
 use Rattle.journal_model.specs.PlacedRows.{Within}
 use Rattle.journal_model.specs.AnswersAsFormed.{is_content, Sent}
-use Rattle.journal_model.specs.SentDatagrams.{Datagram, IsFitting, is_response, IsAnswer, SendsFirst}
+use Rattle.journal_model.specs.SentDatagrams.{Datagram, IsFitting, is_response, IsAnswer, SendsFirst, AreForRequests}
 use Rattle.journal_model.proofs.EventRows.{row_within}
 use Rattle.journal_model.proofs.entries.JournalLaws.{desk-AreRows}
 use Rattle.journal_model.proofs.entries.CommitPlaces.{desk-place}
@@ -19,7 +19,7 @@ use Rattle.journal_model.proofs.observers.ObserversKnow.{IsNoTick}
 use Rattle.journal_model.proofs.datagrams.OwnSends.{IsOwn}
 use Rattle.journal_model.proofs.datagrams.NotedSends.{FirstSent, NoteFact}
 use Rattle.journal_model.proofs.datagrams.TickedSends.{IsTicked}
-use Rattle.journal_model.proofs.datagrams.SentRows.{IsSentBy, RowSent, AllSent, AreForRequests, rows_sent}
+use Rattle.journal_model.proofs.datagrams.SentRows.{IsSentBy, RowSent, AllSent, rows_sent}
 
 -- ---- rows of which each datagram is known
 
@@ -75,19 +75,5 @@ sent-content rows all it tick responds =
 -- ---- journals of desks
 
 -- what each row of a journal of a desk sends, where each look, commit and keep is made for a request, and each keep has a tag of eight octets: so it can be read and fits, and what is noted as formed is sent
-desk_sent : (rows : List Row) → IsDeskJournal rows → AreForRequests rows → AllSent rows
+pub desk_sent : (rows : List Row) → IsDeskJournal rows → AreForRequests rows → AllSent rows
 desk_sent rows journal requests = rows_sent rows (desk-AreRows rows journal) (λ before r place within commits. desk-place rows before r place journal within commits) requests
-
--- End theorems: nothing here cites them.
-pub desk-fitting : (rows : List Row) → IsDeskJournal rows → AreForRequests rows → (datagram : Datagram rows) → IsFitting datagram.octets
-desk-fitting rows journal requests datagram = sent-fitting rows (desk_sent rows journal requests) datagram
-
-pub desk-formed : (rows : List Row) → IsDeskJournal rows → AreForRequests rows → (before : List Row) (r : Row) (peer : Peer) (token body : List ℕ) (mid : Option ℕ) → Within rows before r
-    → IsAmong r.notes (note.Formed peer token body mid) → SendsFirst r peer token body
-desk-formed rows journal requests before r peer token body mid within among = sent-formed rows (desk_sent rows journal requests) before r peer token body mid within among
-
-pub desk-answer : (rows : List Row) → IsDeskJournal rows → AreForRequests rows → (it : Sent rows) → IsNoTick it.here.row.step.kind → is_response it.message ≡ true → IsAnswer it.here it.peer it.message
-desk-answer rows journal requests it no_tick responds = sent-answer rows (desk_sent rows journal requests) it no_tick responds
-
-pub desk-content : (rows : List Row) → IsDeskJournal rows → AreForRequests rows → (it : Sent rows) → it.here.row.step.kind ≡ step.Tick → is_response it.message ≡ true → is_content it.message ≡ true
-desk-content rows journal requests it tick responds = sent-content rows (desk_sent rows journal requests) it tick responds

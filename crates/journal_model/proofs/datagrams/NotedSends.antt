@@ -45,7 +45,7 @@ use Rattle.journal_model.specs.Rows.{served, refusal_answered, unread_answered, 
 use Rattle.journal_model.specs.Changes.{Outcome}
 use Rattle.journal_model.specs.Registrations.{registering}
 use Rattle.journal_model.specs.Commits.{settling, updating, removing, simple_unless, on_location, write_done, commit_effects}
-use Rattle.journal_model.specs.SentDatagrams.{IsFitting, is_response, AnswersRequest, CarriesFirst}
+use Rattle.journal_model.specs.SentDatagrams.{IsFitting, is_response, AnswersRequest, CarriesFirst, IsForRequest}
 use Rattle.journal_model.specs.AnswersAsFormed.{is_content, IsAsked}
 use Rattle.journal_model.proofs.NoteKinds.{of_write, of_empty, of_response, are}
 use Rattle.journal_model.proofs.StepNotes.{look_effects-notes, write_effects-notes, acknowledged-notes, reset-notes}
@@ -56,7 +56,7 @@ use Rattle.journal_model.proofs.notes.LookupNotes.{IsAsking, lookup_fits}
 use Rattle.journal_model.proofs.sends.BodyAnswers.{Wanted, IsBodyOf, Bears, same_message, tag-length, IsUsable, szx-usable, request-usable, body_bears, with_reply}
 use Rattle.journal_model.proofs.sends.ValidSends.{is_confirmable}
 use Rattle.journal_model.proofs.datagrams.FittingReplies.{IsGoodReply, reply_read, reply_fits, good_bare, good_unavailable, good_body_reply, good_change, good_registering}
-use Rattle.journal_model.proofs.datagrams.OwnSends.{answer_unconfirmable, IsForRequest}
+use Rattle.journal_model.proofs.datagrams.OwnSends.{answer_unconfirmable}
 
 -- octets that settle the write of a place: its commit answers it so
 pub record SettledBy (kind : StepKind) (s : Step) (place : ℕ) (octets : List ℕ) : Type 0 where

@@ -54,7 +54,7 @@ use Rattle.journal_model.specs.Commits.{settling, updating, removing, fetch_requ
 use Rattle.journal_model.specs.EmptyMessages.{acknowledged, reset}
 use Rattle.journal_model.specs.Responses.{has_mid_of, is_response_to, answered_request, request_of, fetch_of, strange, acknowledgement, more_follow, block_in, is_elsewhere, ends_fetch, gathering, response_taken, response_to, response_to_request, response_effects}
 use Rattle.journal_model.specs.Rows.{served, refusal_answered, unread_answered, request_answered, message_effects, heard, done, kept_body, effects}
-use Rattle.journal_model.specs.SentDatagrams.{IsFitting, is_response, AnswersRequest, AnswersRepeat}
+use Rattle.journal_model.specs.SentDatagrams.{IsFitting, is_response, AnswersRequest, AnswersRepeat, IsForRequest}
 use Rattle.journal_model.proofs.MessageSizeLaws.{spelling-most}
 use Rattle.journal_model.proofs.observers.ObserversKnow.{IsNoTick}
 use Rattle.journal_model.proofs.sends.BodyAnswers.{block_value-length, same_message, tag-length, request-usable, szx-usable}
@@ -377,14 +377,6 @@ unread_own rows s (unread.Format Con mid) = (own_reset rows s mid, tt)
 unread_own rows s (unread.Format Non mid) = tt
 unread_own rows s (unread.Format Ack mid) = tt
 unread_own rows s (unread.Format Rst mid) = tt
-
--- a step that answers what it does not hear first is made for a request, the message in its datagram; and a keep has a tag of eight octets
-abbrev pub IsForRequest : StepKind → Message → Type 0
-IsForRequest step.Admit m = Unit {0}
-IsForRequest step.Look m = role_of m.kind m.code ≡ role.Request
-IsForRequest (step.Commit place) m = role_of m.kind m.code ≡ role.Request
-IsForRequest (step.Keep body current) m = (role_of m.kind m.code ≡ role.Request) × (length current ≡ 8)
-IsForRequest step.Tick m = Unit {0}
 
 -- any step but a tick
 pub effects_own : (kind : StepKind) (starved : Bool) (rows : List Row) (moment : ℕ) (s : Step) → IsNoTick kind → ((m : Message) → reading s.datagram ≡ Ok m → IsForRequest kind m) → KnownBefore rows → AreOwn rows s (effects kind starved rows moment s).sent

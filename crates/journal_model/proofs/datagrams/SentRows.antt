@@ -28,7 +28,7 @@ use Rattle.journal_model.specs.Rows.{effects, row_moment, row, AreRows, empty, a
 use Rattle.journal_model.specs.Ticks.{tick_effects}
 use Rattle.journal_model.specs.PlacedRows.{Within, Placed, Commits}
 use Rattle.journal_model.specs.HoldsEachOnce.{AdmittedAt}
-use Rattle.journal_model.specs.SentDatagrams.{AnswersRequest, AnswersRepeat}
+use Rattle.journal_model.specs.SentDatagrams.{AnswersRequest, AnswersRepeat, IsForRequest, AreForRequests}
 use Rattle.journal_model.proofs.EventRows.{AllRows, RowOf, row_of, row_within, within_more, said_by}
 use Rattle.journal_model.proofs.RowEquations.{effects-Tick, row-step}
 use Rattle.journal_model.proofs.entries.CommitPlaces.{AtPlace, at_place, own_of}
@@ -36,7 +36,7 @@ use Rattle.journal_model.proofs.desks.OpenAdmissions.{OwnAdmission}
 use Rattle.journal_model.proofs.notes.LookupNotes.{IsAsking, OfWatched, observers_all}
 use Rattle.journal_model.proofs.flights.NoticesAgain.{events_after_again, stood}
 use Rattle.journal_model.proofs.sends.BodyAnswers.{same_message}
-use Rattle.journal_model.proofs.datagrams.OwnSends.{IsOwn, KnownBefore, IsForRequest, effects_own}
+use Rattle.journal_model.proofs.datagrams.OwnSends.{IsOwn, KnownBefore, effects_own}
 use Rattle.journal_model.proofs.datagrams.NotedSends.{SettledBy, NoteFact, NoteFacts, effects_facts}
 use Rattle.journal_model.proofs.datagrams.TickedSends.{IsTicked, IsResendable, Resendable, TickSends, tick_sends}
 
@@ -61,10 +61,6 @@ pub record AllSent (rows : List Row) : Type 0 where
 -- each commit is of a row that admitted
 abbrev pub CommitsPlaced : List Row → Type 0
 CommitsPlaced rows = (before : List Row) (r : Row) (place : ℕ) → Within rows before r → Commits r place → AdmittedAt before place r.step
-
--- each look, commit and keep is made for a request, where its datagram can be read; and each keep has a tag of eight octets
-abbrev pub AreForRequests : List Row → Type 0
-AreForRequests rows = (before : List Row) (r : Row) (m : Message) → Within rows before r → reading r.step.datagram ≡ Ok m → IsForRequest r.step.kind m
 
 -- ---- rows at places
 

@@ -31,8 +31,9 @@ row-origin rows s starved some = by (effects-EntryOrigin s.kind starved rows (ro
         → ((place : ℕ) × (s.kind ≡ step.Commit place)) ⊎ IsCompletion rows (row rows s starved)
     by (nowhere h) = absurd (let no : length (entries_in (effects s.kind starved rows (row_moment rows s) s).notes) ≡ 0 = ap length h in omega (arith, some, no))
     by (commit place e next) = inl (place, e)
-    by (completion e m read responds request fetch h next) = inr (record {
+    by (completion e m read responds request fetch body h next) = inr (record {
       answers = record { kind = e; message = m; read = read; response = responds; request = request; fetch = fetch };
+      body = body;
       ended = h;
     })
 

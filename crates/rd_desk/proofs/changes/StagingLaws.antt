@@ -62,28 +62,32 @@ none_staged None = tt
 none_staged (Some b) = refl
 
 -- nothing is entered, and nothing is laid
-pub laid_none : (old new : Version) (before : Option (Option Version)) → new ≡ old → IsLaid old new before before
-laid_none old new before same = record {
+pub laid_none : (old new : Version) (before : Option (Option Version)) (is_staged : Bool) → new ≡ old → is_staged ≡ false → IsLaid old new before before is_staged
+laid_none old new before is_staged same free = record {
   entered = false;
   staged = none_staged before;
   kept = λ none. same;
   made = λ entered. absurd (false≢true entered);
+  free = λ none. free;
 }
 
 -- what is planned is laid and done
-pub laid_planned : (old new : Version) (e : Option Entering) (before after : Option (Option Version)) → IfSome before (λ staged. after ≡ Some (version_ready e staged)) → IsLeftBy old new e
-    → ((history : List Entry) → VersionStandsFor 0 history old → IfSome e (λ e. HasOneMore history (arc_value e.version))) → IsLaid old new before after
-laid_planned old new None before after laid left next = record {
+pub laid_planned : (old new : Version) (e : Option Entering) (before after : Option (Option Version)) (is_staged : Bool) → IfSome before (λ staged. after ≡ Some (version_ready e staged)) → IsLeftBy old new e
+    → ((history : List Entry) → VersionStandsFor 0 history old → IfSome e (λ e. HasOneMore history (arc_value e.version)))
+    → (e ≡ None → is_staged ≡ false) → IsLaid old new before after is_staged
+laid_planned old new None before after is_staged laid left next free = record {
   entered = false;
   staged = laid;
   kept = λ none. left;
   made = λ entered. absurd (false≢true entered);
+  free = λ none. free refl;
 }
-laid_planned old new (Some e) before after laid left next = record {
+laid_planned old new (Some e) before after is_staged laid left next free = record {
   entered = true;
   staged = staged before laid;
   kept = λ none. absurd (true≢false none);
   made = λ entered history stands. subst (HasOneMore history) (sym left) (next history stands);
+  free = λ none. absurd (true≢false none);
 }
   where
     staged : (b : Option (Option Version)) → IfSome b (λ staged. after ≡ Some (Some (arc_value e.version))) → IfSome b (λ staged. after ≡ Some (Some new))
@@ -91,12 +95,13 @@ laid_planned old new (Some e) before after laid left next = record {
     staged (Some b) h = h ∙ ap (λ v. Some (Some v)) (sym left)
 
 -- nor is anything where memory ran out
-pub laid_kept : (old new : Version) (before after : Option (Option Version)) → new ≡ old → after ≡ before → IsLaid old new before after
-laid_kept old new before after same kept = subst (IsLaid old new before) (sym kept) (laid_none old new before same)
+pub laid_kept : (old new : Version) (before after : Option (Option Version)) (is_staged : Bool) → new ≡ old → after ≡ before → is_staged ≡ false → IsLaid old new before after is_staged
+laid_kept old new before after is_staged same kept free =
+    subst (λ (now : Option (Option Version)). IsLaid old new before now is_staged) (sym kept) (laid_none old new before is_staged same free)
 
 -- where the version stayed before, it is laid as from the beginning
-pub laid_from : (old begun new : Version) (before after : Option (Option Version)) → begun ≡ old → IsLaid begun new before after → IsLaid old new before after
-laid_from old begun new before after same laid = subst (λ (v : Version). IsLaid v new before after) same laid
+pub laid_from : (old begun new : Version) (before after : Option (Option Version)) (is_staged : Bool) → begun ≡ old → IsLaid begun new before after is_staged → IsLaid old new before after is_staged
+laid_from old begun new before after is_staged same laid = subst (λ (v : Version). IsLaid v new before after is_staged) same laid
 
 -- ---- a whole step
 
@@ -114,29 +119,31 @@ one_left [] version n o = absurd (omega (arith, n))
 one_left (e ∷ es) version n o = refl
 
 -- a version stood for a history, and then one for that with the entries of these notes: it is staged where there is one
-leaves_staged : (history : List Entry) (notes : List Note) (old new : Version) (before after : Option (Option Version)) → VersionStandsFor 0 history old → VersionStandsFor 0 (history ++ filter_map entry_noted notes) new
-    → IsLaid old new before after → LeavesStaged notes new before after
-leaves_staged history notes old new before after stood stands laid = by laid.entered refl
+leaves_staged : (history : List Entry) (notes : List Note) (old new : Version) (before after : Option (Option Version)) (is_staged : Bool) → VersionStandsFor 0 history old → VersionStandsFor 0 (history ++ filter_map entry_noted notes) new
+    → IsLaid old new before after is_staged → LeavesStaged notes new before after is_staged
+leaves_staged history notes old new before after is_staged stood stands laid = by laid.entered refl
   where
-    by : (entered : Bool) → laid.entered ≡ entered → LeavesStaged notes new before after
+    by : (entered : Bool) → laid.entered ≡ entered → LeavesStaged notes new before after is_staged
     by false is =
         let was = stood.entries in
         let are = stands.entries in
         let same = ap (λ (v : Version). v.entries) (laid.kept is) in
         let longer = length-append history (filter_map entry_noted notes) in
-        carried after (λ o. o) (λ o. staged_after (filter_map entry_noted notes) new o) (none_left (filter_map entry_noted notes) new (omega (arith, was, are, same, longer))) before
-        (subst (λ (b : Bool). IfSome before (λ staged. after ≡ Some (if b then Some new else staged))) is laid.staged)
+        (carried after (λ o. o) (λ o. staged_after (filter_map entry_noted notes) new o) (none_left (filter_map entry_noted notes) new (omega (arith, was, are, same, longer))) before
+        (subst (λ (b : Bool). IfSome before (λ staged. after ≡ Some (if b then Some new else staged))) is laid.staged),
+        λ none. laid.free is)
     by true is =
         let more = laid.made is history stood in
         let was = more.stands.entries in
         let are = stands.entries in
         let longer = length-append history (filter_map entry_noted notes) in
         let once = length-append history (more.entry ∷ []) in
-        carried after (λ o. Some new) (λ o. staged_after (filter_map entry_noted notes) new o) (one_left (filter_map entry_noted notes) new (omega (arith, was, are, longer, once))) before
-        (subst (λ (b : Bool). IfSome before (λ staged. after ≡ Some (if b then Some new else staged))) is laid.staged)
+        (carried after (λ o. Some new) (λ o. staged_after (filter_map entry_noted notes) new o) (one_left (filter_map entry_noted notes) new (omega (arith, was, are, longer, once))) before
+        (subst (λ (b : Bool). IfSome before (λ staged. after ≡ Some (if b then Some new else staged))) is laid.staged),
+        λ none. let no = ap length none in absurd (omega (arith, was, are, longer, once, no)))
 
 -- a step that was made leaves its version staged where it made an entry
-pub made_staged : (rows : List Row) (r : Row) (d e : Seen) (before after : Option (Option Version)) → StandsFor rows d → StandsFor (r ∷ rows) e → IsLaid d.version e.version before after
-    → LeavesStaged r.notes e.version before after
+pub made_staged : (rows : List Row) (r : Row) (d e : Seen) (before after : Option (Option Version)) (is_staged : Bool) → StandsFor rows d → StandsFor (r ∷ rows) e → IsLaid d.version e.version before after is_staged
+    → LeavesStaged r.notes e.version before after is_staged
 unfolding entries
-made_staged rows r d e before after stood stands laid = leaves_staged (entries rows) r.notes d.version e.version before after stood.directory.history stands.directory.history laid
+made_staged rows r d e before after is_staged stood stands laid = leaves_staged (entries rows) r.notes d.version e.version before after is_staged stood.directory.history stands.directory.history laid

@@ -34,7 +34,7 @@ returns-clause-way g c =
     c.in-Some.ensures.view (c.hear_answer.ensures.way rows s there.0 of with there.1 way))
 
 pub returns-in_default-clause-laid : goal.returns-in_default-clause-laid
-returns-in_default-clause-laid g c = laid_none c.args.self.now.version _ _ refl
+returns-in_default-clause-laid g c = laid_none c.args.self.now.version _ _ _ refl c.requires.free
 
 pub returns-clause-unstarved : goal.returns-clause-unstarved
 returns-clause-unstarved g c =

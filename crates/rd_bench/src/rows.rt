@@ -1,0 +1,137 @@
+//! The rows that are printed: a call that is made on samples of growing sizes, and what it takes.
+
+use rd_base::Starved;
+use std::alloc::{AllocError, AllocFailed, Global};
+use std::io;
+use std::time::Instant;
+
+/// How many rounds are timed at each size, of which the least counts.
+const ROUNDS: u64 = 5;
+
+/// Why a measurement ends early.
+#[derive(Debug, Drop)]
+pub enum Trouble {
+    /// Out of memory.
+    Starved,
+    /// The clock or a socket failed, a stream could not be written, or a call refused its input.
+    Outside,
+}
+
+impl From<Starved> for Trouble {
+    fn from(_: Starved) -> Trouble {
+        Trouble::Starved
+    }
+}
+
+impl From<AllocError> for Trouble {
+    fn from(_: AllocError) -> Trouble {
+        Trouble::Starved
+    }
+}
+
+impl<T: Drop> From<AllocFailed<T>> for Trouble {
+    fn from(_: AllocFailed<T>) -> Trouble {
+        Trouble::Starved
+    }
+}
+
+impl From<io::Error> for Trouble {
+    fn from(_: io::Error) -> Trouble {
+        Trouble::Outside
+    }
+}
+
+/// What a call is made on.
+pub trait Sample: Drop {
+    /// How many calls a round makes.
+    const CALLS: u64;
+
+    /// The sample of a size.
+    fn make(alloc: Global, size: u64) -> Result<Self, Trouble>;
+
+    /// A round of calls; what they counted.
+    fn round(&mut self) -> Result<u64, Trouble>;
+}
+
+/// What a call takes on samples of growing sizes.
+#[derive(Drop)]
+pub struct Row {
+    /// What is printed of the sizes so far.
+    line: String,
+    /// The time of a call at the first size, in nanoseconds.
+    first: Option<u64>,
+    /// What the calls counted.
+    counted: u64,
+}
+
+impl Row {
+    /// No size yet.
+    pub fn new(alloc: Global) -> Row {
+        Row {
+            line: String::new(alloc),
+            first: None,
+            counted: 0,
+        }
+    }
+
+    /// The time of a call in one round, in nanoseconds.
+    fn round_time<F: FnMut() -> Result<u64, Trouble>>(
+        &mut self,
+        rt: &HostRuntime,
+        calls: u64,
+        round: &mut F,
+    ) -> Result<u64, Trouble>
+        requires { F.IsAlwaysCallable round.old }
+        ensures { F.IsAlwaysCallable round.new }
+    {
+        let start = Instant::now(rt)?;
+        let counted = round()?;
+        let time = start.elapsed(rt)?;
+        self.counted = u64::wrapping_add(self.counted, counted);
+        let nanoseconds = u64::try_from(time.as_nanos()).unwrap_or(u64::MAX);
+        Ok(nanoseconds.checked_div(calls).unwrap_or(0))
+    }
+
+    /// Rounds of calls on one more sample are timed. A round answers what its calls counted.
+    pub fn add<F: FnMut() -> Result<u64, Trouble>>(
+        &mut self,
+        rt: &HostRuntime,
+        size: u64,
+        calls: u64,
+        mut round: F,
+    ) -> Result<(), Trouble>
+        requires { F.IsAlwaysCallable round }
+    {
+        let mut least = u64::MAX;
+        for _ in 0..ROUNDS {
+            least = least.min(self.round_time(rt, calls, &mut round)?);
+        }
+        let first = self.first.unwrap_or(least);
+        self.first = Some(first);
+        let hundredths = u64::saturating_mul(least, 100)
+            .checked_div(first)
+            .unwrap_or(100);
+        let (whole, rest) = (hundredths / 100, hundredths % 100);
+        let part = format!(in rt.alloc(); "  {size}: {least} ns ({whole}.{rest:02})")?;
+        self.line.push_str(part.as_str())?;
+        Ok(())
+    }
+
+    /// The times go to standard error under the name of the call, and what was counted to standard
+    /// output.
+    pub fn print(self, rt: &HostRuntime, name: &str) -> Result<(), Trouble> {
+        eprintln!(rt; "{name}{}", self.line)?;
+        println!(rt; "{name} counted {}", self.counted)?;
+        Ok(())
+    }
+}
+
+/// Measures a call on samples of these sizes, and prints its row.
+pub fn measure<S: Sample>(rt: &HostRuntime, name: &str, sizes: &[u64]) -> Result<(), Trouble> {
+    let mut row = Row::new(rt.alloc());
+    for size in sizes {
+        let mut sample = S::make(rt.alloc(), *size)?;
+        row.add(rt, *size, S::CALLS, || sample.round())?;
+    }
+    row.print(rt, name)
+}

@@ -1,0 +1,61 @@
+//! The calls of all crates, and their answers.
+
+use rd_base::Starved;
+use std::alloc::Global;
+use vector_words::{NoAnswer, cut};
+
+/// All calls.
+#[derive(Drop)]
+pub(crate) struct Vectors {
+    alloc: Global,
+}
+
+/// A line as it is shown.
+#[derive(Drop)]
+pub(crate) struct Shown {
+    /// The line, with the answer after it.
+    pub line: String,
+    /// Whether it was answered. A heading is.
+    pub answered: bool,
+}
+
+impl Vectors {
+    /// All calls, with their tables empty. `Starved`: out of memory.
+    pub fn new(alloc: Global) -> Result<Vectors, Starved> {
+        Ok(Vectors { alloc })
+    }
+
+    /// What a call answers; nothing where there is no such call.
+    fn answer(&mut self, call: &str, said: &str) -> Result<Option<String>, NoAnswer> {
+        if let Some(answer) = wire_vectors::answer(self.alloc, call, said)? {
+            return Ok(Some(answer));
+        }
+        Ok(None)
+    }
+
+    /// A line with what stands after its arrow.
+    fn shown(&self, line: &str, answer: &str, answered: bool) -> Result<Shown, Starved> {
+        Ok(Shown {
+            line: format!(in self.alloc; "{line} => {answer}")?,
+            answered,
+        })
+    }
+
+    /// A line, and what its call answers; an empty line and a heading as they are. `Starved`: out
+    /// of memory.
+    pub fn show(&mut self, line: &str) -> Result<Shown, Starved> {
+        if line.is_empty() || line.starts_with('#') {
+            return Ok(Shown {
+                line: String::from_str(self.alloc, line)?,
+                answered: true,
+            });
+        }
+        let (call, said) = cut(line);
+        match self.answer(call, said) {
+            Ok(Some(answer)) => self.shown(line, answer.as_str(), true),
+            Ok(None) => self.shown(line, "no such call", false),
+            Err(NoAnswer::Form) => self.shown(line, "not this form", false),
+            Err(NoAnswer::Starved) => Err(Starved),
+        }
+    }
+}

@@ -1,0 +1,111 @@
+//! The parts of an answer, one after another.
+
+use rd_base::{Item, Pair, Starved, Text};
+use vector_words::put_octets;
+
+/// Begins a part: ` | ` stands between it and the part before it.
+pub(crate) fn begin(page: &mut String) -> Result<(), Starved> {
+    if page.is_empty() {
+        return Ok(());
+    }
+    Ok(page.push_str(" | ")?)
+}
+
+/// Writes a text that stands between other marks, which may be empty.
+pub(crate) fn put_text(page: &mut String, text: &str) -> Result<(), Starved> {
+    if text.is_empty() {
+        return Ok(());
+    }
+    put_octets(page, text.as_bytes())
+}
+
+/// Writes a part of a name and a value.
+pub(crate) fn put_named(page: &mut String, name: &str, value: &str) -> Result<(), Starved> {
+    begin(page)?;
+    put_text(page, name)?;
+    page.push_str("=")?;
+    put_text(page, value)
+}
+
+/// Writes a part of a name and a value, where there is one.
+pub(crate) fn put_optional(
+    page: &mut String,
+    name: &str,
+    value: Option<&str>,
+) -> Result<(), Starved> {
+    match value {
+        None => Ok(()),
+        Some(value) => put_named(page, name, value),
+    }
+}
+
+/// Writes a part of a name and a number.
+pub(crate) fn put_number(page: &mut String, name: &str, number: u64) -> Result<(), Starved> {
+    begin(page)?;
+    Ok(write!(page, "{name}={number}")?)
+}
+
+/// Writes a fault with its place.
+pub(crate) fn put_fault(page: &mut String, name: &str, at: usize) -> Result<(), Starved> {
+    Ok(write!(page, "{name} at {at}")?)
+}
+
+/// Writes attributes, each as a part.
+pub(crate) fn put_pairs(page: &mut String, pairs: &[Pair]) -> Result<(), Starved> {
+    'pairs: for pair in pairs {
+        put_named(page, pair.name.as_str(), pair.value.as_str())?;
+    }
+    Ok(())
+}
+
+/// The text, where there is one.
+pub(crate) fn text_in(text: &Option<Text>) -> Option<&str> {
+    match text {
+        None => None,
+        Some(text) => Some(text.as_str()),
+    }
+}
+
+/// Writes a target between its brackets, raw attributes and an anchor where there is one.
+fn put_link(
+    page: &mut String,
+    target: &Text,
+    raw: &str,
+    anchor: &Option<Text>,
+) -> Result<(), Starved> {
+    page.push_str("<")?;
+    put_text(page, target.as_str())?;
+    page.push_str(">")?;
+    put_text(page, raw)?;
+    if let Some(anchor) = anchor {
+        page.push_str(";anchor=\"")?;
+        put_text(page, anchor.as_str())?;
+        page.push_str("\"")?;
+    }
+    Ok(())
+}
+
+/// Writes a link as a part: its target and anchor as they were submitted, the link as it is
+/// listed, and its attributes.
+fn put_item(page: &mut String, item: &Item) -> Result<(), Starved> {
+    begin(page)?;
+    put_link(page, &item.target_ref, "", &item.anchor_ref)?;
+    page.push_str(" is ")?;
+    put_link(page, &item.target, item.raw.as_str(), &item.anchor)?;
+    'pairs: for pair in item.pairs.as_slice() {
+        page.push_str(" [")?;
+        put_text(page, pair.name.as_str())?;
+        page.push_str("=")?;
+        put_text(page, pair.value.as_str())?;
+        page.push_str("]")?;
+    }
+    Ok(())
+}
+
+/// Writes links, each as a part.
+pub(crate) fn put_items(page: &mut String, items: &[Item]) -> Result<(), Starved> {
+    'items: for item in items {
+        put_item(page, item)?;
+    }
+    Ok(())
+}

@@ -1,0 +1,66 @@
+//! Requests in a word: `PLACE?OPTION&OPTION..`. What stands before the question mark says what
+//! the options are for. Without a question mark there are no options; `?` alone is followed by an
+//! empty one.
+
+use rd_base::{Bytes, Pieces, Starved};
+use std::alloc::Global;
+use vector_words::octets_of;
+
+/// Query options that stand in a slice, from an index on.
+#[derive(Clone, Copy)]
+pub(crate) struct Listed<'a> {
+    /// The slice.
+    pub options: &'a [Bytes],
+    /// The index.
+    pub at: usize,
+}
+
+impl<'a> Pieces<'a> for Listed<'a> {
+    ghost use Rattle.std.specs.Prelude.{drop};
+
+    ghost left = { λ listed. drop listed.at listed.options.now };
+
+    /// The next option of the slice.
+    fn next_piece(&mut self) -> Option<&'a [u8]> {
+        if self.at >= self.options.len() {
+            return None;
+        }
+        let option = self.options[self.at].as_slice();
+        self.at += 1;
+        Some(option)
+    }
+}
+
+/// What a word says.
+#[derive(Drop)]
+pub(crate) struct Request<'a> {
+    /// What stands before the question mark.
+    pub place: &'a str,
+    /// The query options.
+    pub options: Vec<Bytes>,
+}
+
+impl<'a> Request<'a> {
+    /// What a word says. `Starved`: out of memory.
+    pub fn of(alloc: Global, word: &'a str) -> Result<Request<'a>, Starved> {
+        let mut options = Vec::new(alloc);
+        let Some((place, query)) = word.split_once('?') else {
+            return Ok(Request {
+                place: word,
+                options,
+            });
+        };
+        'options: for option in query.split('&') {
+            options.push(octets_of(alloc, option)?)?;
+        }
+        Ok(Request { place, options })
+    }
+
+    /// The options, one after another.
+    pub fn queries(&self) -> Listed<'_> {
+        Listed {
+            options: self.options.as_slice(),
+            at: 0,
+        }
+    }
+}

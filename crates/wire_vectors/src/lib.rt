@@ -1,0 +1,36 @@
+//! What the calls that read and write messages, their options, blocks, peers and the lines of a
+//! trace answer, line by line.
+#![tactic(auto)]
+
+mod blocks;
+mod kinds;
+mod lines;
+mod messages;
+mod options;
+mod peers;
+mod scripts;
+mod texts;
+
+use std::alloc::Global;
+use vector_words::NoAnswer;
+
+/// What a call answers to what it is given; nothing where it is none of these. `Form`: what it is
+/// given has not the form of the call. `Starved`: out of memory.
+pub fn answer(alloc: Global, call: &str, said: &str) -> Result<Option<String>, NoAnswer> {
+    if let Some(answer) = peers::answer(alloc, call, said)? {
+        return Ok(Some(answer));
+    }
+    if let Some(answer) = texts::answer(alloc, call, said)? {
+        return Ok(Some(answer));
+    }
+    if let Some(answer) = messages::answer(alloc, call, said)? {
+        return Ok(Some(answer));
+    }
+    if let Some(answer) = blocks::answer(alloc, call, said)? {
+        return Ok(Some(answer));
+    }
+    if let Some(answer) = options::answer(alloc, call, said)? {
+        return Ok(Some(answer));
+    }
+    lines::answer(alloc, call, said)
+}

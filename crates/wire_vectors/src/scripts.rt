@@ -1,0 +1,211 @@
+//! Messages that are given in words, as `CON 0.02 m=0001 t=a1 [11 rd] [15 ep=node1] | </temp>`.
+ghost use Rattle.std.specs.Prelude.{◌≡◌, ◌<◌, ◌≤◌, []};
+ghost use Rattle.message_model.specs.Codes as codes_of;
+ghost use Rattle.message_model.specs.Message.{end_number};
+
+use crate::kinds::{code_of, is_reserved, kind_of};
+use coap_message::{Kind4, Writer};
+use rd_base::Bytes;
+use std::alloc::Global;
+use vector_words::{NoAnswer, cut, datagram_of, number_of, octets_of};
+
+/// The greatest number of an option (RFC 7252 section 3.1).
+const LAST_NUMBER: u64 = 65_535;
+
+/// The most octets of the value of an option (RFC 7252 section 3.1).
+const LONGEST_VALUE: usize = 65_804;
+
+/// The most octets of a token (RFC 7252 section 3).
+const LONGEST_TOKEN: usize = 8;
+
+/// What a message begins with.
+#[derive(Drop)]
+struct Head {
+    kind: Kind4,
+    code: u8,
+    mid: u16,
+    token: Bytes,
+}
+
+/// A message that is being written.
+#[derive(Drop)]
+struct Script {
+    /// The message so far.
+    writer: Writer,
+    /// The number of the last option so far, 0 before the first.
+    last: u32,
+    ghost filled: { codes_of.empty < writer.code },
+    ghost open: { writer.payload ≡ [] },
+    ghost ascends: { end_number 0 writer.options ≤ last },
+}
+
+/// What became of a step.
+#[derive(Clone, Copy, PartialEq, Eq)]
+enum Step {
+    Done,
+    TooLong,
+}
+
+/// The Message ID of two octets in hexadecimal.
+fn mid_of(alloc: Global, word: &str) -> Result<u16, NoAnswer> {
+    let octets = datagram_of(alloc, word)?;
+    match octets.as_slice() {
+        [high, low] => Ok(u16::from_be_bytes([*high, *low])),
+        _ => Err(NoAnswer::Form),
+    }
+}
+
+/// What stands after a mark.
+fn after<'a>(mark: &str, word: &'a str) -> Result<&'a str, NoAnswer> {
+    match word.strip_prefix(mark) {
+        Some(rest) => Ok(rest),
+        None => Err(NoAnswer::Form),
+    }
+}
+
+/// The head of a message, from the words after its type.
+fn head_of(
+    alloc: Global,
+    kind: Kind4,
+    code: &str,
+    mid: &str,
+    token: &str,
+) -> Result<Head, NoAnswer> {
+    Ok(Head {
+        kind,
+        code: code_of(code)?,
+        mid: mid_of(alloc, after("m=", mid)?)?,
+        token: datagram_of(alloc, after("t=", token)?)?,
+    })
+}
+
+impl Script {
+    /// A message that is not empty, with neither options nor payload.
+    fn begin(head: &Head) -> Result<Script, NoAnswer> {
+        let token = head.token.as_slice();
+        if token.len() > LONGEST_TOKEN {
+            return Err(NoAnswer::Form);
+        }
+        if is_reserved(head.code) {
+            return Err(NoAnswer::Form);
+        }
+        if head.code == 0 {
+            return Err(NoAnswer::Form);
+        }
+        Ok(Script {
+            writer: Writer::start(head.kind, head.code, head.mid, token),
+            last: 0,
+        })
+    }
+
+    /// One more option.
+    fn put(&mut self, number: u32, value: &[u8]) -> Result<Step, NoAnswer>
+        requires { number ≤ 65535 }
+    {
+        if number < self.last {
+            return Err(NoAnswer::Form);
+        }
+        if value.len() > LONGEST_VALUE {
+            return Err(NoAnswer::Form);
+        }
+        let Ok(()) = self.writer.option(number, value) else {
+            return Ok(Step::TooLong);
+        };
+        self.last = number;
+        Ok(Step::Done)
+    }
+
+    /// The option that stands in brackets, without the first of them.
+    fn put_said(&mut self, alloc: Global, said: &str) -> Result<Step, NoAnswer> {
+        let Some(said) = said.trim_end().strip_suffix(']') else {
+            return Err(NoAnswer::Form);
+        };
+        let (number, value) = cut(said);
+        let number = number_of(number, LAST_NUMBER)? as u32;
+        let value = octets_of(alloc, value)?;
+        self.put(number, value.as_slice())
+    }
+
+    /// The options, each in brackets.
+    fn put_all(&mut self, alloc: Global, said: &str) -> Result<Step, NoAnswer> {
+        if said.is_empty() {
+            return Ok(Step::Done);
+        }
+        'options: for option in after("[", said)?.split('[') {
+            if self.put_said(alloc, option)? == Step::TooLong {
+                return Ok(Step::TooLong);
+            }
+        }
+        Ok(Step::Done)
+    }
+
+    /// The datagram of the message with this payload; nothing where it is too long.
+    fn finish(self, alloc: Global, payload: &[u8]) -> Result<Option<Bytes>, NoAnswer> {
+        let Script {
+            mut writer,
+            last: _,
+        } = self;
+        match writer.finish(payload) {
+            Ok(datagram) => Ok(Some(Bytes::copy_of(alloc, datagram)?)),
+            Err(_) => Ok(None),
+        }
+    }
+}
+
+/// The datagram of an empty message (RFC 7252 section 4.1).
+fn written_empty(alloc: Global, kind: Kind4, mid: u16) -> Result<Option<Bytes>, NoAnswer> {
+    let mut writer = Writer::start(kind, 0, mid, b"");
+    match writer.finish(b"") {
+        Ok(datagram) => Ok(Some(Bytes::copy_of(alloc, datagram)?)),
+        Err(_) => Ok(None),
+    }
+}
+
+/// The datagram of a message with this head, these options and this payload; nothing where it is
+/// too long.
+fn written_parts(
+    alloc: Global,
+    head: &Head,
+    options: &str,
+    payload: &str,
+) -> Result<Option<Bytes>, NoAnswer> {
+    let payload = octets_of(alloc, payload)?;
+    if head.code == 0 && head.token.is_empty() && options.is_empty() && payload.is_empty() {
+        return written_empty(alloc, head.kind, head.mid);
+    }
+    let mut script = Script::begin(head)?;
+    if script.put_all(alloc, options)? == Step::TooLong {
+        return Ok(None);
+    }
+    script.finish(alloc, payload.as_slice())
+}
+
+/// The datagram of a message that is given in words; nothing where it is too long. `Form`: the
+/// words are not of that form, or no such message can be written. `Starved`: out of memory.
+pub(crate) fn written(alloc: Global, said: &str) -> Result<Option<Bytes>, NoAnswer> {
+    let (front, payload) = match said.split_once(" | ") {
+        Some(parts) => parts,
+        None => (said, "-"),
+    };
+    let (kind, rest) = cut(front);
+    let Some(kind) = kind_of(kind) else {
+        return Err(NoAnswer::Form);
+    };
+    let (code, rest) = cut(rest);
+    let (mid, rest) = cut(rest);
+    let (token, options) = cut(rest);
+    let head = head_of(alloc, kind, code, mid, token)?;
+    written_parts(alloc, &head, options, payload)
+}
+
+/// The datagram that is given in hexadecimal, or that of a message that is given in words.
+pub(crate) fn message_of(alloc: Global, said: &str) -> Result<Bytes, NoAnswer> {
+    let (word, _) = cut(said);
+    if kind_of(word).is_none() {
+        return datagram_of(alloc, said);
+    }
+    match written(alloc, said)? {
+        Some(datagram) => Ok(datagram),
+        None => Err(NoAnswer::Form),
+    }
+}
