@@ -1,6 +1,6 @@
-# What a newcomer needs: `make demo` shows a trace as a conversation, `make build` makes the proved programs, `make examples` replays all examples with
-# them, `make bench` measures what calls cost, `make test` is the gate.
-PROGRAMS = rd_replay rd_show
+# What a newcomer needs: `make demo` shows a trace as a conversation, `make build` makes the proved programs, `make examples` runs all stored cases, the
+# examples among them, `make bench` measures what calls cost, `make test` is the gate.
+PROGRAMS = rd_replay rd_show rd_rows
 
 .PHONY: demo build examples bench test
 
@@ -13,14 +13,12 @@ demo:
 build:
 	@mkdir -p bin
 	@for program in $(PROGRAMS); do \
-		(cd crates/$$program && rt run -- $$(cat args 2>/dev/null) < stdin > /dev/null) || exit 1; \
+		(cd crates/$$program && rt run -- $$(cat args 2>/dev/null) < /dev/null > /dev/null) || exit 1; \
 		cp crates/$$program/out/$$program bin/; echo "bin/$$program"; \
 	done
 
 examples: build
-	@for trace in examples/*.trace; do \
-		bin/rd_replay --workers=16 < $$trace | cmp - $${trace%.trace}.out || exit 1; echo "$$trace"; \
-	done
+	@cd crates/rd_rows/data && ../../../bin/rd_rows < ../stdin
 
 bench:
 	@mkdir -p bin

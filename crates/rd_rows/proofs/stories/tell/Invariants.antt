@@ -1,0 +1,6 @@
+use Rattle.rd_server.specs.Machines.{IsMachine}
+use Rattle.rd_rows.proofs.stories.tell.Given as goal
+
+-- the machine stands after a journal
+abbrev pub invariant-lines : goal.invariant-lines
+invariant-lines l = IsMachine l.machine

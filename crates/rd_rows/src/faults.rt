@@ -1,0 +1,58 @@
+//! Why a case is not as it is written.
+
+use rd_base::Starved;
+use std::alloc::{AllocError, AllocFailed};
+use std::fmt;
+
+/// Why a case is not as it is written.
+#[derive(Drop)]
+pub enum Fault {
+    /// Its file cannot be read as text.
+    Unread,
+    /// This line of its file has not the form of a case.
+    Form(u64),
+    /// This line of its file says something else than what came.
+    Differs {
+        /// The number of the line.
+        line: u64,
+        /// What it says.
+        written: String,
+        /// What came.
+        came: String,
+    },
+    /// Memory ran out.
+    Starved,
+}
+
+impl From<Starved> for Fault {
+    fn from(_: Starved) -> Fault {
+        Fault::Starved
+    }
+}
+
+impl From<AllocError> for Fault {
+    fn from(_: AllocError) -> Fault {
+        Fault::Starved
+    }
+}
+
+impl<T: Drop> From<AllocFailed<T>> for Fault {
+    fn from(_: AllocFailed<T>) -> Fault {
+        Fault::Starved
+    }
+}
+
+impl fmt::Display for Fault {
+    fn fmt<W: fmt::Write>(&self, f: &mut fmt::Formatter<W>) -> fmt::Result {
+        match self {
+            Fault::Unread => write!(f, "its file cannot be read"),
+            Fault::Form(line) => write!(f, "line {line}: not the form of a case"),
+            Fault::Differs {
+                line,
+                written,
+                came,
+            } => write!(f, "line {line}: written {written}, came {came}"),
+            Fault::Starved => write!(f, "out of memory"),
+        }
+    }
+}

@@ -1,0 +1,70 @@
+//! A case, run as a whole and, where it is a story, step by step.
+
+use crate::came::Came;
+use crate::case::{Case, Kind};
+use crate::faults::Fault;
+use crate::reading::read_case;
+use crate::stories::check_steps;
+use rd_base::{Bytes, MemSink, MemSource};
+use rd_server::{Status, replay};
+use std::alloc::Global;
+
+/// The status of a replay and what it said, as a case writes them: nothing where all is well.
+fn status_text(alloc: Global, status: Status, said: &[u8]) -> Result<String, Fault> {
+    if status == Status::Done && said.is_empty() {
+        return Ok(String::new(alloc));
+    }
+    let code = status.code();
+    let said = String::from_utf8_lossy(alloc, said)?;
+    Ok(format!(in alloc; "status {code} {said}")?)
+}
+
+/// Replays the trace of a case over ends in memory, and answers what came and how it ended.
+fn replayed(alloc: Global, case: &Case) -> Result<(Came, Status), Fault> {
+    let trace = Bytes::copy_of(alloc, case.trace.as_bytes())?;
+    let mut source = MemSource::of(trace, Bytes::new(alloc));
+    let mut out = MemSink::of(alloc, Bytes::new(alloc));
+    let mut err = MemSink::of(alloc, Bytes::new(alloc));
+    let status = replay(
+        alloc,
+        case.words.as_slice(),
+        &mut source,
+        &mut out,
+        &mut err,
+    );
+    let mut came = Came::new(alloc);
+    came.add(out.as_slice())?;
+    came.add(status_text(alloc, status, err.as_slice())?.as_bytes())?;
+    Ok((came, status))
+}
+
+/// The line of the trace that is bad, where there is one.
+fn bad_line(status: Status) -> Option<u64> {
+    match status {
+        Status::Line(bad) => Some(bad.line),
+        _ => None,
+    }
+}
+
+/// Tells the lines that are written.
+fn check_lines(case: &Case, came: &mut Came) -> Result<(), Fault> {
+    let mut last = 0;
+    'lines: for line in case.lines.iter() {
+        last = line.number;
+        if line.kind == Kind::Output {
+            came.tell(line)?;
+        }
+    }
+    came.end(last)
+}
+
+/// Runs the case that a file says. `Differs`: the first line that is not as it is written.
+pub fn check(alloc: Global, text: &str) -> Result<(), Fault> {
+    let case = read_case(alloc, text)?;
+    let (mut came, status) = replayed(alloc, &case)?;
+    check_lines(&case, &mut came)?;
+    if case.is_story {
+        check_steps(alloc, &case, bad_line(status))?;
+    }
+    Ok(())
+}

@@ -1,0 +1,87 @@
+//! A case whose output stands between its steps: each line stands behind the step that writes it.
+ghost use Rattle.std.specs.Prelude.{IfOk};
+ghost use Rattle.rd_server.specs.Machines.{IsMachine};
+
+use crate::came::Came;
+use crate::case::{Case, Kind};
+use crate::faults::Fault;
+use rd_base::Starved;
+use rd_server::{Machine, Trouble};
+use std::alloc::Global;
+use trace_text::{Line, LineFault, line_read};
+
+/// The workers of the directory: the most that a trace may name.
+const WORKERS: u8 = 16;
+
+/// The worker that a line names.
+fn worker_of(line: &Line) -> u8 {
+    match line {
+        Line::Come { worker, .. } => *worker,
+        Line::Go(worker, _) => *worker,
+        Line::Tick { worker, .. } => *worker,
+    }
+}
+
+/// Does what a line says, and answers which worker it names. None: the line is bad, and nothing is
+/// done.
+fn perform(alloc: Global, machine: &mut Machine, line: &str) -> Result<Option<u8>, Starved>
+    requires { IsMachine machine.old }
+    ensures { IfOk result (λ _. IsMachine machine.new) }
+{
+    let said = match line_read(alloc, line.as_bytes()) {
+        Ok(said) => said,
+        Err(LineFault::Starved) => return Err(Starved),
+        Err(_) => return Ok(None),
+    };
+    let worker = worker_of(&said);
+    match machine.perform(said) {
+        Ok(()) => Ok(Some(worker)),
+        Err(Trouble::Bad(_)) => Ok(None),
+        Err(Trouble::Starved) => Err(Starved),
+    }
+}
+
+/// Does a step, and answers what came of it; of the last one also the line that ends the output.
+fn step(alloc: Global, machine: &mut Machine, line: &str, is_last: bool) -> Result<Came, Starved>
+    requires { IsMachine machine.old }
+    ensures { IfOk result (λ _. IsMachine machine.new) }
+{
+    let mut came = Came::new(alloc);
+    let Some(worker) = perform(alloc, machine, line)? else {
+        return Ok(came);
+    };
+    came.add(machine.sent_text(worker)?.as_slice())?;
+    if is_last {
+        came.add(machine.end_line()?.as_slice())?;
+    }
+    Ok(came)
+}
+
+/// Does the steps of a case up to its bad one, and tells of each the lines that are written behind
+/// it.
+fn tell(alloc: Global, machine: &mut Machine, case: &Case, bad: Option<u64>) -> Result<(), Fault>
+    requires { IsMachine machine.old }
+{
+    let mut came = Came::new(alloc);
+    let mut steps = 0u64;
+    'lines: for line in case.lines.iter() {
+        if line.kind == Kind::Output {
+            came.tell(line)?;
+            continue;
+        }
+        came.end(line.number)?;
+        steps = steps.saturating_add(1);
+        if bad == Some(steps) {
+            return Ok(());
+        }
+        came = step(alloc, machine, line.text.as_str(), steps == case.steps)?;
+    }
+    Ok(())
+}
+
+/// Runs a case step by step, up to the line of its trace that is bad, if there is one. `Differs`:
+/// the first line that does not stand behind the step that writes it.
+pub fn check_steps(alloc: Global, case: &Case, bad: Option<u64>) -> Result<(), Fault> {
+    let mut machine = Machine::make(alloc, WORKERS)?;
+    tell(alloc, &mut machine, case, bad)
+}
