@@ -1,0 +1,145 @@
+//! One publisher that publishes thousands of versions while lookers look, a version that is held meanwhile, and the end of a board.
+ghost use Rattle.std.specs.Prelude.{◌≡◌};
+
+use crate::sample_boards::SampleBoard;
+use rd_base::{Moment, Starved};
+use std::alloc::Global;
+use std::sync::Wait;
+use std::sync::atomic::{AtomicU64, Ordering};
+use std::test::Fail;
+use std::thread;
+use std::thread::{Threads, join};
+use std::time::{Clock, Duration};
+use version_board::{Looker, Lookers};
+
+/// How many versions are published.
+const PUBLISHINGS: u64 = 10_000;
+
+/// How often a looker looks at most.
+const LOOKS: u64 = 50_000;
+
+/// How many microseconds a looker rests between two looks.
+const PAUSE: u64 = 1_000;
+
+/// Publishes so many versions, and then says that all is done.
+fn publish_all<R: Wait>(
+    alloc: Global,
+    rt: &R,
+    board: &mut SampleBoard,
+    count: u64,
+    is_done: &AtomicU64,
+) -> Result<(), Starved> {
+    let published = board.publish(alloc, rt, count);
+    is_done.store(1, Ordering::SeqCst);
+    published
+}
+
+/// Looks, until a look that began after all was done. The entries of the last version, or None where a version has fewer than the one before, or was never published: the entry with the number `n` came at the moment `n`.
+fn watch<C: Clock>(clock: &C, looker: &mut Looker, is_done: &AtomicU64) -> Option<u64> {
+    let mut seen = 0;
+    for _ in 0..LOOKS {
+        let is_last = is_done.load(Ordering::SeqCst) == 1;
+        let version = looker.look().ok()?;
+        let entries = version.entries();
+        if entries < seen || version.at() != Moment(entries) {
+            return None;
+        }
+        if is_last {
+            return Some(entries);
+        }
+        seen = entries;
+        thread::sleep(clock, Duration::from_micros(PAUSE));
+    }
+    None
+}
+
+/// Publishes all versions while lookers watch. What each saw last.
+fn watched<R: Threads + Wait + Clock + Sync>(
+    alloc: Global,
+    rt: &R,
+    board: &mut SampleBoard,
+    lookers: Lookers,
+) -> Result<Vec<Option<u64>>, Starved> {
+    let is_done = AtomicU64::new(0);
+    let done = &is_done;
+    let (published, watched) = join(
+        rt,
+        || publish_all(alloc, rt, board, PUBLISHINGS, done),
+        || thread::map_vec(rt, lookers.into_vec(), &|mut looker| watch(rt, &mut looker, done)),
+    );
+    published?;
+    Ok(watched?)
+}
+
+#[test]
+fn lookers_see_entries_grow(rt: HostRuntime) -> Result<(), Fail> {
+    let (mut board, lookers) = SampleBoard::open(rt.alloc(), &rt, 4)?;
+    let watched = watched(rt.alloc(), &rt, &mut board, lookers);
+    board.end(&rt);
+    assert_eq!(rt; watched?.as_slice(), [Some(PUBLISHINGS); 4].as_slice());
+    Ok(())
+}
+
+/// Publishes two versions while one looker holds the empty one that it was given, and another watches: that makes no publishing wait, and leaves the version that is held as it was. Whether it did.
+fn held_meanwhile<R: Threads + Wait + Clock + Sync>(
+    alloc: Global,
+    rt: &R,
+    board: &mut SampleBoard,
+    holder: &mut Looker,
+    watcher: &mut Looker,
+) -> Result<bool, Starved> {
+    let held = holder.look()?;
+    let is_done = AtomicU64::new(0);
+    let done = &is_done;
+    let (published, watched) = join(
+        rt,
+        || publish_all(alloc, rt, board, 2, done),
+        || watch(rt, watcher, done),
+    );
+    published?;
+    Ok(watched == Some(2) && held.entries() == 0)
+}
+
+#[test]
+fn a_version_is_held_while_others_come(rt: HostRuntime) -> Result<(), Fail> {
+    let (mut board, mut lookers) = SampleBoard::open(rt.alloc(), &rt, 2)?;
+    let (Some(mut holder), Some(mut watcher)) = (lookers.take_first(), lookers.take_first()) else {
+        board.end(&rt);
+        return Err("there are no two lookers".into());
+    };
+    let held = held_meanwhile(rt.alloc(), &rt, &mut board, &mut holder, &mut watcher);
+    let later = holder.look();
+    board.end(&rt);
+    assert!(rt; held?);
+    assert_eq!(rt; later?.entries(), 2);
+    Ok(())
+}
+
+/// Publishings, meetings and looks by turns. How many entries the last look showed.
+fn met<R: Wait>(
+    alloc: Global,
+    rt: &R,
+    board: &mut SampleBoard,
+    looker: &mut Looker,
+) -> Result<u64, Starved>
+    requires name { looker.old.name ≡ board.old.publisher.name }
+{
+    let mut entries = 0;
+    'rounds: for _ in 0..3 {
+        board.publish_next(alloc, rt)?;
+        board.meet(looker);
+        entries = looker.look()?.entries();
+    }
+    Ok(entries)
+}
+
+#[test]
+fn ends_of_a_board(rt: HostRuntime) -> Result<(), Fail> {
+    let (mut board, lookers) = SampleBoard::open(rt.alloc(), &rt, 16)?;
+    let mut lookers = lookers.into_vec();
+    let met = met(rt.alloc(), &rt, &mut board, &mut lookers[15]);
+    board.end(&rt);
+    assert_eq!(rt; met?, 3);
+    assert_eq!(rt; lookers[15].look().err(), Some(Starved));
+    Ok(())
+}

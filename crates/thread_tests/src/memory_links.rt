@@ -1,0 +1,68 @@
+//! Links and clocks in memory, with calls that are to fail.
+use rd_base::{Bytes, Host, Moment, Peer};
+use std::alloc::{AllocError, Global};
+use std::test::Fail;
+use udp_link::{Arrivals, Came, Clock, Link, MemClock, MemLink, Moments, Went, Words};
+
+/// The peer of the tests.
+const NEAR: Peer = Peer {
+    host: Host::V4([192, 0, 2, 10]),
+    port: 5683,
+};
+
+/// Datagrams of these lengths, each octet of which is 7.
+fn sevens(alloc: Global, lengths: &[usize]) -> Result<Arrivals, AllocError> {
+    let mut items = Vec::new(alloc);
+    for length in lengths {
+        items.push((NEAR, Bytes::of(vec![in alloc; 7; *length]?)))?;
+    }
+    Ok(Arrivals::of(items))
+}
+
+#[test]
+fn a_link_fails_when_it_is_to(rt: HostRuntime) -> Result<(), Fail> {
+    let alloc = rt.alloc();
+    let coming = sevens(alloc, &[0, 1, 4096, 4097])?;
+    let fail_recv = Bytes::copy_of(alloc, &[0, 3])?;
+    let fail_send = Bytes::copy_of(alloc, &[1])?;
+    let mut link = MemLink::of(alloc, coming, fail_recv, fail_send);
+    let mut into = [0u8; 4096];
+    let outcomes = [
+        Came::Failed,
+        Came::Datagram(NEAR, 0),
+        Came::Datagram(NEAR, 1),
+        Came::Failed,
+        Came::Datagram(NEAR, 4096),
+        Came::TooLong,
+        Came::Nothing,
+        Came::Nothing,
+    ];
+    for outcome in outcomes {
+        assert_eq!(rt; link.recv(&mut into), outcome);
+    }
+    assert_eq!(rt; into[4095], 7);
+    assert_eq!(rt; link.send(NEAR, b"ab"), Went::Sent);
+    assert_eq!(rt; link.send(NEAR, b"cd"), Went::Failed);
+    assert_eq!(rt; link.send(NEAR, b""), Went::Sent);
+    let gone = link.gone().as_slice();
+    assert_eq!(rt; gone.len(), 2);
+    assert_eq!(rt; gone[0].1.as_slice(), b"ab".as_slice());
+    assert_eq!(rt; gone[1].0, NEAR);
+    Ok(())
+}
+
+#[test]
+fn a_clock_gives_its_lists(rt: HostRuntime) -> Result<(), Fail> {
+    let alloc = rt.alloc();
+    let moments = Moments::of(vec![in alloc; Moment(5), Moment(9)]?);
+    let words = Words::of(vec![in alloc; 3]?);
+    let mut clock = MemClock::of(moments, words);
+    assert_eq!(rt;
+        [clock.now(), clock.now(), clock.now()],
+        [Moment(5), Moment(9), Moment(9)]
+    );
+    assert_eq!(rt; [clock.word(), clock.word()], [3, 3]);
+    let mut clock = MemClock::of(Moments::of(Vec::new(alloc)), Words::of(Vec::new(alloc)));
+    assert_eq!(rt; (clock.now(), clock.word()), (Moment(0), 0));
+    Ok(())
+}
