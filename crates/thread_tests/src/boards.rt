@@ -65,7 +65,11 @@ fn watched<R: Threads + Wait + Clock + Sync>(
     let (published, watched) = join(
         rt,
         || publish_all(alloc, rt, board, PUBLISHINGS, done),
-        || thread::map_vec(rt, lookers.into_vec(), &|mut looker| watch(rt, &mut looker, done)),
+        || thread::map_vec(
+            rt,
+            lookers.into_vec(),
+            &|mut looker| watch(rt, &mut looker, done),
+        ),
     );
     published?;
     Ok(watched?)
