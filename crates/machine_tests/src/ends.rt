@@ -1,15 +1,12 @@
 //! Ends that fail when they are to, and replays whose source, output or error sink fails, one call after another.
 
-use rd_base::{
-    Bytes, Got, MemSink, MemSource, Pair, Pairs, Put, Sink, Source, Starved, SureSink, SureSource,
-    Text, UpdateParams,
-};
+use rd_base::{Bytes, Got, MemSink, MemSource, Put, Sink, Source, Starved, SureSink, SureSource};
 use rd_server::{LineBad, Reason, Status, replay};
 use std::alloc::Global;
 use std::test::Fail;
 
 #[test]
-fn memory_ends_fail_when_they_are_to(rt: HostRuntime) -> Result<(), Fail> {
+fn ends_fail_when_they_are_to(rt: HostRuntime) -> Result<(), Fail> {
     let bytes = Bytes::copy_of(rt.alloc(), b"abcde")?;
     let mut source = MemSource::of(bytes, Bytes::copy_of(rt.alloc(), &[1])?);
     let mut into = [0u8; 3];
@@ -24,13 +21,7 @@ fn memory_ends_fail_when_they_are_to(rt: HostRuntime) -> Result<(), Fail> {
     assert_eq!(rt; sink.write(b"ab"), Put::Took(2));
     assert_eq!(rt; sink.write(b"c"), Put::Took(1));
     assert_eq!(rt; sink.as_slice(), b"abc".as_slice());
-    Ok(())
-}
-
-#[test]
-fn sure_ends_never_fail(rt: HostRuntime) -> Result<(), Fail> {
     let mut source = SureSource::of(Bytes::copy_of(rt.alloc(), b"ab")?);
-    let mut into = [0u8; 4];
     assert_eq!(rt; source.read(&mut into), Got::Bytes(2));
     assert_eq!(rt; source.read(&mut into), Got::Bytes(0));
     let mut sink = SureSink::new();
@@ -105,23 +96,5 @@ fn what_is_said_may_be_cut_off(rt: HostRuntime) -> Result<(), Fail> {
     for (call, said) in [(0, 0), (1, 5), (2, 6), (3, 8), (4, 12), (5, 13)] {
         assert_eq!(rt; unsaid_at(rt.alloc(), call, said)?, (bad, true));
     }
-    Ok(())
-}
-
-/// The parameters of an update are copied, which no request does.
-#[test]
-fn copies_are_equal(rt: HostRuntime) -> Result<(), Fail> {
-    let alloc = rt.alloc();
-    let mut attrs = Pairs::of(Vec::new(alloc));
-    attrs.push(Pair {
-        name: Text::copy_of(alloc, "et")?,
-        value: Text::copy_of(alloc, "a b")?,
-    })?;
-    let change = UpdateParams {
-        lt: Some(60),
-        base: Some(Text::copy_of(alloc, "coap://h")?),
-        attrs,
-    };
-    assert_eq!(rt; change.copy(alloc)?, change);
     Ok(())
 }

@@ -4,7 +4,7 @@ ghost use Rattle.std.specs.Prelude.{◌≡◌, ◌≤◌, ◌^◌, true, []};
 ghost use Rattle.journal_model.specs.Machine.{is_look_datagram};
 
 use crate::words::{cut, moment_of, number_of, octets_of, peer_of};
-use coap_message::view;
+use coap_message::{View, view};
 use directory_core::{Board, Directory};
 use rd_base::{Moment, Peer, Starved};
 use rd_desk::{Admitted, Desk, Job, Looked, Mids, Outbox, Stepped, Watcher, is_look, look};
@@ -65,21 +65,15 @@ fn done(again: Stepped) -> Result<bool, Starved> {
 }
 
 /// Whether a datagram answers this confirmable request by 5.00 alone.
-fn is_server_error(request: &[u8], answer: &[u8]) -> bool {
-    let (Ok(request), Ok(answer)) = (view(request), view(answer)) else {
-        return false;
-    };
-    answer.code == INTERNAL_SERVER_ERROR
-        && answer.mid == request.mid
-        && answer.token == request.token
-        && answer.options.is_empty()
-        && answer.payload.is_empty()
-}
-
-/// Whether a datagram is a request.
-fn is_request(datagram: &[u8]) -> bool {
-    match view(datagram) {
-        Ok(message) => 0 < message.code && message.code <= LAST_REQUEST,
+fn is_server_error(request: &View<'_>, answer: &[u8]) -> bool {
+    match view(answer) {
+        Ok(answer) => {
+            answer.code == INTERNAL_SERVER_ERROR
+                && answer.mid == request.mid
+                && answer.token == request.token
+                && answer.options.is_empty()
+                && answer.payload.is_empty()
+        }
         Err(_) => false,
     }
 }
@@ -97,13 +91,13 @@ fn mark_of(watcher: &Watcher) -> char {
 impl Station {
     /// A desk to which nothing came.
     pub(crate) fn new(alloc: Global) -> Result<Station, Starved> {
-        let shelf = Shelf {
+        let empty = Shelf {
             count: 0,
             last: None,
         };
         Ok(Station {
             alloc,
-            desk: Desk::make(alloc, shelf)?,
+            desk: Desk::make(alloc, empty)?,
             mids: Mids::of(0),
             job: None,
             peer: peer_of("A"),
@@ -121,25 +115,16 @@ impl Station {
         let now = self.desk.moment().later(now);
         let version = &**self.desk.version();
         let (mids, out) = (&mut self.mids, &mut self.out);
-        match look(
-            self.alloc,
-            version,
-            now,
-            mids,
-            self.peer,
-            self.datagram.as_slice(),
-            out,
-        ) {
-            Looked::Done => Stepped::Done,
-            Looked::Held(job) => {
-                self.job = Some(Job::Keep(job));
-                Stepped::Done
-            }
-            Looked::Starved => Stepped::Starved,
-        }
+        let datagram = self.datagram.as_slice();
+        self.job = match look(self.alloc, version, now, mids, self.peer, datagram, out) {
+            Looked::Done => None,
+            Looked::Held(job) => Some(Job::Keep(job)),
+            Looked::Starved => return Stepped::Starved,
+        };
+        Stepped::Done
     }
 
-    /// The datagram comes to the desk.
+    /// The datagram comes, and the worker lets go of a job that it holds.
     fn hears(&mut self, now: Moment) -> Stepped
         requires { now.0 ≤ 10 ^ 15 }
     {
@@ -148,17 +133,13 @@ impl Station {
             return self.looks(now);
         }
         let (mids, out) = (&mut self.mids, &mut self.out);
-        match self
-            .desk
-            .admit(now, 0, mids, self.peer, self.datagram.as_slice(), out)
-        {
-            Admitted::Done => Stepped::Done,
-            Admitted::Held(job) => {
-                self.job = Some(Job::Write(job));
-                Stepped::Done
-            }
-            Admitted::Starved => Stepped::Starved,
-        }
+        let datagram = self.datagram.as_slice();
+        self.job = match self.desk.admit(now, 0, mids, self.peer, datagram, out) {
+            Admitted::Done => None,
+            Admitted::Held(job) => Some(Job::Write(job)),
+            Admitted::Starved => return Stepped::Starved,
+        };
+        Stepped::Done
     }
 
     /// The worker does its job, where it holds one.
@@ -173,22 +154,16 @@ impl Station {
         }
     }
 
-    /// Time passes.
-    fn ticks(&mut self, now: Moment) -> Stepped
-        requires { now.0 ≤ 10 ^ 15 }
-    {
-        self.out.clear();
-        self.desk.tick(now, 0, &mut self.mids, &mut self.out)
-    }
-
     /// Whether a step that ran out of memory sent what is to be sent then: 5.00 to who asked, and else nothing.
     fn is_excused(&self) -> bool {
-        let datagram = self.datagram.as_slice();
+        let Ok(heard) = view(self.datagram.as_slice()) else {
+            return false;
+        };
         match self.out.at(0) {
             Some((to, answer)) => {
-                self.out.len() == 1 && to == self.peer && is_server_error(datagram, answer)
+                self.out.len() == 1 && to == self.peer && is_server_error(&heard, answer)
             }
-            None => !is_request(datagram),
+            None => heard.code == 0 || heard.code > LAST_REQUEST,
         }
     }
 
@@ -223,11 +198,12 @@ impl Station {
     fn pass(&mut self, now: Moment) -> Result<bool, Starved>
         requires { now.0 ≤ 10 ^ 15 }
     {
-        if self.ticks(now) == Stepped::Starved {
+        self.out.clear();
+        if self.desk.tick(now, 0, &mut self.mids, &mut self.out) == Stepped::Starved {
             if !self.out.is_empty() {
                 return Ok(false);
             }
-            done(self.ticks(now))?;
+            done(self.desk.tick(now, 0, &mut self.mids, &mut self.out))?;
         }
         if self.desk.version().swept() != self.desk.moment() {
             return Err(Starved);
@@ -237,7 +213,7 @@ impl Station {
 
     /// Whether all was told that the step sent.
     pub(crate) fn is_told(&self) -> bool {
-        self.told == self.out.len() && self.out.at(self.told).is_none()
+        self.out.at(self.told).is_none()
     }
 
     /// Whether so many versions were laid on the board, of which the last has as many entries as the desk's.
@@ -270,16 +246,6 @@ impl Station {
         Ok(next == Some((peer_of(peer), datagram.as_slice())))
     }
 
-    /// A datagram comes, by the words of its line.
-    fn come(&mut self, now: Moment, words: &str) -> Result<bool, Starved>
-        requires { now.0 ≤ 10 ^ 15 }
-    {
-        let (letter, word) = cut(words);
-        self.datagram = octets_of(self.alloc, word)?;
-        self.peer = peer_of(letter);
-        self.hear(now)
-    }
-
     /// A step is made: whether all was told before, and it is what a line asks for.
     fn step(&mut self, verb: &str, words: &str) -> Result<bool, Starved> {
         if !self.is_told() {
@@ -289,7 +255,12 @@ impl Station {
         let (moment, words) = cut(words);
         let now = moment_of(moment);
         match verb {
-            "in" => self.come(now, words),
+            "in" => {
+                let (letter, word) = cut(words);
+                self.datagram = octets_of(self.alloc, word)?;
+                self.peer = peer_of(letter);
+                self.hear(now)
+            }
             "go" => self.work(now),
             "tick" => self.pass(now),
             _ => Ok(false),
@@ -304,10 +275,6 @@ impl Station {
             "laid" => Ok(self.has_laid(number_of(words))),
             "swept" => Ok(self.desk.version().swept() == moment_of(words)),
             "watchers" => Ok(self.is_watched(words)),
-            "drop" => {
-                self.job = None;
-                Ok(true)
-            }
             _ => self.step(verb, words),
         }
     }

@@ -1,6 +1,6 @@
 //! A version to which the last entry came, and what it tells of its one registration.
 
-ghost use Rattle.std.specs.Prelude.{◌≤◌, ◌^◌, IfSome};
+ghost use Rattle.std.specs.Prelude.{◌≡◌, IfOk, IfSome};
 ghost use Rattle.record_model.specs.AllowedParameters.{IsAllowedChange};
 ghost use Rattle.registration.specs.Drafts.{IsDraft};
 
@@ -15,9 +15,6 @@ use std::test::Fail;
 
 /// How many entries a version counts at most, but for one: 2^48 - 2.
 const LAST_BUT_ONE: u64 = 281_474_976_710_654;
-
-/// The latest moment of a change.
-const LATEST: u64 = 1_000_000_000_000_000;
 
 /// Where changes come from.
 const PEER: Peer = Peer {
@@ -53,59 +50,61 @@ fn renewal(alloc: Global) -> UpdateParams
     }
 }
 
-/// A moment, where the version may be changed at it.
-fn moment_in(version: &Directory, now: u64) -> Option<Moment>
-    ensures at { IfSome result (λ now. version.now.at ≤ now.0) }
-    ensures swept { IfSome result (λ now. version.now.swept ≤ now.0) }
-    ensures latest { IfSome result (λ now. now.0 ≤ 10 ^ 15) }
+/// The version after the registration at the moment 0.
+fn registered(alloc: Global, version: &Directory) -> Result<Directory, Refusal>
+    requires at { version.now.at ≡ 0 }
+    requires swept { version.now.swept ≡ 0 }
+    ensures at { IfOk result (λ made. made.at ≡ 0) }
+    ensures swept { IfOk result (λ made. made.swept ≡ 0) }
 {
-    if now < version.at().0 || now < version.swept().0 || now > LATEST {
-        return None;
-    }
-    Some(Moment(now))
-}
-
-/// The version after the registration at the moment 0, or why it is refused; `Starved` also where nothing can be asked for.
-fn registered(alloc: Global, version: &Directory) -> Result<Directory, Refusal> {
-    let Some(now) = moment_in(version, 0) else {
-        return Err(Refusal::Starved);
-    };
     let Some(draft) = draft(alloc) else {
         return Err(Refusal::Starved);
     };
-    let (version, _number) = version.register(now, draft)?;
-    Ok(version)
+    match version.register(Moment(0), draft) {
+        Ok((made, _number)) => Ok(made),
+        Err(refusal) => Err(refusal),
+    }
 }
 
 /// The version to which the last entry came.
-fn full(alloc: Global) -> Result<Directory, Refusal> {
+fn full(alloc: Global) -> Result<Directory, Refusal>
+    ensures at { IfOk result (λ made. made.at ≡ 0) }
+    ensures swept { IfOk result (λ made. made.swept ≡ 0) }
+{
     let empty = Directory::empty(alloc, LAST_BUT_ONE)?;
     registered(alloc, &empty)
 }
 
 /// Why an update and a removal of a registration are refused at the moment 0.
-fn refusals(alloc: Global, version: &Directory, number: u64) -> Option<(Refusal, Refusal)> {
-    let now = moment_in(version, 0)?;
-    let update = version.update(now, number, renewal(alloc), PEER).err()?;
-    let removal = version.remove(now, number).err()?;
+fn refusals(alloc: Global, version: &Directory, number: u64) -> Option<(Refusal, Refusal)>
+    requires at { version.now.at ≡ 0 }
+    requires swept { version.now.swept ≡ 0 }
+{
+    let change = renewal(alloc);
+    let update = version.update(Moment(0), number, change, PEER).err()?;
+    let removal = version.remove(Moment(0), number).err()?;
     Some((update, removal))
 }
 
 /// How many registrations are live at a moment, which number `node` has then, and the lifetime of the first registration then.
-fn told(version: &Directory, name: &Name, now: u64) -> Option<(u64, Option<u64>, Option<u32>)> {
-    let now = moment_in(version, now)?;
+fn told(version: &Directory, name: &Name, now: u64) -> (u64, Option<u64>, Option<u32>)
+    requires at { version.now.at ≡ 0 }
+    requires swept { version.now.swept ≡ 0 }
+{
+    let now = Moment(now);
     let lifetime = version.record_of(1, now).map(|record| record.lt);
-    Some((
+    (
         version.live_count(now),
         version.by_name(name, now),
         lifetime,
-    ))
+    )
 }
 
 /// The number of the first registration that lapses after a moment and not after another.
-fn lapsing(version: &Directory, from: u64, to: u64) -> Option<u64> {
-    let from = moment_in(version, from)?;
-    Some(version.lapsing(from, Moment(to)).step()?.number)
+fn lapsing(version: &Directory, from: u64, to: u64) -> Option<u64>
+    requires { version.now.swept ≡ 0 }
+{
+    Some(version.lapsing(Moment(from), Moment(to)).step()?.number)
 }
 
 #[test]
@@ -121,22 +120,22 @@ fn the_last_entry_is_counted(rt: HostRuntime) -> Result<(), Fail> {
     assert_eq!(rt; refusals(alloc, &full, 1), Some(last));
     let gone = (Refusal::Gone(2), Refusal::Gone(2));
     assert_eq!(rt; refusals(alloc, &full, 2), Some(gone));
-    Ok(())
-}
-
-#[test]
-fn a_registration_is_told_until_it_lapses(rt: HostRuntime) -> Result<(), Fail> {
-    let Ok(full) = full(rt.alloc()) else {
-        return Err("the last entry did not come".into());
-    };
     let name = Name {
-        ep: Text::copy_of(rt.alloc(), "node")?,
+        ep: Text::copy_of(alloc, "node")?,
         sector: None,
     };
-    assert_eq!(rt; told(&full, &name, 59_999), Some((1, Some(1), Some(60))));
-    assert_eq!(rt; told(&full, &name, 60_000), Some((0, None, None)));
+    assert_eq!(rt; told(&full, &name, 59_999), (1, Some(1), Some(60)));
+    assert_eq!(rt; told(&full, &name, 60_000), (0, None, None));
     assert_eq!(rt; lapsing(&full, 0, 60_000), Some(1));
     assert_eq!(rt; lapsing(&full, 0, 59_999), None);
     assert_eq!(rt; lapsing(&full, 60_000, 99_999), None);
+    Ok(())
+}
+
+/// The parameters of an update are copied, which no request does.
+#[test]
+fn copies_are_equal(rt: HostRuntime) -> Result<(), Fail> {
+    let change = renewal(rt.alloc());
+    assert_eq!(rt; change.copy(rt.alloc())?, change);
     Ok(())
 }

@@ -1,4 +1,4 @@
-//! One publisher that publishes thousands of versions while lookers look, a version that is held meanwhile, and the end of a board.
+//! One publisher that publishes thousands of versions while lookers look, and the end of a board.
 ghost use Rattle.std.specs.Prelude.{◌≡◌};
 
 use crate::sample_boards::SampleBoard;
@@ -21,21 +21,16 @@ const LOOKS: u64 = 50_000;
 /// How many microseconds a looker rests between two looks.
 const PAUSE: u64 = 1_000;
 
-/// Publishes so many versions, and then says that all is done.
-fn publish_all<R: Wait>(
-    alloc: Global,
-    rt: &R,
-    board: &mut SampleBoard,
-    count: u64,
-    is_done: &AtomicU64,
-) -> Result<(), Starved> {
-    let published = board.publish(alloc, rt, count);
-    is_done.store(1, Ordering::SeqCst);
-    published
+/// Publishes all versions, or as many as there is memory for.
+fn publish<R: Wait>(alloc: Global, rt: &R, board: &mut SampleBoard) -> Result<(), Starved> {
+    for _ in 0..PUBLISHINGS {
+        board.publish_next(alloc, rt)?;
+    }
+    Ok(())
 }
 
 /// Looks, until a look that began after all was done. The entries of the last version, or None where a version has fewer than the one before, or was never published: the entry with the number `n` came at the moment `n`.
-fn watch<C: Clock>(clock: &C, looker: &mut Looker, is_done: &AtomicU64) -> Option<u64> {
+fn watch<C: Clock>(clock: &C, mut looker: Looker, is_done: &AtomicU64) -> Option<u64> {
     let mut seen = 0;
     for _ in 0..LOOKS {
         let is_last = is_done.load(Ordering::SeqCst) == 1;
@@ -64,58 +59,29 @@ fn watched<R: Threads + Wait + Clock + Sync>(
     let done = &is_done;
     let (published, watched) = join(
         rt,
-        || publish_all(alloc, rt, board, PUBLISHINGS, done),
-        || thread::map_vec(
-            rt,
-            lookers.into_vec(),
-            &|mut looker| watch(rt, &mut looker, done),
-        ),
+        || {
+            let published = publish(alloc, rt, board);
+            done.store(1, Ordering::SeqCst);
+            published
+        },
+        || thread::map_vec(rt, lookers.into_vec(), &|looker| watch(rt, looker, done)),
     );
     published?;
     Ok(watched?)
 }
 
+/// While versions are published one looker holds the empty version that it was given: it makes nobody wait, and is as it was.
 #[test]
 fn lookers_see_entries_grow(rt: HostRuntime) -> Result<(), Fail> {
-    let (mut board, lookers) = SampleBoard::open(rt.alloc(), &rt, 4)?;
+    let (mut board, mut lookers) = SampleBoard::open(rt.alloc(), &rt, 5)?;
+    let mut holder = lookers.take_first();
+    let held = holder.as_mut().map(|looker| looker.look());
     let watched = watched(rt.alloc(), &rt, &mut board, lookers);
+    let later = holder.as_mut().map(|looker| looker.look());
     board.end(&rt);
     assert_eq!(rt; watched?.as_slice(), [Some(PUBLISHINGS); 4].as_slice());
-    Ok(())
-}
-
-/// Publishes two versions while one looker holds the empty one that it was given, and another watches: that makes no publishing wait, and leaves the version that is held as it was. Whether it did.
-fn held_meanwhile<R: Threads + Wait + Clock + Sync>(
-    alloc: Global,
-    rt: &R,
-    board: &mut SampleBoard,
-    holder: &mut Looker,
-    watcher: &mut Looker,
-) -> Result<bool, Starved> {
-    let held = holder.look()?;
-    let is_done = AtomicU64::new(0);
-    let done = &is_done;
-    let (published, watched) = join(
-        rt,
-        || publish_all(alloc, rt, board, 2, done),
-        || watch(rt, watcher, done),
-    );
-    published?;
-    Ok(watched == Some(2) && held.entries() == 0)
-}
-
-#[test]
-fn a_version_is_held_while_others_come(rt: HostRuntime) -> Result<(), Fail> {
-    let (mut board, mut lookers) = SampleBoard::open(rt.alloc(), &rt, 2)?;
-    let (Some(mut holder), Some(mut watcher)) = (lookers.take_first(), lookers.take_first()) else {
-        board.end(&rt);
-        return Err("there are no two lookers".into());
-    };
-    let held = held_meanwhile(rt.alloc(), &rt, &mut board, &mut holder, &mut watcher);
-    let later = holder.look();
-    board.end(&rt);
-    assert!(rt; held?);
-    assert_eq!(rt; later?.entries(), 2);
+    assert!(rt; matches!(held, Some(Ok(version)) if version.entries() == 0));
+    assert!(rt; matches!(later, Some(Ok(version)) if version.entries() == PUBLISHINGS));
     Ok(())
 }
 

@@ -1,6 +1,6 @@
 //! Links and clocks in memory, with calls that are to fail.
-use rd_base::{Bytes, Host, Moment, Peer};
-use std::alloc::{AllocError, Global};
+use rd_base::{Bytes, Host, Moment, Peer, Starved};
+use std::alloc::Global;
 use std::test::Fail;
 use udp_link::{Arrivals, Came, Clock, Link, MemClock, MemLink, Moments, Went, Words};
 
@@ -11,12 +11,12 @@ const NEAR: Peer = Peer {
 };
 
 /// Datagrams of these lengths, each octet of which is 7.
-fn sevens(alloc: Global, lengths: &[usize]) -> Result<Arrivals, AllocError> {
-    let mut items = Vec::new(alloc);
+fn sevens(alloc: Global, lengths: &[usize]) -> Result<Arrivals, Starved> {
+    let mut sevens = Arrivals::new(alloc);
     for length in lengths {
-        items.push((NEAR, Bytes::of(vec![in alloc; 7; *length]?)))?;
+        sevens.push(NEAR, Bytes::of(vec![in alloc; 7; *length]?))?;
     }
-    Ok(Arrivals::of(items))
+    Ok(sevens)
 }
 
 #[test]
@@ -53,16 +53,10 @@ fn a_link_fails_when_it_is_to(rt: HostRuntime) -> Result<(), Fail> {
 
 #[test]
 fn a_clock_gives_its_lists(rt: HostRuntime) -> Result<(), Fail> {
-    let alloc = rt.alloc();
-    let moments = Moments::of(vec![in alloc; Moment(5), Moment(9)]?);
-    let words = Words::of(vec![in alloc; 3]?);
-    let mut clock = MemClock::of(moments, words);
-    assert_eq!(rt;
-        [clock.now(), clock.now(), clock.now()],
-        [Moment(5), Moment(9), Moment(9)]
-    );
-    assert_eq!(rt; [clock.word(), clock.word()], [3, 3]);
-    let mut clock = MemClock::of(Moments::of(Vec::new(alloc)), Words::of(Vec::new(alloc)));
-    assert_eq!(rt; (clock.now(), clock.word()), (Moment(0), 0));
+    let moments = Moments::of(vec![in rt.alloc(); Moment(5), Moment(9)]?);
+    let mut clock = MemClock::of(moments, Words::of(Vec::new(rt.alloc())));
+    let given = [clock.now(), clock.now(), clock.now()];
+    assert_eq!(rt; given, [Moment(5), Moment(9), Moment(9)]);
+    assert_eq!(rt; clock.word(), 0);
     Ok(())
 }

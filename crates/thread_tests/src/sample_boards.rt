@@ -117,14 +117,6 @@ impl SampleBoard {
         Ok(())
     }
 
-    /// Publishes so many versions.
-    pub fn publish<R: Wait>(&mut self, alloc: Global, rt: &R, count: u64) -> Result<(), Starved> {
-        for _ in 0..count {
-            self.publish_next(alloc, rt)?;
-        }
-        Ok(())
-    }
-
     /// A looker of the board meets the publisher.
     pub fn meet(&mut self, looker: &mut Looker)
         requires name { looker.old.name ≡ self.old.publisher.name }

@@ -1,6 +1,6 @@
 //! A turn lock round a counter, whose rows are its steps.
 ghost use Rattle.std.specs.Prelude.{◌≡◌, ◌+◌, ◌%◌, ◌^◌, true, false, length, All};
-ghost use Rattle.turn_lock.specs.Shown.{id_of, lock_of, label_of, is_holding, seen_of};
+ghost use Rattle.turn_lock.specs.Shown.{id_of, lock_of, is_holding, seen_of};
 
 use std::marker::Brand;
 use std::sync::Wait;
@@ -23,14 +23,12 @@ pub struct Tick {
 pub struct Counter {
     /// The number of steps.
     pub count: u64,
-    /// Which counter it is.
-    pub name: u64,
 }
 
 impl Replays for Counter {
     type Row = Tick;
 
-    type Label = u64;
+    type Label = ();
 
     ghost use Rattle.std.specs.Prelude.{◌≡◌, ◌%◌, ◌^◌, length};
 
@@ -38,7 +36,7 @@ impl Replays for Counter {
 
     ghost number = { λ row. row.by };
 
-    ghost label = { λ counter. counter.name };
+    ghost label = { λ counter. tt };
 }
 
 /// Gives the counter back, one step further.
@@ -46,7 +44,6 @@ fn give_back(lock: &TurnLock<Counter>, pass: &mut Pass<Counter>, counter: Counte
     requires lock { lock_of pass.old ≡ id_of lock.now }
     requires holding { is_holding pass.old ≡ true }
     requires count { counter.count ≡ (length (seen_of pass.old) + 1) % 2 ^ 64 }
-    requires name { counter.name ≡ label_of pass.old }
     ensures lock { lock_of pass.new ≡ lock_of pass.old }
     ensures idle { is_holding pass.new ≡ false }
 {
@@ -91,20 +88,11 @@ fn all_at_once<R: Threads + Wait + Sync>(
     );
 }
 
-#[test]
-fn two_passes_in_turn(rt: HostRuntime) -> Result<(), Fail> {
-    let (lock, passes) = TurnLock::make(rt.alloc(), 2, Counter { count: 0, name: 7 })?;
-    let mut passes = passes.into_vec();
-    assert_eq!(rt; steps(&rt, &lock, &mut passes[0], 1), 1);
-    assert_eq!(rt; steps(&rt, &lock, &mut passes[1], 1), 2);
-    Ok(())
-}
-
 /// Each pass makes its steps in one thread, then in another, and the first one more here.
 #[test]
 fn many_steps_at_once(rt: HostRuntime) -> Result<(), Fail> {
     for workers in [2, 16] {
-        let (lock, passes) = TurnLock::make(rt.alloc(), workers, Counter { count: 0, name: 7 })?;
+        let (lock, passes) = TurnLock::make(rt.alloc(), workers, Counter { count: 0 })?;
         let mut passes = passes.into_vec();
         all_at_once(&rt, &lock, passes.as_mut_slice());
         all_at_once(&rt, &lock, passes.as_mut_slice());
@@ -116,11 +104,11 @@ fn many_steps_at_once(rt: HostRuntime) -> Result<(), Fail> {
 
 #[test]
 fn ends_with_its_value(rt: HostRuntime) -> Result<(), Fail> {
-    let (lock, mut passes) = TurnLock::make(rt.alloc(), 1, Counter { count: 0, name: 7 })?;
+    let (lock, mut passes) = TurnLock::make(rt.alloc(), 1, Counter { count: 0 })?;
     let Some(mut pass) = passes.take_first() else {
         return Err("there is no pass".into());
     };
     steps(&rt, &lock, &mut pass, 1);
-    assert!(rt; matches!(lock.end(pass), Ended::Free(Counter { count: 1, name: 7 })));
+    assert!(rt; matches!(lock.end(pass), Ended::Free(Counter { count: 1 })));
     Ok(())
 }
