@@ -29,7 +29,8 @@ fn publish<R: Wait>(alloc: Global, rt: &R, board: &mut SampleBoard) -> Result<()
     Ok(())
 }
 
-/// Looks, until a look that began after all was done. The entries of the last version, or None where a version has fewer than the one before, or was never published: the entry with the number `n` came at the moment `n`.
+/// Looks until a look that began after all was done: how many entries it showed. None where a
+/// version has fewer than the one before, or another moment than how many it has.
 fn watch<C: Clock>(clock: &C, mut looker: Looker, is_done: &AtomicU64) -> Option<u64> {
     let mut seen = 0;
     for _ in 0..LOOKS {
@@ -70,7 +71,7 @@ fn watched<R: Threads + Wait + Clock + Sync>(
     Ok(watched?)
 }
 
-/// While versions are published one looker holds the empty version that it was given: it makes nobody wait, and is as it was.
+/// One looker holds the empty version meanwhile: nobody waits for it, and it stays as it was.
 #[test]
 fn lookers_see_entries_grow(rt: HostRuntime) -> Result<(), Fail> {
     let (mut board, mut lookers) = SampleBoard::open(rt.alloc(), &rt, 5)?;

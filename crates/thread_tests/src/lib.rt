@@ -1,4 +1,4 @@
-//! Tests of threads and of real sockets: the turn lock, the board of versions and links, by their public calls alone. No function is public.
+//! Tests of threads and sockets: the turn lock, the board of versions, and links.
 #![tactic(auto)]
 
 #[cfg(test)]

@@ -1,5 +1,6 @@
-//! Where the versions of the tests come from: an endpoint that registers again and again, at the moments 1, 2, 3 and so on.
-ghost use Rattle.std.specs.Prelude.{◌≡◌, ◌≤◌, ◌^◌, ◌++◌, ◌∷◌, [], ℕ, List, None, IfOk, IsSome, IfSome, replicate};
+//! Versions of an endpoint that registers again and again, at the moments 1, 2, 3 and so on.
+ghost use Rattle.std.specs.Prelude.{◌≡◌, ◌≤◌, ◌^◌, ◌++◌, ◌∷◌, [], ℕ, List};
+ghost use Rattle.std.specs.Prelude.{None, IfOk, IsSome, IfSome, replicate};
 ghost use Rattle.std.specs.Arc.{arc_value};
 ghost use Rattle.history_model.specs.Versions.{VersionStandsFor};
 ghost use Rattle.history_model.specs.declared.entries.Entry.{Entry};
@@ -64,7 +65,8 @@ fn registered(alloc: Global, last: &Directory, now: Moment) -> Result<Directory,
     requires at { last.now.at ≤ now.0 }
     requires swept { last.now.swept ≤ now.0 }
     requires moment { now.0 ≤ 10 ^ 15 }
-    ensures stands { (history : List Entry) → VersionStandsFor 0 history last.now → IfOk result (VersionStandsFor 0 (history ++ sample_entry now.0 ∷ [])) }
+    ensures stands { (history : List Entry) → VersionStandsFor 0 history last.now
+        → IfOk result (VersionStandsFor 0 (history ++ sample_entry now.0 ∷ [])) }
     ensures swept { IfOk result (λ version. version.swept ≡ last.now.swept) }
 {
     let draft = draft_of(alloc)?;
@@ -78,7 +80,8 @@ fn registered(alloc: Global, last: &Directory, now: Moment) -> Result<Directory,
 fn publish_at<E: Entering, R: Wait>(rt: &R, publisher: &mut Publisher, now: Moment)
     requires entry { E.entered ≡ sample_entry now.0 }
     requires staged { IsSome publisher.old.staged }
-    requires stands { IfSome publisher.old.staged (VersionStandsFor 0 (publisher.old.told ++ sample_entry now.0 ∷ [])) }
+    requires stands { IfSome publisher.old.staged
+        (VersionStandsFor 0 (publisher.old.told ++ sample_entry now.0 ∷ [])) }
     ensures name { publisher.new.name ≡ publisher.old.name }
     ensures told { publisher.new.told ≡ publisher.old.told ++ sample_entry now.0 ∷ [] }
     ensures staged { publisher.new.staged ≡ None }
@@ -94,7 +97,8 @@ impl SampleBoard {
         lookers: u32,
     ) -> Result<(SampleBoard, Lookers), Starved>
         requires lookers { (1 ≤ lookers) × (lookers ≤ 16) }
-        ensures lookers { IfOk result (λ made. made.1 ≡ replicate lookers (new_looker made.0.publisher.name)) }
+        ensures lookers { IfOk result (λ made.
+            made.1 ≡ replicate lookers (new_looker made.0.publisher.name)) }
     {
         let first = Arc::new(alloc, Directory::empty(alloc, 0)?)?;
         let last = Arc::try_clone(&first)?;
