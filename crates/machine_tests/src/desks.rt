@@ -1,6 +1,10 @@
-//! Desks, line by line of a table: what comes, what each step sends, and what the desk shows that it does not send.
+//! Desks, line by line of a table.
 //!
-//! A datagram comes (`in`), the worker does its job (`go`), or time passes (`tick`), at a moment in milliseconds; then follow all datagrams that are sent in this step (`out`), with digits and texts by turns. `laid` tells how many versions were laid on the board, `swept` up to when the version is swept, and `watchers` how each observer stands: it is due (`d`), waits for an acknowledgement (`w`), both (`b`) or none of both (`-`). A worker to which a datagram comes lets go of the job that it holds. A step that runs out of memory answers 5.00 or sends nothing, and is made again.
+//! At a moment in milliseconds a datagram comes (`in`), the worker does its job (`go`), or time
+//! passes (`tick`); then all is told that is sent (`out`), digits and texts by turns. `laid` tells
+//! how many versions were laid on the board, `swept` up to when the version is swept, `watchers`
+//! how each observer stands: due (`d`), waiting for an acknowledgement (`w`), both (`b`) or
+//! none (`-`). A worker to which a datagram comes lets go of a job that it holds.
 
 use crate::station::Station;
 use rd_base::Starved;
@@ -8,7 +12,7 @@ use rd_desk::Mids;
 use std::alloc::Global;
 use std::test::Fail;
 
-/// A change lays one version, and what changes nothing lays none: what comes, a repeat, a lookup, what is refused when it comes or when it is done, and time that passes (RFC 9176 section 5).
+/// A change lays one version when it is done. Repeats, lookups, refusals and ticks lay none.
 const LAID: &str = r"in 1000 A 41020001|a|b2|rd|44|ep=n|0d00|base=coap://h|ff|</t>;rt=x
 laid 0
 go 1000
@@ -18,7 +22,6 @@ in 1000 A 41020001|a|b2|rd|44|ep=n|0d00|base=coap://h|ff|</t>;rt=x
 out A 61410001|a|82|rd|01|1
 in 1001 C 41010002|b|b9|rd-lookup|03|res|44|rt=x
 out C 61450002|b|4800000000000100008128ff|<coap://h/t>;rt=x
-laid 1
 in 1002 A 41020002|a|b2|rd|01|1|45|lt=60
 laid 1
 go 1002
@@ -29,7 +32,6 @@ go 1003
 out B 61840003|a|ff|registration
 in 1003 B 41020004|a|b2|rd
 out B 61800004|a|ff|query
-laid 2
 tick 61001
 swept 61001
 tick 61002
@@ -44,7 +46,8 @@ go 61005
 out A 61420008|a
 laid 4";
 
-/// A write whose job is let go stays in flight, so that its repeat gets nothing, until its exchange is old (RFC 7252 section 4.5).
+/// A write whose job is let go stays in flight: its repeat gets nothing, until its exchange is old
+/// (RFC 7252 section 4.5).
 const DROPPED: &str = r"in 1000 A 41020001|a|b2|rd|44|ep=n
 in 1002 A 41020001|a|b2|rd|44|ep=n
 go 1003
@@ -56,7 +59,7 @@ go 248000
 out A 61410001|a|82|rd|01|1
 laid 1";
 
-/// A listing whose job is let go is not kept, and one that is kept stays as it was when its registration is removed (RFC 7959 section 2.4).
+/// A listing that is kept stays as it was when its registration is removed (RFC 7959 section 2.4).
 const BLOCKS: &str = r"in 1000 A 41020001|a|b2|rd|44|ep=n|0d00|base=coap://h|ff|</t>;rt=x
 go 1000
 out A 61410001|a|82|rd|01|1
@@ -71,7 +74,8 @@ in 1004 C 41010011|c|b9|rd-lookup|03|res|44|rt=x|8110
 out C 61450011|c|4800000000000100008128b110ff|x
 laid 2";
 
-/// Who joins is not due. A change makes those due whose listing had the record before or has it after, though they wait for an acknowledgement; a tick that finds the listing as it was tells nobody; and a registration that lapses makes due when any step is made (RFC 7641 section 4.2).
+/// A change makes those due whose listing had the record or has it now, though they wait. A tick
+/// that finds the listing as it was tells nobody. What lapses makes due in any step.
 const OBSERVED: &str = r"in 1000 C 41010010|c|6059|rd-lookup|03|res|44|rt=x
 out C 61450010|c|48000000000000000021016128
 in 1000 B 42010011|dd|6059|rd-lookup|02|ep|44|ep=m
@@ -109,7 +113,7 @@ watchers w-
 swept 61303
 laid 3";
 
-/// A device asks to be registered, and its links are fetched from it: the version is laid when they have come (RFC 9176 section 5.1).
+/// The links of a device are fetched, and a version is laid when they came (RFC 9176 section 5.1).
 const FETCHED: &str = r"in 1000 A 41020005|e|bb|.well-known|02|rd|44|ep=s
 go 1000
 out A 61440005|e
@@ -121,7 +125,7 @@ in 1002 C 41010010|c|b9|rd-lookup|03|res|44|ep=s
 out C 61450010|c|4800000000000100008128ff|<coap://192.0.2.10/t>;rt=x
 laid 1";
 
-/// The first line of a table that does not hold, or none. The end does not hold where not all was told.
+/// The first line of a table that does not hold; the end, where not all was told.
 fn failing(alloc: Global, table: &str) -> Result<Option<&str>, Starved> {
     let mut station = Station::new(alloc)?;
     for line in table.lines() {
@@ -143,7 +147,6 @@ fn tables_hold(rt: HostRuntime) -> Result<(), Fail> {
     Ok(())
 }
 
-/// A worker has 4,096 Message IDs, which come again in turn (RFC 7252 section 4.4).
 #[test]
 fn message_ids_come_again(rt: HostRuntime) {
     let mut mids = Mids::of(15);

@@ -1,4 +1,5 @@
-//! Tests of what neither the output of a trace nor the answer of a call shows: ends that fail, what a desk shows of its observers and lays on its board, and steps that run out of memory. No function is public.
+//! Tests of what neither the output of a trace nor the answer of a call shows: ends that fail, how
+//! observers stand, what is laid on a board, and steps that run out of memory.
 #![tactic(auto)]
 
 #[cfg(test)]
@@ -9,5 +10,3 @@ mod ends;
 mod station;
 #[cfg(test)]
 mod versions;
-#[cfg(test)]
-mod words;

@@ -3,10 +3,10 @@
 ghost use Rattle.std.specs.Prelude.{◌≡◌, ◌≤◌, ◌^◌, true, []};
 ghost use Rattle.journal_model.specs.Machine.{is_look_datagram};
 
-use crate::words::{cut, moment_of, number_of, octets_of, peer_of};
 use coap_message::{View, view};
 use directory_core::{Board, Directory};
-use rd_base::{Moment, Peer, Starved};
+use hex::FromHexError;
+use rd_base::{Host, Moment, Peer, Starved};
 use rd_desk::{Admitted, Desk, Job, Looked, Mids, Outbox, Stepped, Watcher, is_look, look};
 use std::alloc::Global;
 use std::mem;
@@ -18,7 +18,64 @@ const LAST_REQUEST: u8 = 31;
 /// 5.00 (RFC 7252 section 5.9.3.1).
 const INTERNAL_SERVER_ERROR: u8 = 160;
 
-/// A board: how many versions were laid on it, and the last of them. Contracts see one that tells nothing and has none staged.
+/// The latest moment that a desk is handed.
+const LATEST: u64 = 1_000_000_000_000_000;
+
+/// The first word of a text, and what stands behind it.
+fn cut(text: &str) -> (&str, &str) {
+    text.split_once(' ').unwrap_or((text, ""))
+}
+
+/// The number that a word says; 0 where it says none.
+fn number_of(word: &str) -> u64 {
+    word.parse::<u64>().unwrap_or(0)
+}
+
+/// The moment that a word says.
+fn moment_of(word: &str) -> Moment
+    ensures { result.0 ≤ 10 ^ 15 }
+{
+    Moment(number_of(word).min(LATEST))
+}
+
+/// The peer of a letter: A and B are devices, and C looks up.
+fn peer_of(letter: &str) -> Peer {
+    let octets = match letter {
+        "A" => [192, 0, 2, 10],
+        "B" => [192, 0, 2, 20],
+        _ => [192, 0, 2, 30],
+    };
+    Peer {
+        host: Host::V4(octets),
+        port: 5683,
+    }
+}
+
+/// Appends the octets that hexadecimal digits say; none where they are no digits.
+fn push_digits(alloc: Global, octets: &mut Vec<u8>, digits: &str) -> Result<(), Starved> {
+    match hex::decode(alloc, digits.as_bytes()) {
+        Ok(more) => Ok(octets.extend_from_slice(more.as_slice())?),
+        Err(FromHexError::OutOfMemory) => Err(Starved),
+        Err(_) => Ok(()),
+    }
+}
+
+/// The octets of parts with bars between them: hexadecimal digits and texts by turns.
+fn octets_of(alloc: Global, word: &str) -> Result<Vec<u8>, Starved> {
+    let mut octets = Vec::new(alloc);
+    let mut is_text = false;
+    for part in word.split('|') {
+        if is_text {
+            octets.extend_from_slice(part.as_bytes())?;
+        } else {
+            push_digits(alloc, &mut octets, part)?;
+        }
+        is_text = !is_text;
+    }
+    Ok(octets)
+}
+
+/// A board: how many versions were laid on it, and the last of them. Contracts see none staged.
 #[derive(Drop)]
 struct Shelf {
     count: u64,
@@ -43,7 +100,8 @@ impl Board for Shelf {
     }
 }
 
-/// A desk with one worker: the job that it holds, what it heard last and from whom, what the last step sent, and how many of these datagrams were told.
+/// A desk with one worker: its job, from whom it heard what last, what the last step sent, and how
+/// many of these datagrams were told.
 #[derive(Drop)]
 pub(crate) struct Station {
     alloc: Global,
@@ -54,14 +112,6 @@ pub(crate) struct Station {
     datagram: Vec<u8>,
     out: Outbox,
     told: usize,
-}
-
-/// A step that was made again.
-fn done(again: Stepped) -> Result<bool, Starved> {
-    match again {
-        Stepped::Done => Ok(true),
-        Stepped::Starved => Err(Starved),
-    }
 }
 
 /// Whether a datagram answers this confirmable request by 5.00 alone.
@@ -126,9 +176,9 @@ impl Station {
 
     /// The datagram comes, and the worker lets go of a job that it holds.
     fn hears(&mut self, now: Moment) -> Stepped
-        requires { now.0 ≤ 10 ^ 15 }
+        requires moment { now.0 ≤ 10 ^ 15 }
+        requires empty { self.old.out ≡ [] }
     {
-        self.out.clear();
         if is_look(self.datagram.as_slice()) {
             return self.looks(now);
         }
@@ -144,9 +194,9 @@ impl Station {
 
     /// The worker does its job, where it holds one.
     fn works(&mut self, now: Moment) -> Stepped
-        requires { now.0 ≤ 10 ^ 15 }
+        requires moment { now.0 ≤ 10 ^ 15 }
+        requires empty { self.old.out ≡ [] }
     {
-        self.out.clear();
         match mem::replace(&mut self.job, None) {
             Some(Job::Write(job)) => self.desk.commit(now, &mut self.mids, job, &mut self.out),
             Some(Job::Keep(job)) => self.desk.keep(now, &mut self.mids, job, &mut self.out),
@@ -154,10 +204,22 @@ impl Station {
         }
     }
 
-    /// Whether a step that ran out of memory sent what is to be sent then: 5.00 to who asked, and else nothing.
+    /// Makes a step: a datagram comes, the worker does its job, or time passes.
+    fn make(&mut self, verb: &str, now: Moment) -> Stepped
+        requires { now.0 ≤ 10 ^ 15 }
+    {
+        self.out.clear();
+        match verb {
+            "in" => self.hears(now),
+            "go" => self.works(now),
+            _ => self.desk.tick(now, 0, &mut self.mids, &mut self.out),
+        }
+    }
+
+    /// Whether a step without memory sent what it is to send: 5.00 to who asked, and else nothing.
     fn is_excused(&self) -> bool {
         let Ok(heard) = view(self.datagram.as_slice()) else {
-            return false;
+            return self.out.is_empty();
         };
         match self.out.at(0) {
             Some((to, answer)) => {
@@ -167,48 +229,36 @@ impl Station {
         }
     }
 
-    /// The datagram comes, and again where memory ran out.
-    fn hear(&mut self, now: Moment) -> Result<bool, Starved>
+    /// Makes a step, and again where it found no memory: whether it sent then what it is to send.
+    /// A job that found none comes again by its datagram, which is no repeat.
+    fn step(&mut self, verb: &str, now: Moment) -> bool
         requires { now.0 ≤ 10 ^ 15 }
     {
-        if self.hears(now) == Stepped::Done {
-            return Ok(true);
+        if self.make(verb, now) == Stepped::Done {
+            return true;
         }
         if !self.is_excused() {
-            return Ok(false);
+            return false;
         }
-        done(self.hears(now))
+        if verb == "go" {
+            self.make("in", now);
+        }
+        self.make(verb, now) == Stepped::Done
     }
 
-    /// The worker does its job. Where memory ran out the datagram comes again and leaves the same job, since it is no repeat.
-    fn work(&mut self, now: Moment) -> Result<bool, Starved>
-        requires { now.0 ≤ 10 ^ 15 }
-    {
-        if self.works(now) == Stepped::Done {
-            return Ok(true);
-        }
-        if !self.is_excused() {
+    /// Does what a line asks for: whether all was told before. When time passes nobody is heard.
+    fn go_on(&mut self, verb: &str, words: &str) -> Result<bool, Starved> {
+        if !self.is_told() {
             return Ok(false);
         }
-        done(self.hears(now))?;
-        done(self.works(now))
-    }
-
-    /// Time passes, and again where memory ran out: then nobody was told anything. The version is then swept, unless there was no memory for that.
-    fn pass(&mut self, now: Moment) -> Result<bool, Starved>
-        requires { now.0 ≤ 10 ^ 15 }
-    {
-        self.out.clear();
-        if self.desk.tick(now, 0, &mut self.mids, &mut self.out) == Stepped::Starved {
-            if !self.out.is_empty() {
-                return Ok(false);
-            }
-            done(self.desk.tick(now, 0, &mut self.mids, &mut self.out))?;
+        self.told = 0;
+        let (moment, words) = cut(words);
+        if verb != "go" {
+            let (letter, word) = cut(words);
+            self.datagram = octets_of(self.alloc, word)?;
+            self.peer = peer_of(letter);
         }
-        if self.desk.version().swept() != self.desk.moment() {
-            return Err(Starved);
-        }
-        Ok(true)
+        Ok(self.step(verb, moment_of(moment)))
     }
 
     /// Whether all was told that the step sent.
@@ -216,7 +266,7 @@ impl Station {
         self.out.at(self.told).is_none()
     }
 
-    /// Whether so many versions were laid on the board, of which the last has as many entries as the desk's.
+    /// Whether so many versions were laid, the last with as many entries as the desk's version.
     fn has_laid(&mut self, count: u64) -> bool {
         let entries = self.desk.version().entries();
         let shelf = self.desk.board();
@@ -246,27 +296,6 @@ impl Station {
         Ok(next == Some((peer_of(peer), datagram.as_slice())))
     }
 
-    /// A step is made: whether all was told before, and it is what a line asks for.
-    fn step(&mut self, verb: &str, words: &str) -> Result<bool, Starved> {
-        if !self.is_told() {
-            return Ok(false);
-        }
-        self.told = 0;
-        let (moment, words) = cut(words);
-        let now = moment_of(moment);
-        match verb {
-            "in" => {
-                let (letter, word) = cut(words);
-                self.datagram = octets_of(self.alloc, word)?;
-                self.peer = peer_of(letter);
-                self.hear(now)
-            }
-            "go" => self.work(now),
-            "tick" => self.pass(now),
-            _ => Ok(false),
-        }
-    }
-
     /// Whether a line holds: its step is made, or what it tells is so.
     pub(crate) fn holds(&mut self, line: &str) -> Result<bool, Starved> {
         let (verb, words) = cut(line);
@@ -275,7 +304,8 @@ impl Station {
             "laid" => Ok(self.has_laid(number_of(words))),
             "swept" => Ok(self.desk.version().swept() == moment_of(words)),
             "watchers" => Ok(self.is_watched(words)),
-            _ => self.step(verb, words),
+            "in" | "go" | "tick" => self.go_on(verb, words),
+            _ => Ok(false),
         }
     }
 }

@@ -86,7 +86,7 @@ fn refusals(alloc: Global, version: &Directory, number: u64) -> Option<(Refusal,
     Some((update, removal))
 }
 
-/// How many registrations are live at a moment, which number `node` has then, and the lifetime of the first registration then.
+/// How many registrations are live, which number a name has, and the first one's lifetime.
 fn told(version: &Directory, name: &Name, now: u64) -> (u64, Option<u64>, Option<u32>)
     requires at { version.now.at ≡ 0 }
     requires swept { version.now.swept ≡ 0 }
@@ -98,13 +98,6 @@ fn told(version: &Directory, name: &Name, now: u64) -> (u64, Option<u64>, Option
         version.by_name(name, now),
         lifetime,
     )
-}
-
-/// The number of the first registration that lapses after a moment and not after another.
-fn lapsing(version: &Directory, from: u64, to: u64) -> Option<u64>
-    requires { version.now.swept ≡ 0 }
-{
-    Some(version.lapsing(Moment(from), Moment(to)).step()?.number)
 }
 
 #[test]
@@ -126,9 +119,6 @@ fn the_last_entry_is_counted(rt: HostRuntime) -> Result<(), Fail> {
     };
     assert_eq!(rt; told(&full, &name, 59_999), (1, Some(1), Some(60)));
     assert_eq!(rt; told(&full, &name, 60_000), (0, None, None));
-    assert_eq!(rt; lapsing(&full, 0, 60_000), Some(1));
-    assert_eq!(rt; lapsing(&full, 0, 59_999), None);
-    assert_eq!(rt; lapsing(&full, 60_000, 99_999), None);
     Ok(())
 }
 

@@ -81,8 +81,8 @@ fn lookers_see_entries_grow(rt: HostRuntime) -> Result<(), Fail> {
     let later = holder.as_mut().map(|looker| looker.look());
     board.end(&rt);
     assert_eq!(rt; watched?.as_slice(), [Some(PUBLISHINGS); 4].as_slice());
-    assert!(rt; matches!(held, Some(Ok(version)) if version.entries() == 0));
-    assert!(rt; matches!(later, Some(Ok(version)) if version.entries() == PUBLISHINGS));
+    assert!(rt; matches!(&held, Some(Ok(version)) if version.entries() == 0));
+    assert!(rt; matches!(&later, Some(Ok(version)) if version.entries() == PUBLISHINGS));
     Ok(())
 }
 

@@ -1,8 +1,8 @@
-//! Links and clocks in memory, with calls that are to fail.
-use rd_base::{Bytes, Host, Moment, Peer, Starved};
+//! A link in memory, with calls that are to fail.
+use rd_base::{Bytes, Host, Peer, Starved};
 use std::alloc::Global;
 use std::test::Fail;
-use udp_link::{Arrivals, Came, Clock, Link, MemClock, MemLink, Moments, Went, Words};
+use udp_link::{Arrivals, Came, Link, MemLink, Went};
 
 /// The peer of the tests.
 const NEAR: Peer = Peer {
@@ -48,15 +48,5 @@ fn a_link_fails_when_it_is_to(rt: HostRuntime) -> Result<(), Fail> {
     assert_eq!(rt; gone.len(), 2);
     assert_eq!(rt; gone[0].1.as_slice(), b"ab".as_slice());
     assert_eq!(rt; gone[1].0, NEAR);
-    Ok(())
-}
-
-#[test]
-fn a_clock_gives_its_lists(rt: HostRuntime) -> Result<(), Fail> {
-    let moments = Moments::of(vec![in rt.alloc(); Moment(5), Moment(9)]?);
-    let mut clock = MemClock::of(moments, Words::of(Vec::new(rt.alloc())));
-    let given = [clock.now(), clock.now(), clock.now()];
-    assert_eq!(rt; given, [Moment(5), Moment(9), Moment(9)]);
-    assert_eq!(rt; clock.word(), 0);
     Ok(())
 }
