@@ -2,7 +2,7 @@
 ghost use Rattle.std.specs.Prelude.{◌≡◌, ◌≤◌, IfOk};
 
 use crate::words::put_numbers;
-use exchange_core::{Exchanges, Keyed, Octets};
+use exchange_core::{Exchanges, Keyed, Octets, Reply, Token};
 use rd_base::{Moment, Peer, Starved, peer_read};
 use std::alloc::Global;
 use vector_words::{NoAnswer, cut, datagram_of, number_of, put_datagram, yes_or_no};
@@ -17,21 +17,29 @@ fn kept<const N: usize>(alloc: Global, word: &str) -> Result<Octets<N>, NoAnswer
     Ok(Octets::of(octets.as_slice()))
 }
 
-/// Writes a copy of octets that are kept in a room for so many, or of two such words whether they are the same. `Form`: it is
-/// neither. `Starved`: out of memory.
-pub(crate) fn keep<const N: usize>(
-    page: &mut String,
-    alloc: Global,
-    said: &str,
-) -> Result<(), NoAnswer> {
+/// Writes a copy of a token, or of two whether they are the same. `Form`: it is neither. `Starved`: out of memory.
+pub(crate) fn put_token(page: &mut String, alloc: Global, said: &str) -> Result<(), NoAnswer> {
     let (first, second) = cut(said);
-    let first = kept::<N>(alloc, first)?.copy();
+    let first: Token = kept(alloc, first)?;
     if second.is_empty() {
-        put_datagram(page, first.as_slice())?;
+        put_datagram(page, first.copy().as_slice())?;
         return Ok(());
     }
-    let second = kept::<N>(alloc, second)?;
-    page.push_str(yes_or_no(first == second))?;
+    let second: Token = kept(alloc, second)?;
+    page.push_str(yes_or_no(first.copy() == second))?;
+    Ok(())
+}
+
+/// Writes a copy of an answer, or of two whether they are the same. `Form`: it is neither. `Starved`: out of memory.
+pub(crate) fn put_reply(page: &mut String, alloc: Global, said: &str) -> Result<(), NoAnswer> {
+    let (first, second) = cut(said);
+    let first: Reply = kept(alloc, first)?;
+    if second.is_empty() {
+        put_datagram(page, first.copy().as_slice())?;
+        return Ok(());
+    }
+    let second: Reply = kept(alloc, second)?;
+    page.push_str(yes_or_no(first.copy() == second))?;
     Ok(())
 }
 

@@ -59,19 +59,20 @@ fn pairs_from<L: Ledger, V: MapValue>(
     Ok(pairs)
 }
 
-/// Writes pairs, or that there are none.
+/// Writes pairs on an empty page, or that there are none.
 fn put_pairs(page: &mut String, pairs: &[u64]) -> Result<(), Starved> {
-    if pairs.is_empty() {
-        return Ok(page.push_str("none")?);
-    }
-    let mut space = "";
     for pair in pairs.chunks(2) {
         if let [key, value] = pair {
             let key = *key;
             let value = *value;
-            write!(page, "{space}{key}={value}")?;
-            space = " ";
+            if !page.is_empty() {
+                page.push_str(" ")?;
+            }
+            write!(page, "{key}={value}")?;
         }
+    }
+    if page.is_empty() {
+        page.push_str("none")?;
     }
     Ok(())
 }
@@ -186,6 +187,11 @@ impl<V: MapValue> Maps<V> {
             kind,
             versions: Versions::new(alloc, now),
         })
+    }
+
+    /// The present version.
+    pub(crate) fn now(&self) -> &ChunkMap<u64, V> {
+        &self.versions.now
     }
 
     /// Goes on with another version, and writes what stands at a key before and then.
@@ -310,16 +316,19 @@ fn count_chunks<L: Ledger>(blank: Blank, map: &ChunkMap<u64, Marked>) -> Result<
     Ok(chunks)
 }
 
-impl Maps<Marked> {
-    /// Writes whether there are at most so many chunks, and how many there are where there are more. `Form`: it is no number.
-    /// `Starved`: out of memory.
-    pub(crate) fn bound_chunks(&self, page: &mut String, said: &str) -> Result<(), NoAnswer> {
-        let most = number_of(said, u64::MAX)?;
-        let chunks = count_chunks::<Brand>(Blank::new(1), &self.versions.now)?;
-        if chunks > most {
-            write!(page, "no, {chunks}")?;
-            return Ok(());
-        }
-        Ok(page.push_str("yes")?)
+/// Writes whether there are at most so many chunks, and how many there are where there are more. `Form`: it is no number.
+/// `Starved`: out of memory.
+pub(crate) fn bound_chunks(
+    page: &mut String,
+    map: &ChunkMap<u64, Marked>,
+    said: &str,
+) -> Result<(), NoAnswer> {
+    let most = number_of(said, u64::MAX)?;
+    let chunks = count_chunks::<Brand>(Blank::new(1), map)?;
+    if chunks > most {
+        write!(page, "no, {chunks}")?;
+        return Ok(());
     }
+    page.push_str("yes")?;
+    Ok(())
 }

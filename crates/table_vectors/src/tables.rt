@@ -1,9 +1,9 @@
 //! The tables, each with its state.
 
-use crate::exchanges::{Writes, keep};
+use crate::exchanges::{Writes, put_reply, put_token};
 use crate::index::Indexes;
 use crate::leases::Leases;
-use crate::maps::Maps;
+use crate::maps::{Maps, bound_chunks};
 use crate::values::Marked;
 use crate::versions::Versions;
 use crate::watches::Watches;
@@ -59,12 +59,12 @@ impl Tables {
         match call {
             "map" => self.map.answer(&mut page, said)?,
             "shared_map" => self.shared_map.answer(&mut page, said)?,
-            "chunks" => self.shared_map.bound_chunks(&mut page, said)?,
+            "chunks" => bound_chunks(&mut page, self.shared_map.now(), said)?,
             "leases" => leases::answer(&mut self.leases, &mut page, said)?,
             "index" => index::answer(&mut self.index, &mut page, said)?,
             "exchanges" => self.exchanges.answer(&mut page, said)?,
-            "token" => keep::<8>(&mut page, self.alloc, said)?,
-            "reply" => keep::<64>(&mut page, self.alloc, said)?,
+            "token" => put_token(&mut page, self.alloc, said)?,
+            "reply" => put_reply(&mut page, self.alloc, said)?,
             "resend" => resends::answer(&mut self.resend, &mut page, said)?,
             "watches" => self.watches.answer(&mut page, said)?,
             _ => return Ok(None),
