@@ -128,19 +128,21 @@ leaves_staged history notes old new before after is_staged stood stands laid = b
         let was = stood.entries in
         let are = stands.entries in
         let same = ap (λ (v : Version). v.entries) (laid.kept is) in
-        let longer = length-append history (filter_map entry_noted notes) in
-        (carried after (λ o. o) (λ o. staged_after (filter_map entry_noted notes) new o) (none_left (filter_map entry_noted notes) new (omega (arith, was, are, same, longer))) before
-        (subst (λ (b : Bool). IfSome before (λ staged. after ≡ Some (if b then Some new else staged))) is laid.staged),
-        λ none. laid.free is)
+        let longer = length-append history (filter_map entry_noted notes) in (
+          carried after (λ o. o) (λ o. staged_after (filter_map entry_noted notes) new o) (none_left (filter_map entry_noted notes) new (omega (arith, was, are, same, longer))) before
+              (subst (λ (b : Bool). IfSome before (λ staged. after ≡ Some (if b then Some new else staged))) is laid.staged),
+          λ none. laid.free is,
+        )
     by true is =
         let more = laid.made is history stood in
         let was = more.stands.entries in
         let are = stands.entries in
         let longer = length-append history (filter_map entry_noted notes) in
-        let once = length-append history (more.entry ∷ []) in
-        (carried after (λ o. Some new) (λ o. staged_after (filter_map entry_noted notes) new o) (one_left (filter_map entry_noted notes) new (omega (arith, was, are, longer, once))) before
-        (subst (λ (b : Bool). IfSome before (λ staged. after ≡ Some (if b then Some new else staged))) is laid.staged),
-        λ none. let no = ap length none in absurd (omega (arith, was, are, longer, once, no)))
+        let once = length-append history (more.entry ∷ []) in (
+          carried after (λ o. Some new) (λ o. staged_after (filter_map entry_noted notes) new o) (one_left (filter_map entry_noted notes) new (omega (arith, was, are, longer, once))) before
+              (subst (λ (b : Bool). IfSome before (λ staged. after ≡ Some (if b then Some new else staged))) is laid.staged),
+          λ none. let no = ap length none in absurd (omega (arith, was, are, longer, once, no)),
+        )
 
 -- a step that was made leaves its version staged where it made an entry
 pub made_staged : (rows : List Row) (r : Row) (d e : Seen) (before after : Option (Option Version)) (is_staged : Bool) → StandsFor rows d → StandsFor (r ∷ rows) e → IsLaid d.version e.version before after is_staged
