@@ -74,22 +74,24 @@ impl Row {
         }
     }
 
-    /// The time of a call in one round, in nanoseconds.
-    fn round_time<F: FnMut() -> Result<u64, Trouble>>(
+    /// The time of a call in the fastest of several rounds, in nanoseconds.
+    fn least_time<F: FnMut() -> Result<u64, Trouble>>(
         &mut self,
         rt: &HostRuntime,
         calls: u64,
-        round: &mut F,
+        mut round: F,
     ) -> Result<u64, Trouble>
-        requires { F.IsAlwaysCallable round.old }
-        ensures { F.IsAlwaysCallable round.new }
+        requires { F.IsAlwaysCallable round }
     {
-        let start = Instant::now(rt)?;
-        let counted = round()?;
-        let time = start.elapsed(rt)?;
-        self.counted = u64::wrapping_add(self.counted, counted);
-        let nanoseconds = u64::try_from(time.as_nanos()).unwrap_or(u64::MAX);
-        Ok(nanoseconds.checked_div(calls).unwrap_or(0))
+        let mut least = u64::MAX;
+        for _ in 0..ROUNDS {
+            let start = Instant::now(rt)?;
+            let counted = round()?;
+            let time = start.elapsed(rt)?;
+            self.counted = u64::wrapping_add(self.counted, counted);
+            least = least.min(u64::try_from(time.as_nanos()).unwrap_or(u64::MAX));
+        }
+        Ok(least.checked_div(calls).unwrap_or(0))
     }
 
     /// Rounds of calls on one more sample are timed. A round answers what its calls counted.
@@ -98,14 +100,11 @@ impl Row {
         rt: &HostRuntime,
         size: u64,
         calls: u64,
-        mut round: F,
+        round: F,
     ) -> Result<(), Trouble>
         requires { F.IsAlwaysCallable round }
     {
-        let mut least = u64::MAX;
-        for _ in 0..ROUNDS {
-            least = least.min(self.round_time(rt, calls, &mut round)?);
-        }
+        let least = self.least_time(rt, calls, round)?;
         let first = self.first.unwrap_or(least);
         self.first = Some(first);
         let hundredths = u64::saturating_mul(least, 100)

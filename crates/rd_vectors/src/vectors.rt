@@ -2,12 +2,16 @@
 
 use rd_base::Starved;
 use std::alloc::Global;
+use table_vectors::Tables;
 use vector_words::{NoAnswer, cut};
 
 /// All calls.
 #[derive(Drop)]
 pub(crate) struct Vectors {
+    /// Where their memory comes from.
     alloc: Global,
+    /// The tables, as the lines so far left them.
+    tables: Tables,
 }
 
 /// A line as it is shown.
@@ -22,7 +26,8 @@ pub(crate) struct Shown {
 impl Vectors {
     /// All calls, with their tables empty. `Starved`: out of memory.
     pub fn new(alloc: Global) -> Result<Vectors, Starved> {
-        Ok(Vectors { alloc })
+        let tables = Tables::new(alloc)?;
+        Ok(Vectors { alloc, tables })
     }
 
     /// What a call answers; nothing where there is no such call.
@@ -30,7 +35,10 @@ impl Vectors {
         if let Some(answer) = wire_vectors::answer(self.alloc, call, said)? {
             return Ok(Some(answer));
         }
-        Ok(None)
+        if let Some(answer) = text_vectors::answer(self.alloc, call, said)? {
+            return Ok(Some(answer));
+        }
+        self.tables.answer(call, said)
     }
 
     /// A line with what stands after its arrow.

@@ -1,5 +1,9 @@
-//! The calls of `link_format` (RFC 6690 section 2): `check BODY`, `params BODY` and `value_of
-//! BODY` of the first link of the body, and `quoted TEXT`.
+//! The calls of `link_format` (RFC 6690 section 2):
+//!
+//! - `check BODY`: the links of the body, or where it stops being the beginning of a document;
+//! - `params BODY`: the parameters of its first link;
+//! - `value_of BODY`: what the values of these say;
+//! - `quoted TEXT`.
 
 use crate::pages::{begin, put_fault, put_text};
 use link_format::{LinkBad, Links, Param, Params, check, params, quoted, value_of};

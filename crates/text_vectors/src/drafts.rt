@@ -1,7 +1,10 @@
-//! The calls of `registration` (RFC 9176 sections 5 and 5.3.1). A registration is `PEER?OPTIONS
-//! BODY`: where it comes from with its parameters, and its links. The calls are `build
-//! REGISTRATION`, `weight NUMBER REGISTRATION`, and `rebased update?OPTIONS REGISTRATION`: its
-//! links against the base that the update gives, and those again against their own.
+//! The calls of `registration` (RFC 9176 sections 5 and 5.3.1). A registration is
+//! `PEER?OPTIONS BODY`: where it comes from, its parameters and its links.
+//!
+//! - `build REGISTRATION`: its draft, or the fault of its body;
+//! - `weight NUMBER REGISTRATION`;
+//! - `rebased update?OPTIONS REGISTRATION`: its links against the base that the update gives, and
+//!   those again against their own.
 ghost use Rattle.std.specs.Prelude.{◌≡◌, true, IfOk, IfSome};
 ghost use Rattle.std.specs.List.{list_all};
 ghost use Rattle.record_model.specs.Parameters.{is_base};

@@ -1,7 +1,9 @@
-//! The calls of `listing` on lookups (RFC 9176 section 6). A lookup is `KIND?OPTIONS`. The calls
-//! are `matches LOOKUP INDEX RECORD`, `endpoint_listed LOOKUP RECORD`, `same_part LOOKUP OLD ->
-//! NEW`, of which each is a record or `-`, `lines LOOKUP SKIP MOST BEFORE RECORD`, where `BEFORE`
-//! is what stands there already, `discovery LOOKUP` and `page_bounds LOOKUP`.
+//! The calls of `listing` on lookups (RFC 9176 section 6). A lookup is `KIND?OPTIONS`.
+//!
+//! - `matches LOOKUP INDEX RECORD`, `endpoint_listed LOOKUP RECORD`;
+//! - `same_part LOOKUP OLD -> NEW`, of which each is a record or `-`;
+//! - `lines LOOKUP SKIP MOST BEFORE RECORD`, where `BEFORE` is what stands there already;
+//! - `discovery LOOKUP`, `page_bounds LOOKUP`.
 
 use crate::pages::{begin, put_number};
 use crate::queries::query_of;

@@ -1,7 +1,8 @@
 //! The calls of `listing` on patterns and criteria (RFC 6690 section 4.1, RFC 9176 section 6.2):
-//! `before_wildcard PATTERN`, `matches_value PATTERN VALUE`, `is_list_name NAME`, `first_part
-//! VALUE`, `matches_named NAME=PATTERN VALUE`, `link_matches NAME=PATTERN LINK` and
-//! `endpoint_matches NAME=PATTERN RECORD`.
+//!
+//! - `before_wildcard PATTERN`, `matches_value PATTERN VALUE`;
+//! - `is_list_name NAME`, `first_part VALUE`, `matches_named NAME=PATTERN VALUE`;
+//! - `link_matches NAME=PATTERN LINK`, `endpoint_matches NAME=PATTERN RECORD`.
 
 use crate::pages::{begin, put_text};
 use crate::records::{items_of, record_of};

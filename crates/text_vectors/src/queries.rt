@@ -1,7 +1,9 @@
-//! The calls of `query_text` (RFC 9176 sections 5, 5.1, 5.3.1 and 6.2): `fault READING?OPTIONS`,
-//! where `READING` is `register`, `simple`, `update` or `lookup`; `reg_params register?OPTIONS`
-//! or `simple?OPTIONS`, `update_params update?OPTIONS` and `lookup_query KIND?OPTIONS`, where
-//! `KIND` is `res`, `ep` or `core`.
+//! The calls of `query_text` (RFC 9176 sections 5, 5.1, 5.3.1 and 6.2):
+//!
+//! - `fault READING?OPTIONS`, where the reading is `register`, `simple`, `update` or `lookup`;
+//! - `reg_params register?OPTIONS` and `reg_params simple?OPTIONS`;
+//! - `update_params update?OPTIONS`;
+//! - `lookup_query KIND?OPTIONS`, where the kind is `res`, `ep` or `core`.
 ghost use Rattle.std.specs.Prelude.{◌≡◌, true, IfOk, IfSome};
 ghost use Rattle.record_model.specs.Parameters.{is_base};
 

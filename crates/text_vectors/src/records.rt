@@ -1,4 +1,4 @@
-//! Registrations as listings have them: `/rd/NUMBER?OPTIONS LINKS`. The options give its base
+//! Registrations as listings have them: `/rd/NUMBER?OPTIONS LINKS`. The options give the base
 //! too; the links are those of a document as they stand, their targets and anchors resolved.
 
 use crate::queries::params_of;

@@ -1,5 +1,5 @@
-//! The calls of `ref_resolve` (RFC 3986): `parts REFERENCE`, `is_uri REFERENCE`, `host REFERENCE`
-//! and `resolve BASE REFERENCE`.
+//! The calls of `ref_resolve` (RFC 3986): `parts REFERENCE`, `is_uri REFERENCE`,
+//! `host REFERENCE` and `resolve BASE REFERENCE`. What is no reference is bad at an octet.
 
 use crate::pages::{put_fault, put_named, put_optional};
 use rd_base::Starved;

@@ -1,4 +1,4 @@
-//! Requests in a word: `PLACE?OPTION&OPTION..`. What stands before the question mark says what
+//! Requests in a word, `PLACE?OPTION&OPTION..`: what stands before the question mark says what
 //! the options are for. Without a question mark there are no options; `?` alone is followed by an
 //! empty one.
 

@@ -1,5 +1,5 @@
 //! The names of types and roles, and codes.
-ghost use Rattle.std.specs.Prelude.{◌≡◌, ◌≤◌, IfOk};
+ghost use Rattle.std.specs.Prelude.{◌≡◌};
 ghost use Rattle.message_model.specs.Codes as codes_of;
 
 use coap_message::{Kind4, Role};

@@ -21,9 +21,13 @@ const LONGEST_TOKEN: usize = 8;
 /// What a message begins with.
 #[derive(Drop)]
 struct Head {
+    /// The type.
     kind: Kind4,
+    /// The code, class.detail in one octet.
     code: u8,
+    /// The Message ID.
     mid: u16,
+    /// The token.
     token: Bytes,
 }
 
@@ -42,7 +46,9 @@ struct Script {
 /// What became of a step.
 #[derive(Clone, Copy, PartialEq, Eq)]
 enum Step {
+    /// It is done.
     Done,
+    /// The message would be longer than 1,280 octets.
     TooLong,
 }
 

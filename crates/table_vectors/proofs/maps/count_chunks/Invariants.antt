@@ -1,0 +1,5 @@
+use Rattle.std.proofs.Common.{length}
+use Rattle.table_vectors.proofs.maps.count_chunks.Given as goal
+
+abbrev pub decreases-loop-key : goal.decreases-loop-key
+decreases-loop-key g l = length l.pairs

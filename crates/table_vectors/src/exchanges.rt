@@ -1,0 +1,180 @@
+//! Scripts on tables of exchanges, and the octets that they keep.
+ghost use Rattle.std.specs.Prelude.{◌≡◌, ◌≤◌, IfOk};
+
+use crate::words::put_numbers;
+use exchange_core::{Exchanges, Keyed, Octets, Reply, Token};
+use rd_base::{Moment, Peer, Starved, peer_read};
+use std::alloc::Global;
+use vector_words::{NoAnswer, cut, datagram_of, number_of, put_datagram, yes_or_no};
+
+/// The octets of a word, kept in a room for so many. `Form`: it is no word of octets, or they have no room. `Starved`: out of
+/// memory.
+fn kept<const N: usize>(alloc: Global, word: &str) -> Result<Octets<N>, NoAnswer> {
+    let octets = datagram_of(alloc, word)?;
+    if octets.len() > N {
+        return Err(NoAnswer::Form);
+    }
+    Ok(Octets::of(octets.as_slice()))
+}
+
+/// Writes a copy of a token, or of two whether they are the same. `Form`: it is neither. `Starved`: out of memory.
+pub(crate) fn put_token(page: &mut String, alloc: Global, said: &str) -> Result<(), NoAnswer> {
+    let (first, second) = cut(said);
+    let first: Token = kept(alloc, first)?;
+    if second.is_empty() {
+        put_datagram(page, first.copy().as_slice())?;
+        return Ok(());
+    }
+    let second: Token = kept(alloc, second)?;
+    page.push_str(yes_or_no(first.copy() == second))?;
+    Ok(())
+}
+
+/// Writes a copy of an answer, or of two whether they are the same. `Form`: it is neither. `Starved`: out of memory.
+pub(crate) fn put_reply(page: &mut String, alloc: Global, said: &str) -> Result<(), NoAnswer> {
+    let (first, second) = cut(said);
+    let first: Reply = kept(alloc, first)?;
+    if second.is_empty() {
+        put_datagram(page, first.copy().as_slice())?;
+        return Ok(());
+    }
+    let second: Reply = kept(alloc, second)?;
+    page.push_str(yes_or_no(first.copy() == second))?;
+    Ok(())
+}
+
+/// A table of exchanges, and the last moment that a line named for it.
+#[derive(Drop)]
+pub(crate) struct Writes {
+    /// Where memory comes from.
+    alloc: Global,
+    /// The table.
+    table: Exchanges,
+    /// The moment.
+    now: Moment,
+    ghost in_order: { table.moment ≤ now.0 },
+}
+
+/// A write: its moment, who writes, and its Message ID.
+#[derive(Clone, Copy)]
+struct Write {
+    /// The moment.
+    moment: Moment,
+    /// Who writes.
+    peer: Peer,
+    /// The Message ID.
+    mid: u16,
+}
+
+/// The write that is said, and what is said after it.
+fn write_of(said: &str) -> Result<(Write, &str), NoAnswer> {
+    let (moment, said) = cut(said);
+    let (peer, said) = cut(said);
+    let (mid, said) = cut(said);
+    let moment = Moment(number_of(moment, u64::MAX)?);
+    let mid = number_of(mid, 65_535)? as u16;
+    match peer_read(peer) {
+        Ok(peer) => Ok((Write { moment, peer, mid }, said)),
+        Err(_) => Err(NoAnswer::Form),
+    }
+}
+
+/// Writes how a write is answered.
+fn put_keyed(page: &mut String, keyed: &Keyed) -> Result<(), Starved> {
+    match keyed {
+        Keyed::Fresh => page.push_str("fresh")?,
+        Keyed::InFlight => page.push_str("in flight")?,
+        Keyed::FullExchanges => page.push_str("full")?,
+        Keyed::Kept(reply) => {
+            page.push_str("answered by ")?;
+            put_datagram(page, reply.as_slice())?;
+        }
+    }
+    Ok(())
+}
+
+impl Writes {
+    /// No exchanges. `Starved`: out of memory.
+    pub(crate) fn new(alloc: Global) -> Result<Writes, Starved> {
+        Ok(Writes {
+            alloc,
+            table: Exchanges::make(alloc)?,
+            now: Moment(0),
+        })
+    }
+
+    /// Goes on to a moment. `Form`: it is before the last one.
+    fn go_on(&mut self, moment: Moment) -> Result<(), NoAnswer>
+        ensures { IfOk result (λ _. self.new.now ≡ moment) }
+    {
+        if moment < self.now {
+            return Err(NoAnswer::Form);
+        }
+        self.now = moment;
+        Ok(())
+    }
+
+    /// Admits a write.
+    fn admit(&mut self, page: &mut String, said: &str) -> Result<(), NoAnswer> {
+        let (write, _) = write_of(said)?;
+        self.go_on(write.moment)?;
+        let keyed = self.table.admit_key(self.now, write.peer, write.mid);
+        put_keyed(page, &keyed)?;
+        Ok(())
+    }
+
+    /// Admits writes under so many Message IDs from one on, and writes how many are new.
+    fn admit_many(&mut self, page: &mut String, said: &str) -> Result<(), NoAnswer> {
+        let (write, count) = write_of(said)?;
+        let end = number_of(count, 65_535)? as u16;
+        self.go_on(write.moment)?;
+        let mut fresh = 0;
+        for mid in write.mid..end {
+            if self.table.admit_key(self.now, write.peer, mid) == Keyed::Fresh {
+                fresh = u64::wrapping_add(fresh, 1);
+            }
+        }
+        put_numbers(page, &[fresh])?;
+        Ok(())
+    }
+
+    /// Keeps the answer of a write.
+    fn settle(&mut self, said: &str) -> Result<(), NoAnswer> {
+        let (write, reply) = write_of(said)?;
+        let reply = kept(self.alloc, reply)?;
+        self.table
+            .settle(write.peer, write.mid, write.moment, reply);
+        Ok(())
+    }
+
+    /// Forgets a write.
+    fn forget(&mut self, said: &str) -> Result<(), NoAnswer> {
+        let (write, _) = write_of(said)?;
+        self.table.forget(write.peer, write.mid, write.moment);
+        Ok(())
+    }
+
+    /// Drops the exchanges that are too old at a moment.
+    fn age(&mut self, said: &str) -> Result<(), NoAnswer> {
+        let moment = number_of(said, u64::MAX)?;
+        self.go_on(Moment(moment))?;
+        self.table.age(self.now);
+        Ok(())
+    }
+
+    /// Does what a line says, and writes the answer. `Form`: it says nothing that is done to a table of exchanges, or names a
+    /// moment for a new write that is before the last one. `Starved`: out of memory.
+    pub(crate) fn answer(&mut self, page: &mut String, said: &str) -> Result<(), NoAnswer> {
+        let (verb, rest) = cut(said);
+        match verb {
+            "new" => *self = Writes::new(self.alloc)?,
+            "admit" => self.admit(page, rest)?,
+            "admit_many" => self.admit_many(page, rest)?,
+            "settle" => self.settle(rest)?,
+            "forget" => self.forget(rest)?,
+            "age" => self.age(rest)?,
+            _ => return Err(NoAnswer::Form),
+        }
+        Ok(())
+    }
+}

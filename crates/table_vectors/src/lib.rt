@@ -1,0 +1,17 @@
+//! Scripts of calls on the tables of the directory: maps, queues of leases, the index of attributes, exchanges and watched
+//! queries. A line of a script is the name of a table, what is done to it, and what for; a table stays from line to line.
+#![tactic(auto)]
+
+mod draws;
+mod exchanges;
+mod index;
+mod leases;
+mod maps;
+mod resends;
+mod tables;
+mod values;
+mod versions;
+mod watches;
+mod words;
+
+pub use tables::Tables;

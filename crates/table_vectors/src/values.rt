@@ -1,0 +1,79 @@
+//! Values of maps: numbers, and numbers of which each copy is counted.
+ghost use Rattle.std.specs.Prelude.{◌≡◌, IfOk};
+
+use chunk_map::Shared;
+use rd_base::Starved;
+use std::alloc::Global;
+use std::marker::Model;
+use std::sync::Arc;
+
+/// A value that is told by a number.
+pub(crate) trait MapValue: Shared {
+    /// The value of a number, of the same kind as this one. `Starved`: out of memory.
+    fn of_kind(&self, number: u64) -> Result<Self, Starved>;
+
+    /// The number.
+    fn number(&self) -> u64;
+}
+
+/// A number is told by itself.
+impl MapValue for u64 {
+    fn of_kind(&self, number: u64) -> Result<u64, Starved> {
+        Ok(number)
+    }
+
+    fn number(&self) -> u64 {
+        *self
+    }
+}
+
+/// A number with a mark that all values of a kind have in common, so that their copies can be counted.
+#[derive(Drop)]
+pub(crate) struct Marked {
+    /// The number.
+    number: u64,
+    /// The mark.
+    mark: Arc<u64>,
+}
+
+impl Model for Marked {
+    ghost use Rattle.std.specs.Prelude.{ℕ};
+
+    ghost Value = { ℕ };
+
+    ghost view = { λ m. m.number };
+}
+
+impl Marked {
+    /// A value of a new kind. `Starved`: out of memory.
+    pub(crate) fn first(alloc: Global) -> Result<Marked, Starved> {
+        Ok(Marked {
+            number: 0,
+            mark: Arc::new(alloc, 0)?,
+        })
+    }
+
+    /// How many values of its kind there are.
+    pub(crate) fn copies(&self) -> usize {
+        Arc::strong_count(&self.mark)
+    }
+}
+
+impl Shared for Marked {
+    fn share(&self) -> Result<Marked, Starved> {
+        self.of_kind(self.number)
+    }
+}
+
+impl MapValue for Marked {
+    fn of_kind(&self, number: u64) -> Result<Marked, Starved>
+        ensures { IfOk result (λ value. value ≡ number) }
+    {
+        let mark = Arc::try_clone(&self.mark)?;
+        Ok(Marked { number, mark })
+    }
+
+    fn number(&self) -> u64 {
+        self.number
+    }
+}

@@ -1,0 +1,254 @@
+//! Scripts on tables of watched queries.
+
+use crate::words::put_numbers;
+use rd_base::{
+    Bytes, Criteria, Criterion, Item, Items, Kind, Moment, Name, Pair, Pairs, Query, Record,
+    Starved, Text,
+};
+use std::alloc::Global;
+use std::sync::Arc;
+use vector_words::{NoAnswer, cut, number_of, octets_of, put_octets};
+use watch_table::{WatchFault, WatchTable};
+
+/// Attributes: one of this name and value, or none where the value is empty. `Starved`: out of memory.
+fn pairs_of(alloc: Global, name: &str, value: &str) -> Result<Pairs, Starved> {
+    let mut pairs = Vec::new(alloc);
+    if !value.is_empty() {
+        let name = Text::copy_of(alloc, name)?;
+        let value = Text::copy_of(alloc, value)?;
+        pairs.push(Pair { name, value })?;
+    }
+    Ok(Pairs::of(pairs))
+}
+
+/// A link to a target, with its resource type. `Starved`: out of memory.
+fn item_of(alloc: Global, target: &str, resource_type: &str) -> Result<Item, Starved> {
+    Ok(Item {
+        target_ref: Text::copy_of(alloc, "/s")?,
+        anchor_ref: None,
+        target: Text::copy_of(alloc, target)?,
+        anchor: None,
+        raw: Text::copy_of(alloc, resource_type)?,
+        pairs: pairs_of(alloc, "rt", resource_type)?,
+    })
+}
+
+/// A registration of one link, which is all that is said of it: its target, which is its base too, its resource type, and the
+/// floor where its endpoint stands, if it is said. `Starved`: out of memory.
+fn record_of(alloc: Global, said: &str) -> Result<Record, Starved> {
+    let (target, rest) = said.split_once(';').unwrap_or((said, ""));
+    let (resource_type, floor) = rest.split_once(';').unwrap_or((rest, ""));
+    let mut links = Vec::new(alloc);
+    links.push(item_of(alloc, target, resource_type)?)?;
+    Ok(Record {
+        number: 1,
+        name: Name {
+            ep: Text::copy_of(alloc, "node1")?,
+            sector: None,
+        },
+        lt: 600,
+        granted: Moment(1000),
+        base: Text::copy_of(alloc, target)?,
+        base_given: false,
+        attrs: pairs_of(alloc, "floor", floor)?,
+        items: Items::of(links),
+    })
+}
+
+/// The registration that is said, where one is. `Starved`: out of memory.
+fn some_record(alloc: Global, said: &str) -> Result<Option<Record>, Starved> {
+    if said == "none" {
+        return Ok(None);
+    }
+    Ok(Some(record_of(alloc, said)?))
+}
+
+/// Adds to a query what a word says: `page` or `count` with its number, or a criterion.
+fn ask(query: &mut Query, alloc: Global, word: &str) -> Result<(), NoAnswer> {
+    let Some((name, value)) = word.split_once('=') else {
+        return Err(NoAnswer::Form);
+    };
+    match name {
+        "page" => query.page = Some(number_of(value, 4_294_967_295)? as u32),
+        "count" => query.count = Some(number_of(value, 4_294_967_295)? as u32),
+        _ => query.criteria.push(Criterion {
+            name: Text::copy_of(alloc, name)?,
+            pattern: Text::copy_of(alloc, value)?,
+        })?,
+    }
+    Ok(())
+}
+
+/// The query that is said: `ep` for endpoints and `res` for links, and what is asked for, with spaces between.
+fn query_of(alloc: Global, said: &str) -> Result<Query, NoAnswer> {
+    let (kind, rest) = cut(said);
+    let kind = match kind {
+        "ep" => Kind::Endpoint,
+        "res" => Kind::Resource,
+        _ => return Err(NoAnswer::Form),
+    };
+    let mut query = Query {
+        kind,
+        criteria: Criteria::of(Vec::new(alloc)),
+        page: None,
+        count: None,
+    };
+    for word in rest.split_whitespace() {
+        ask(&mut query, alloc, word)?;
+    }
+    Ok(query)
+}
+
+/// Writes a query as [`query_of`] reads it. `Starved`: out of memory.
+fn put_query(page: &mut String, query: &Query) -> Result<(), Starved> {
+    page.push_str(match query.kind {
+        Kind::Endpoint => "ep",
+        Kind::Resource => "res",
+        Kind::Discovery => "discovery",
+    })?;
+    for criterion in query.criteria.as_slice() {
+        let name = criterion.name.as_str();
+        let pattern = criterion.pattern.as_str();
+        write!(page, " {name}={pattern}")?;
+    }
+    if let Some(number) = query.page {
+        write!(page, " page={number}")?;
+    }
+    if let Some(count) = query.count {
+        write!(page, " count={count}")?;
+    }
+    Ok(())
+}
+
+/// The body that is said. `Starved`: out of memory.
+fn body_of(alloc: Global, said: &str) -> Result<Arc<Bytes>, Starved> {
+    let body = octets_of(alloc, said)?;
+    Ok(Arc::new(alloc, body)?)
+}
+
+/// A table of watched queries.
+#[derive(Drop)]
+pub(crate) struct Watches {
+    /// Where memory comes from.
+    alloc: Global,
+    /// The table.
+    table: WatchTable,
+}
+
+impl Watches {
+    /// No query is watched. `Starved`: out of memory.
+    pub(crate) fn new(alloc: Global) -> Result<Watches, Starved> {
+        Ok(Watches {
+            alloc,
+            table: WatchTable::make(alloc)?,
+        })
+    }
+
+    /// Watches a query, and tells its place; None where there is no room.
+    fn watch(&mut self, instead_of: Option<u32>, query: &Query) -> Result<Option<u32>, Starved> {
+        match self.table.watch(self.alloc, instead_of, query) {
+            Ok(place) => Ok(Some(place)),
+            Err(WatchFault::FullWatches) => Ok(None),
+            Err(WatchFault::Starved) => Err(Starved),
+        }
+    }
+
+    /// Watches a query, in place of what was watched at a place where one is named, and writes its place.
+    fn watch_said(&mut self, page: &mut String, said: &str) -> Result<(), NoAnswer> {
+        let (place, query) = cut(said);
+        let query = query_of(self.alloc, query)?;
+        let instead_of = match place {
+            "-" => None,
+            _ => Some(place_of(place)?),
+        };
+        match self.watch(instead_of, &query)? {
+            Some(place) => put_numbers(page, &[u64::from(place)])?,
+            None => page.push_str("full")?,
+        }
+        Ok(())
+    }
+
+    /// Watches the first pages of one line of the links of a resource type, so many, and writes how many have the place of
+    /// their number.
+    fn watch_pages(&mut self, page: &mut String, said: &str) -> Result<(), NoAnswer> {
+        let count = place_of(said)?;
+        let mut query = query_of(self.alloc, "res rt=lux count=1")?;
+        let mut in_order = 0;
+        for number in 0..count {
+            query.page = Some(number);
+            if self.watch(None, &query)? == Some(number) {
+                in_order = u64::wrapping_add(in_order, 1);
+            }
+        }
+        put_numbers(page, &[in_order])?;
+        Ok(())
+    }
+
+    /// Writes which places are marked.
+    fn put_marked(&self, page: &mut String) -> Result<(), Starved> {
+        let mut places = Vec::new(self.alloc);
+        for place in 0..257 {
+            if self.table.marked(place) {
+                places.push(u64::from(place))?;
+            }
+        }
+        put_numbers(page, places.as_slice())
+    }
+
+    /// Shows a change of a registration, and writes which places are marked then.
+    fn touch(&mut self, page: &mut String, said: &str) -> Result<(), NoAnswer> {
+        let (old, new) = cut(said);
+        let old = some_record(self.alloc, old)?;
+        let new = some_record(self.alloc, new)?;
+        self.table.touched(old.as_ref(), new.as_ref());
+        self.put_marked(page)?;
+        Ok(())
+    }
+
+    /// Writes the body that is kept for a place, or the query that is watched there. `Form`: no body is kept for it.
+    fn read(&self, page: &mut String, verb: &str, said: &str) -> Result<(), NoAnswer> {
+        let place = place_of(said)?;
+        let Some(body) = self.table.body(place) else {
+            page.push_str("none")?;
+            return Ok(());
+        };
+        if verb == "query" {
+            put_query(page, self.table.query(place))?;
+        } else {
+            put_octets(page, body.as_slice())?;
+        }
+        Ok(())
+    }
+
+    /// Sets the body for a place.
+    fn set(&mut self, said: &str) -> Result<(), NoAnswer> {
+        let (place, body) = cut(said);
+        let place = place_of(place)?;
+        self.table.set_body(place, body_of(self.alloc, body)?);
+        Ok(())
+    }
+
+    /// Does what a line says, and writes the answer. `Form`: it says nothing that is done to a table of watched queries.
+    /// `Starved`: out of memory.
+    pub(crate) fn answer(&mut self, page: &mut String, said: &str) -> Result<(), NoAnswer> {
+        let (verb, rest) = cut(said);
+        match verb {
+            "new" => self.table = WatchTable::make(self.alloc)?,
+            "watch" => self.watch_said(page, rest)?,
+            "watch_pages" => self.watch_pages(page, rest)?,
+            "unwatch" => self.table.unwatch(place_of(rest)?),
+            "touch" => self.touch(page, rest)?,
+            "marked" => self.put_marked(page)?,
+            "clear" => self.table.clear(),
+            "set" => self.set(rest)?,
+            "body" | "query" => self.read(page, verb, rest)?,
+            _ => return Err(NoAnswer::Form),
+        }
+        Ok(())
+    }
+}
+
+/// The place that a word names. `Form`: it names none.
+fn place_of(word: &str) -> Result<u32, NoAnswer> {
+    Ok(number_of(word, 4_294_967_295)? as u32)
+}
