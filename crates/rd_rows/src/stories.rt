@@ -1,5 +1,6 @@
 //! A case whose output stands between its steps: each line stands behind the step that writes it.
 ghost use Rattle.std.specs.Prelude.{IfOk};
+ghost use Rattle.line_model.specs.Lines.{IsLine};
 ghost use Rattle.rd_server.specs.Machines.{IsMachine};
 
 use crate::came::Came;
@@ -22,8 +23,20 @@ fn worker_of(line: &Line) -> u8 {
     }
 }
 
-/// Does what a line says, and answers which worker it names. None: the line is bad, and nothing is
-/// done.
+/// Does what a line says, and answers whether it was done. A bad line does nothing.
+fn is_done(machine: &mut Machine, line: Line) -> Result<bool, Starved>
+    requires stands { IsMachine machine.old }
+    requires line { IsLine line }
+    ensures { IfOk result (λ _. IsMachine machine.new) }
+{
+    match machine.perform(line) {
+        Ok(()) => Ok(true),
+        Err(Trouble::Bad(_)) => Ok(false),
+        Err(Trouble::Starved) => Err(Starved),
+    }
+}
+
+/// Does a line of the trace, and answers which worker it names. None: the line is bad.
 fn perform(alloc: Global, machine: &mut Machine, line: &str) -> Result<Option<u8>, Starved>
     requires { IsMachine machine.old }
     ensures { IfOk result (λ _. IsMachine machine.new) }
@@ -34,11 +47,10 @@ fn perform(alloc: Global, machine: &mut Machine, line: &str) -> Result<Option<u8
         Err(_) => return Ok(None),
     };
     let worker = worker_of(&said);
-    match machine.perform(said) {
-        Ok(()) => Ok(Some(worker)),
-        Err(Trouble::Bad(_)) => Ok(None),
-        Err(Trouble::Starved) => Err(Starved),
+    if !is_done(machine, said)? {
+        return Ok(None);
     }
+    Ok(Some(worker))
 }
 
 /// Does a step, and answers what came of it; of the last one also the line that ends the output.

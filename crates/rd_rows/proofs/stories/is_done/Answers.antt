@@ -2,7 +2,7 @@
 use Rattle.std.proofs.Common.{Ok}
 use Rattle.trace_model.specs.Steps.{step_of_line}
 use Rattle.rd_rows.proofs.MachineSteps.{machine_after}
-use Rattle.rd_rows.proofs.stories.perform.Goals as goal
+use Rattle.rd_rows.proofs.stories.is_done.Goals as goal
 
 pub returns-in-Ok : goal.returns-in-Ok
 returns-in-Ok c =
