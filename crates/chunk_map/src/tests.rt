@@ -1,23 +1,13 @@
-//! How full chunks are: no call shows it.
+//! How full chunks of pairs are that are numbers alone: no call shows it.
 
-use crate::levels::{Group, Levels};
-use crate::{ChunkMap, Shared};
+use crate::ChunkMap;
+use crate::levels::{Group, Levels, Section};
 use rd_base::Starved;
 use std::alloc::Global;
 use std::test::Fail;
 
-/// A value that is not plain.
-#[derive(Drop)]
-struct Counted;
-
-impl Shared for Counted {
-    fn share(&self) -> Result<Counted, Starved> {
-        Ok(Counted)
-    }
-}
-
 /// How many chunks groups have.
-fn chunks_in<V: Shared>(groups: &[Group<u64, V>]) -> usize {
+fn chunks_in(groups: &[Group<u64, ()>]) -> usize {
     let mut count = 0;
     for group in groups {
         count = usize::saturating_add(count, group.len());
@@ -25,20 +15,30 @@ fn chunks_in<V: Shared>(groups: &[Group<u64, V>]) -> usize {
     count
 }
 
-/// How many chunks a map has, where these are few.
-fn count_chunks<V: Shared>(map: &ChunkMap<u64, V>) -> usize {
+/// How many chunks sections have.
+fn chunks_of(sections: &[Section<u64, ()>]) -> usize {
+    let mut count = 0;
+    for section in sections {
+        count = usize::saturating_add(count, chunks_in(section.as_slice()));
+    }
+    count
+}
+
+/// How many chunks a map has, which has at most sections.
+fn count_chunks(map: &ChunkMap<u64, ()>) -> usize {
     match map.levels() {
         Levels::Chunks(chunks) => chunks.len(),
         Levels::Groups(groups) => chunks_in(groups.as_slice()),
-        Levels::Sections(_) | Levels::Divisions(_) => usize::MAX,
+        Levels::Sections(sections) => chunks_of(sections.as_slice()),
+        Levels::Divisions(_) => usize::MAX,
     }
 }
 
 /// A map of which most pairs were taken.
-fn mostly_taken<V: Shared>(alloc: Global, value: &V) -> Result<ChunkMap<u64, V>, Starved> {
+fn mostly_taken(alloc: Global) -> Result<ChunkMap<u64, ()>, Starved> {
     let mut map = ChunkMap::empty(alloc)?;
     for key in 0..10_000 {
-        map = map.put(key, value.share()?)?;
+        map = map.put(key, ())?;
     }
     for take in 0..9_900 {
         map = map.take(&(u64::wrapping_mul(take, 7919) % 10_000))?;
@@ -47,10 +47,10 @@ fn mostly_taken<V: Shared>(alloc: Global, value: &V) -> Result<ChunkMap<u64, V>,
 }
 
 /// A map whose keys were put in ascending order.
-fn put_in_order<V: Shared>(alloc: Global, value: &V) -> Result<ChunkMap<u64, V>, Starved> {
+fn put_in_order(alloc: Global) -> Result<ChunkMap<u64, ()>, Starved> {
     let mut map = ChunkMap::empty(alloc)?;
     for key in 0..1_800 {
-        map = map.put(key, value.share()?)?;
+        map = map.put(key, ())?;
     }
     Ok(map)
 }
@@ -69,14 +69,12 @@ fn put_in_runs(alloc: Global) -> Result<ChunkMap<u64, ()>, Starved> {
     Ok(map)
 }
 
-/// Chunks keep 56 pairs of numbers, and 24 others: where pairs were put in ascending order they are
-/// three quarters full on the whole, and at least a quarter wherever pairs were put and taken.
+/// Chunks keep 56 pairs of numbers: where pairs were put in ascending order they are three quarters
+/// full on the whole, and at least a quarter wherever pairs were put and taken.
 #[test]
 fn chunks_are_full(rt: HostRuntime) -> Result<(), Fail> {
-    assert!(rt; count_chunks(&mostly_taken(rt.alloc(), &())?) <= 7);
-    assert!(rt; count_chunks(&put_in_order(rt.alloc(), &())?) <= 43);
+    assert!(rt; count_chunks(&mostly_taken(rt.alloc())?) <= 7);
+    assert!(rt; count_chunks(&put_in_order(rt.alloc())?) <= 43);
     assert!(rt; count_chunks(&put_in_runs(rt.alloc())?) <= 80);
-    assert!(rt; count_chunks(&mostly_taken(rt.alloc(), &Counted)?) <= 16);
-    assert!(rt; count_chunks(&put_in_order(rt.alloc(), &Counted)?) <= 100);
     Ok(())
 }
