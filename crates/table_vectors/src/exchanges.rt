@@ -7,8 +7,8 @@ use rd_base::{Moment, Peer, Starved, peer_read};
 use std::alloc::Global;
 use vector_words::{NoAnswer, cut, datagram_of, number_of, put_datagram, yes_or_no};
 
-/// The octets of a word, kept in a room for so many. `Form`: it is no word of octets, or they have no room. `Starved`: out of
-/// memory.
+/// The octets of a word, kept in a room for so many. `Form`: it is no word of octets, or they
+/// have no room. `Starved`: out of memory.
 fn kept<const N: usize>(alloc: Global, word: &str) -> Result<Octets<N>, NoAnswer> {
     let octets = datagram_of(alloc, word)?;
     if octets.len() > N {
@@ -17,7 +17,8 @@ fn kept<const N: usize>(alloc: Global, word: &str) -> Result<Octets<N>, NoAnswer
     Ok(Octets::of(octets.as_slice()))
 }
 
-/// Writes a copy of a token, or of two whether they are the same. `Form`: it is neither. `Starved`: out of memory.
+/// Writes a copy of a token, or of two whether they are the same. `Form`: it is neither.
+/// `Starved`: out of memory.
 pub(crate) fn put_token(page: &mut String, alloc: Global, said: &str) -> Result<(), NoAnswer> {
     let (first, second) = cut(said);
     let first: Token = kept(alloc, first)?;
@@ -30,7 +31,8 @@ pub(crate) fn put_token(page: &mut String, alloc: Global, said: &str) -> Result<
     Ok(())
 }
 
-/// Writes a copy of an answer, or of two whether they are the same. `Form`: it is neither. `Starved`: out of memory.
+/// Writes a copy of an answer, or of two whether they are the same. `Form`: it is neither.
+/// `Starved`: out of memory.
 pub(crate) fn put_reply(page: &mut String, alloc: Global, said: &str) -> Result<(), NoAnswer> {
     let (first, second) = cut(said);
     let first: Reply = kept(alloc, first)?;
@@ -162,8 +164,9 @@ impl Writes {
         Ok(())
     }
 
-    /// Does what a line says, and writes the answer. `Form`: it says nothing that is done to a table of exchanges, or names a
-    /// moment for a new write that is before the last one. `Starved`: out of memory.
+    /// Does what a line says, and writes the answer. `Form`: it says nothing that is done to a
+    /// table of exchanges, or names a moment for a new write that is before the last one.
+    /// `Starved`: out of memory.
     pub(crate) fn answer(&mut self, page: &mut String, said: &str) -> Result<(), NoAnswer> {
         let (verb, rest) = cut(said);
         match verb {

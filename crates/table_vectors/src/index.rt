@@ -60,7 +60,8 @@ fn asked(index: &AttributeIndex, alloc: Global, said: &str) -> Result<Vec<u64>, 
     Ok(carriers_of(index, alloc, name.as_str(), value.as_str())?)
 }
 
-/// Puts or takes an attribute of a record, and writes who carried its name before and who does then.
+/// Puts or takes an attribute of a record, and writes who carried its name before and who does
+/// then.
 fn change(
     index: &mut AttributeIndex,
     alloc: Global,
@@ -88,8 +89,9 @@ fn change(
     Ok(())
 }
 
-/// Puts or takes the attribute `ct` that a pseudo-random number draws, and tells the checksum of who carries its value then.
-/// Of three changes one is a take; a value is one of twenty from 10 on, and the number of a record below 70.
+/// Puts or takes the attribute `ct` that a pseudo-random number draws, and tells the checksum of
+/// who carries its value then. Of three changes one is a take; a value is one of twenty from 10
+/// on, and the number of a record below 70.
 fn change_drawn(index: &mut AttributeIndex, alloc: Global, drawn: u64) -> Result<u64, Starved> {
     let value = u64::wrapping_add(10, (drawn >> 40) % 20);
     let number = (drawn >> 50) % 70;
@@ -117,8 +119,8 @@ fn change_many(index: &mut AttributeIndex, alloc: Global, said: &str) -> Result<
     Ok(sum)
 }
 
-/// Does what a line says to an index, and writes the answer. `Form`: it says nothing that is done to one. `Starved`: out of
-/// memory.
+/// Does what a line says to an index, and writes the answer. `Form`: it says nothing that is
+/// done to one. `Starved`: out of memory.
 pub(crate) fn answer(indexes: &mut Indexes, page: &mut String, said: &str) -> Result<(), NoAnswer> {
     let (verb, rest) = cut(said);
     if indexes.turn(verb, rest)? {

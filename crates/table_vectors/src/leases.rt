@@ -51,7 +51,8 @@ fn lapsed_at(queue: &LeaseQueue, alloc: Global, said: &str) -> Result<Vec<u64>, 
     Ok(numbers)
 }
 
-/// Sweeps at the moment that is said, and goes on with what is left: the numbers of the leases that had lapsed.
+/// Sweeps at the moment that is said, and goes on with what is left: the numbers of the leases
+/// that had lapsed.
 fn sweep(queue: &mut LeaseQueue, said: &str) -> Result<Vec<u64>, NoAnswer> {
     let now = number_of(said, u64::MAX)?;
     let Swept {
@@ -81,8 +82,9 @@ fn change(
     Ok(())
 }
 
-/// Puts and takes pseudo-random leases, and tells the checksum of how many have lapsed at moment 32 after each change. Of
-/// three changes one is a take; a lapse is below 64, and a number below 32.
+/// Puts and takes pseudo-random leases, and tells the checksum of how many have lapsed at moment
+/// 32 after each change. Of three changes one is a take; a lapse is below 64, and a number below
+/// 32.
 fn change_many(queue: &mut LeaseQueue, said: &str) -> Result<u64, NoAnswer> {
     let [count, seed] = numbers_of::<2>(said)?;
     let mut drawn = seed;
@@ -100,8 +102,8 @@ fn change_many(queue: &mut LeaseQueue, said: &str) -> Result<u64, NoAnswer> {
     Ok(sum)
 }
 
-/// Does what a line says to a queue of leases, and writes the answer. `Form`: it says nothing that is done to one. `Starved`:
-/// out of memory.
+/// Does what a line says to a queue of leases, and writes the answer. `Form`: it says nothing
+/// that is done to one. `Starved`: out of memory.
 pub(crate) fn answer(leases: &mut Leases, page: &mut String, said: &str) -> Result<(), NoAnswer> {
     let (verb, rest) = cut(said);
     if leases.turn(verb, rest)? {

@@ -77,7 +77,8 @@ fn put_pairs(page: &mut String, pairs: &[u64]) -> Result<(), Starved> {
     Ok(())
 }
 
-/// The keys of a walk: the first, and each of the others the one before it and the step more, modulo a number.
+/// The keys of a walk: the first, and each of the others the one before it and the step more,
+/// modulo a number.
 #[derive(Clone, Copy)]
 struct Walk {
     /// The first key.
@@ -125,7 +126,8 @@ fn take_walk<V: MapValue>(map: &mut ChunkMap<u64, V>, walk: Walk) -> Result<(), 
     Ok(())
 }
 
-/// Puts runs of ascending keys, each run right before the last one, with the number of each key as its value.
+/// Puts runs of ascending keys, each run right before the last one, with the number of each key
+/// as its value.
 fn put_runs<V: MapValue>(map: &mut ChunkMap<u64, V>, kind: &V, said: &str) -> Result<(), NoAnswer> {
     let [first, length, count] = numbers_of::<3>(said)?;
     for number in 0..count {
@@ -137,8 +139,8 @@ fn put_runs<V: MapValue>(map: &mut ChunkMap<u64, V>, kind: &V, said: &str) -> Re
     Ok(())
 }
 
-/// Puts or takes a key, and tells what a checksum becomes by the value that is there then, one more than its number, or 0
-/// where none is, and by how many pairs there are.
+/// Puts or takes a key, and tells what a checksum becomes by the value that is there then, one
+/// more than its number, or 0 where none is, and by how many pairs there are.
 fn change_drawn<V: MapValue>(
     map: &mut ChunkMap<u64, V>,
     key: u64,
@@ -156,8 +158,9 @@ fn change_drawn<V: MapValue>(
     Ok(summed(summed(sum, there), map.len()))
 }
 
-/// Puts and takes pseudo-random keys, and tells the checksum of what was there after each change. Of eight changes one is a
-/// take in the first half, and seven in the second. A value is the number of its change.
+/// Puts and takes pseudo-random keys, and tells the checksum of what was there after each
+/// change. Of eight changes one is a take in the first half, and seven in the second. A value is
+/// the number of its change.
 fn change_many<V: MapValue>(
     map: &mut ChunkMap<u64, V>,
     kind: &V,
@@ -268,7 +271,8 @@ impl<V: MapValue> Maps<V> {
         Ok(true)
     }
 
-    /// Does what a line says, and writes the answer. `Form`: it says nothing that is done to a map. `Starved`: out of memory.
+    /// Does what a line says, and writes the answer. `Form`: it says nothing that is done to a
+    /// map. `Starved`: out of memory.
     pub(crate) fn answer(&mut self, page: &mut String, said: &str) -> Result<(), NoAnswer> {
         let (verb, rest) = cut(said);
         match verb {
@@ -295,8 +299,8 @@ fn copied(map: &ChunkMap<u64, Marked>, key: u64, value: &Marked) -> Result<usize
     Ok(usize::saturating_sub(after, before))
 }
 
-/// How many chunks there are, as puts show them: a put copies the values of the chunk where its key stands, and of those
-/// beside it that are joined with it since they are small.
+/// How many chunks there are, as puts show them: a put copies the values of the chunk where its
+/// key stands, and of those beside it that are joined with it since they are small.
 fn count_chunks<L: Ledger>(blank: Blank, map: &ChunkMap<u64, Marked>) -> Result<u64, Starved>
     requires name { blank.name ≡ L.name }
     requires parts { blank.parts ≡ L.parts }
@@ -316,8 +320,8 @@ fn count_chunks<L: Ledger>(blank: Blank, map: &ChunkMap<u64, Marked>) -> Result<
     Ok(chunks)
 }
 
-/// Writes whether there are at most so many chunks, and how many there are where there are more. `Form`: it is no number.
-/// `Starved`: out of memory.
+/// Writes whether there are at most so many chunks, and how many there are where there are more.
+/// `Form`: it is no number. `Starved`: out of memory.
 pub(crate) fn bound_chunks(
     page: &mut String,
     map: &ChunkMap<u64, Marked>,

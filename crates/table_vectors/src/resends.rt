@@ -13,8 +13,9 @@ fn name_of(due: Again) -> &'static str {
     }
 }
 
-/// Does what a line says, and writes the answer: `start` with a moment and the word that the first wait is made from, and
-/// `tick` with a moment. `Form`: it says neither. `Starved`: out of memory.
+/// Does what a line says, and writes the answer: `start` with a moment and the word that the
+/// first wait is made from, and `tick` with a moment. `Form`: it says neither. `Starved`: out of
+/// memory.
 pub(crate) fn answer(resend: &mut Resend, page: &mut String, said: &str) -> Result<(), NoAnswer> {
     let (verb, rest) = cut(said);
     match verb {

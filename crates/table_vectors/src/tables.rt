@@ -52,8 +52,9 @@ impl Tables {
         })
     }
 
-    /// What comes of a line whose first word is `call` and whose others are `said`: what was asked, or `done`. None: the first
-    /// word names no table. `Form`: what is said has not the form of what is done to it. `Starved`: out of memory.
+    /// What comes of a line whose first word is `call` and whose others are `said`: what was
+    /// asked, or `done`. None: the first word names no table. `Form`: what is said has not the
+    /// form of what is done to it. `Starved`: out of memory.
     pub fn answer(&mut self, call: &str, said: &str) -> Result<Option<String>, NoAnswer> {
         let mut page = String::new(self.alloc);
         match call {

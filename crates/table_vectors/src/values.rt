@@ -27,7 +27,8 @@ impl MapValue for u64 {
     }
 }
 
-/// A number with a mark that all values of a kind have in common, so that their copies can be counted.
+/// A number with a mark that all values of a kind have in common, so that their copies can be
+/// counted.
 #[derive(Drop)]
 pub(crate) struct Marked {
     /// The number.

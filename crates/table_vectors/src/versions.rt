@@ -62,7 +62,8 @@ impl<T: Version> Versions<T> {
         Ok(())
     }
 
-    /// Makes a version that is kept the present one. `Form`: no version has this name. `Starved`: out of memory.
+    /// Makes a version that is kept the present one. `Form`: no version has this name.
+    /// `Starved`: out of memory.
     fn go_back(&mut self, name: &str) -> Result<(), NoAnswer> {
         let name = Text::copy_of(self.alloc, name)?;
         let Some(version) = self.kept.get(&name) else {
@@ -72,9 +73,9 @@ impl<T: Version> Versions<T> {
         Ok(())
     }
 
-    /// Does what the verb says, where it is one of those that all tables have: `keep` and `back` with a name, and `share`,
-    /// which goes on with what is shared of the present version. Tells whether it is one. `Form`: no version has this name.
-    /// `Starved`: out of memory.
+    /// Does what the verb says, where it is one of those that all tables have: `keep` and `back`
+    /// with a name, and `share`, which goes on with what is shared of the present version. Tells
+    /// whether it is one. `Form`: no version has this name. `Starved`: out of memory.
     pub(crate) fn turn(&mut self, verb: &str, name: &str) -> Result<bool, NoAnswer> {
         match verb {
             "keep" => self.keep(name)?,

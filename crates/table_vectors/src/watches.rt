@@ -10,7 +10,8 @@ use std::sync::Arc;
 use vector_words::{NoAnswer, cut, number_of, octets_of, put_octets};
 use watch_table::{WatchFault, WatchTable};
 
-/// Attributes: one of this name and value, or none where the value is empty. `Starved`: out of memory.
+/// Attributes: one of this name and value, or none where the value is empty. `Starved`: out of
+/// memory.
 fn pairs_of(alloc: Global, name: &str, value: &str) -> Result<Pairs, Starved> {
     let mut pairs = Vec::new(alloc);
     if !value.is_empty() {
@@ -33,8 +34,9 @@ fn item_of(alloc: Global, target: &str, resource_type: &str) -> Result<Item, Sta
     })
 }
 
-/// A registration of one link, which is all that is said of it: its target, which is its base too, its resource type, and the
-/// floor where its endpoint stands, if it is said. `Starved`: out of memory.
+/// A registration of one link, which is all that is said of it: its target, which is its base
+/// too, its resource type, and the floor where its endpoint stands, if it is said. `Starved`:
+/// out of memory.
 fn record_of(alloc: Global, said: &str) -> Result<Record, Starved> {
     let (target, rest) = said.split_once(';').unwrap_or((said, ""));
     let (resource_type, floor) = rest.split_once(';').unwrap_or((rest, ""));
@@ -79,7 +81,8 @@ fn ask(query: &mut Query, alloc: Global, word: &str) -> Result<(), NoAnswer> {
     Ok(())
 }
 
-/// The query that is said: `ep` for endpoints and `res` for links, and what is asked for, with spaces between.
+/// The query that is said: `ep` for endpoints and `res` for links, and what is asked for, with
+/// spaces between.
 fn query_of(alloc: Global, said: &str) -> Result<Query, NoAnswer> {
     let (kind, rest) = cut(said);
     let kind = match kind {
@@ -153,7 +156,8 @@ impl Watches {
         }
     }
 
-    /// Watches a query, in place of what was watched at a place where one is named, and writes its place.
+    /// Watches a query, in place of what was watched at a place where one is named, and writes
+    /// its place.
     fn watch_said(&mut self, page: &mut String, said: &str) -> Result<(), NoAnswer> {
         let (place, query) = cut(said);
         let query = query_of(self.alloc, query)?;
@@ -168,8 +172,8 @@ impl Watches {
         Ok(())
     }
 
-    /// Watches the first pages of one line of the links of a resource type, so many, and writes how many have the place of
-    /// their number.
+    /// Watches the first pages of one line of the links of a resource type, so many, and writes
+    /// how many have the place of their number.
     fn watch_pages(&mut self, page: &mut String, said: &str) -> Result<(), NoAnswer> {
         let count = place_of(said)?;
         let mut query = query_of(self.alloc, "res rt=lux count=1")?;
@@ -205,7 +209,8 @@ impl Watches {
         Ok(())
     }
 
-    /// Writes the body that is kept for a place, or the query that is watched there. `Form`: no body is kept for it.
+    /// Writes the body that is kept for a place, or the query that is watched there. `Form`: no
+    /// body is kept for it.
     fn read(&self, page: &mut String, verb: &str, said: &str) -> Result<(), NoAnswer> {
         let place = place_of(said)?;
         let Some(body) = self.table.body(place) else {
@@ -228,8 +233,8 @@ impl Watches {
         Ok(())
     }
 
-    /// Does what a line says, and writes the answer. `Form`: it says nothing that is done to a table of watched queries.
-    /// `Starved`: out of memory.
+    /// Does what a line says, and writes the answer. `Form`: it says nothing that is done to a
+    /// table of watched queries. `Starved`: out of memory.
     pub(crate) fn answer(&mut self, page: &mut String, said: &str) -> Result<(), NoAnswer> {
         let (verb, rest) = cut(said);
         match verb {

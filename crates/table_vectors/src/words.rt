@@ -19,7 +19,8 @@ pub(crate) fn numbers_of<const N: usize>(said: &str) -> Result<[u64; N], NoAnswe
     Ok(numbers)
 }
 
-/// Writes numbers with a space between each two, or that there are none. `Starved`: out of memory.
+/// Writes numbers with a space between each two, or that there are none. `Starved`: out of
+/// memory.
 pub(crate) fn put_numbers(page: &mut String, numbers: &[u64]) -> Result<(), Starved> {
     let Some((first, rest)) = numbers.split_first() else {
         return Ok(page.push_str("none")?);
