@@ -32,8 +32,6 @@ go 1003
 out B 61840003|a|ff|registration
 in 1003 B 41020004|a|b2|rd
 out B 61800004|a|ff|query
-tick 61001
-swept 61001
 tick 61002
 swept 61002
 laid 2
