@@ -372,7 +372,7 @@ KINDS = [
     Kind("lookup by a wildcard, fifty listed", lookups("g=f0-*", is_long=True), FEW, CONTENT),
     Kind("lookup of all", lookups("", is_long=True), FEW, CONTENT),
     Kind("the second block of a listing of all that is kept", blocks, MANY, CONTENT),
-    Kind("an observer that joins", joins, MANY, CONTENT),
+    Kind("an observer that joins, one of 64", joins, OBSERVERS, CONTENT),
     Kind("a tick with nothing due", idle_ticks, MANY, CONTENT, answers=0),
     Kind("a tick with 64 notices", notices, FEW, CONTENT, answers=OBSERVERS),
     Kind("a tick that sweeps one", sweeps, FEW, CONTENT, answers=0),
