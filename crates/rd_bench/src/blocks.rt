@@ -1,4 +1,5 @@
-//! The table of transfers: uploads in blocks of two sizes, and kept answers with bodies of two sizes.
+//! The table of transfers: uploads in blocks of two sizes, and kept answers with bodies of two
+//! sizes.
 
 use crate::rows::{Sample, Trouble};
 use message_model::Block;
