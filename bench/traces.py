@@ -372,7 +372,7 @@ KINDS = [
     Kind("lookup by a wildcard, fifty listed", lookups("g=f0-*", is_long=True), FEW, CONTENT),
     Kind("lookup of all", lookups("", is_long=True), FEW, CONTENT),
     Kind("the second block of a listing of all that is kept", blocks, MANY, CONTENT),
-    Kind("an observer that joins", joins, MANY, CONTENT),
+    Kind("an observer that joins, one of 64", joins, OBSERVERS, CONTENT),
     Kind("a tick with nothing due", idle_ticks, MANY, CONTENT, answers=0),
     Kind("a tick with 64 notices", notices, FEW, CONTENT, answers=OBSERVERS),
     Kind("a tick that sweeps one", sweeps, FEW, CONTENT, answers=0),
@@ -471,7 +471,7 @@ def print_table(bench: Bench, unit: str):
     runs = {(kind, size): bench.begin_kind(kind, size) for kind in KINDS for size in SIZES}
     whole = {size: bench.begin([f"--make={devices_of(size)}"]) for size in SIZES}
     head = f"{SIZES[0]:>11,}" + "".join(f"{size:>13,}{'':>9}" for size in SIZES[1:])
-    print(f"{f'rd_replay: {unit} a call, with so many registrations':<52}{head}")
+    print(f"{f'{unit} a call, with so many registrations':<52}{head}".rstrip(), flush=True)
     for kind in KINDS:
         print(row_of(kind.name, [cost_of(kind, runs[kind, size]) for size in SIZES]), flush=True)
     costs = [whole[size].result()[0] / lines_of(devices_of(size)) for size in SIZES]
@@ -479,7 +479,7 @@ def print_table(bench: Bench, unit: str):
 
 
 def peak_memory(program: str, trace: bytes) -> float:
-    """The most memory that a run over a trace had at once, in megabytes."""
+    """The most memory that a run over a trace had at once, in MiB."""
     run([program, "--workers=1"], trace)
     return resource.getrusage(resource.RUSAGE_CHILDREN).ru_maxrss / 1_024
 
@@ -497,7 +497,7 @@ def main():
         print_table(bench, "instructions" if is_counted else "nanoseconds")
     finally:
         bench.pool.shutdown(cancel_futures=True)
-    print(f"memory at most, with {MOST:,} registrations: {memory:.1f} MB")
+    print(f"memory at most, with {MOST:,} registrations: {memory:.1f} MiB")
 
 
 if __name__ == "__main__":

@@ -1,4 +1,5 @@
-//! The table of transfers: uploads in blocks of two sizes, and kept answers with bodies of two sizes.
+//! The table of transfers: uploads in blocks of two sizes, and kept answers with bodies of two
+//! sizes.
 
 use crate::rows::{Sample, Trouble};
 use message_model::Block;
@@ -34,17 +35,23 @@ pub struct Uploads {
     key: Key,
     /// How many octets a block has, 16 or 1,024.
     size: u64,
+    /// The exponent of that size.
+    szx: u8,
+    /// The number of the last block.
+    last: u32,
 }
 
 impl Uploads {
     /// One upload; how many octets the whole has.
     fn upload(&mut self) -> u64 {
-        let (szx, last) = if self.size == 16 { (0, 511) } else { (6, 7) };
         let piece = PIECE.as_slice().get(..self.size as usize).unwrap_or(b"");
         let mut whole = 0;
-        'blocks: for num in 0..=last {
-            let more = num < last;
-            let block = Block { num, more, szx };
+        'blocks: for num in 0..=self.last {
+            let block = Block {
+                num,
+                more: num < self.last,
+                szx: self.szx,
+            };
             let found = self.table.upload(
                 self.alloc,
                 Moment(1_000),
@@ -68,11 +75,14 @@ impl Sample for Uploads {
     fn make(alloc: Global, size: u64) -> Result<Uploads, Trouble> {
         let key = key(alloc)?;
         let table = Transfers::make(alloc)?;
+        let (szx, last) = if size == 16 { (0, 511) } else { (6, 7) };
         Ok(Uploads {
             table,
             alloc,
             key,
             size,
+            szx,
+            last,
         })
     }
 

@@ -67,7 +67,7 @@ fn looks_beside<R: Threads + Wait + Sync>(
 }
 
 /// Measures a look.
-pub fn measure_looks<R: Threads + Wait + Sync>(rt: &HostRuntime, waits: &R) -> Result<(), Trouble> {
+pub fn measure_look<R: Threads + Wait + Sync>(rt: &HostRuntime, waits: &R) -> Result<(), Trouble> {
     let alloc = rt.alloc();
     let mut row = Row::new(alloc);
     let (mut board, mut lookers) = SampleBoard::open(alloc, waits, 1)?;

@@ -1,9 +1,9 @@
 //! `rd_bench`: what calls cost that no trace isolates, at growing sizes. It measures, and never
 //! fails. (`bench/traces.py` measures what a trace can, on `rd_replay`.)
 //!
-//! Times go to standard error, a line for each call: nanoseconds at each size, the least of several
-//! rounds, and in parentheses how many times that at the first size it is. Standard output has what
-//! the calls counted, which is the same in each run.
+//! Times go to standard error, a line for each call: nanoseconds at each size, the least of
+//! several rounds, and in parentheses how many times that at the first size it is. Standard output
+//! has what the calls counted, which is the same in each run.
 #![tactic(auto)]
 
 mod attributes;
@@ -93,7 +93,7 @@ fn measured<R: Threads + Wait + Net + Sync>(rt: &HostRuntime, ends: &R) -> Resul
     registrations_and_listings(rt)?;
     turns::measured(rt, ends)?;
     datagrams::measured(rt, ends)?;
-    looks::measure_looks(rt, ends)?;
+    looks::measure_look(rt, ends)?;
     looks::measure_publishing(rt, ends)
 }
 

@@ -1,5 +1,7 @@
-//! Where published versions come from: an endpoint that registers again and again, at the moments 1, 2, 3 and so on.
-ghost use Rattle.std.specs.Prelude.{◌≡◌, ◌≤◌, ◌^◌, ◌++◌, ◌∷◌, [], ℕ, List, None, IfOk, IsSome, IfSome};
+//! Where published versions come from: an endpoint that registers again and again, at the moments
+//! 1, 2, 3 and so on.
+ghost use Rattle.std.specs.Prelude.{◌≡◌, ◌≤◌, ◌^◌, ◌++◌, ◌∷◌, [], List};
+ghost use Rattle.std.specs.Prelude.{None, IfOk, IsSome, IfSome};
 ghost use Rattle.std.specs.Arc.{arc_value};
 ghost use Rattle.history_model.specs.Versions.{VersionStandsFor};
 ghost use Rattle.history_model.specs.declared.entries.Entry.{Entry};
@@ -42,7 +44,8 @@ fn registered(alloc: Global, last: &Directory, now: Moment) -> Result<Directory,
     requires at { last.now.at ≤ now.0 }
     requires swept { last.now.swept ≤ now.0 }
     requires moment { now.0 ≤ 10 ^ 15 }
-    ensures stands { (history : List Entry) → VersionStandsFor 0 history last.now → IfOk result (VersionStandsFor 0 (history ++ sample_entry now.0 ∷ [])) }
+    ensures stands { (history : List Entry) → VersionStandsFor 0 history last.now →
+        IfOk result (VersionStandsFor 0 (history ++ sample_entry now.0 ∷ [])) }
     ensures swept { IfOk result (λ version. version.swept ≡ last.now.swept) }
 {
     let draft = draft_of(alloc)?;
@@ -64,7 +67,8 @@ pub fn empty(alloc: Global) -> Result<Arc<Directory>, Starved>
 fn publish_at<E: Entering, R: Wait>(rt: &R, publisher: &mut Publisher, now: Moment)
     requires entry { E.entered ≡ sample_entry now.0 }
     requires staged { IsSome publisher.old.staged }
-    requires stands { IfSome publisher.old.staged (VersionStandsFor 0 (publisher.old.told ++ sample_entry now.0 ∷ [])) }
+    requires stands { IfSome publisher.old.staged
+        (VersionStandsFor 0 (publisher.old.told ++ sample_entry now.0 ∷ [])) }
     ensures told { publisher.new.told ≡ publisher.old.told ++ sample_entry now.0 ∷ [] }
     ensures staged { publisher.new.staged ≡ None }
 {
