@@ -99,15 +99,17 @@ pub record Carries (m : Message) (asked : Asked) (history : List Entry) (moment 
   pub block : CarriesBlock m asked.number asked.szx (listing asked.query history moment)
   pub tag : etags_in m ≡ tag history moment ∷ []
 
--- the message was formed by a row, and carries the block that is asked for of the listing from the history up to that row, at the moment of that row;
--- and unless it repeats a body of an earlier row, this history holds all that the worker had seen when it was asked
+-- the message was formed by a row, and carries the block that is asked for of the listing from the
+-- history up to that row, at the moment of that row; and unless it repeats a body of an earlier
+-- row, this history holds all that the worker had seen when it was asked
 pub record FormedAs (here : Placed) (peer : Peer) (m : Message) : Type 0 where
   pub former : Placed
   pub formed : former_at here.row.step.kind peer m.mid here ≡ Some former
   pub asked : Asked
   pub asks : asked_at here.row.step.kind (peer, m.token) here ≡ Some asked
   pub carries : Carries m asked (entries (former.row ∷ former.before)) former.row.moment.0
-  pub holds_seen : repeats_body here.row.step.kind peer m.mid here ≡ false → (asker : Placed) → asker_at here.row.step.kind here ≡ Some asker
+  pub holds_seen : repeats_body here.row.step.kind peer m.mid here ≡ false
+      → (asker : Placed) → asker_at here.row.step.kind here ≡ Some asker
       → IsFront (seen asker) (entries (former.row ∷ former.before))
 
 -- the request is a look that names the tag
@@ -148,8 +150,10 @@ pub record AnswersAsFormed (rows : List Row) : Type 0 where
   pub valid : (before : List Row) (r : Row) → Within rows before r → r.starved ≡ false
       → (code_sent r.sent == codes_of.valid) ≡ (is_look r.step.kind && looks_with_tag (tag (entries before) r.moment.0) (reading r.step.datagram))
 
--- The same of a journal of a desk, whose keeps may have any body and tag: each such 2.05 whose body was formed in a row
--- carries the block that is asked for of the listing, and the tag, of the entries up to the row that formed its body, at the moment of that row.
+-- The same of a journal of a desk, whose keeps may have any body and tag: each such 2.05 whose body
+-- was formed in a row carries the block that is asked for of the listing, and the tag, of the
+-- entries up to the row that formed its body, at the moment of that row.
 pub record DeskAnswersAsFormed (rows : List Row) : Type 0 where
-  pub carried : (sent : Sent rows) → is_listing sent ≡ true → is_formed_in_rows sent.here.row.step.kind sent.here ≡ true
+  pub carried : (sent : Sent rows) → is_listing sent ≡ true
+      → is_formed_in_rows sent.here.row.step.kind sent.here ≡ true
       → FormedAs sent.here sent.peer sent.message

@@ -1,6 +1,7 @@
--- Which row formed the body of a message that a row sends: its own, the look whose job a keep ends, or an earlier one, where a further block is read
--- from a kept answer or a notice is sent again.
-use Rattle.std.specs.Prelude.{ℕ, Bool, true, false, not, ◌&&◌, ◌==◌, List, Option, Some, None, is_some, option_and_then, Result, Ok, Err, if◌then◌else◌}
+-- Which row formed the body of a message that a row sends: its own, the look whose job a keep ends,
+-- or an earlier one, where a further block is read from a kept answer or a notice is sent again.
+use Rattle.std.specs.Prelude.{ℕ, Bool, true, false, not, ◌&&◌, ◌==◌, List, Option, Some, None}
+use Rattle.std.specs.Prelude.{is_some, option_and_then, Result, Ok, Err, if◌then◌else◌}
 use Rattle.std.specs.List.{list_any}
 use Rattle.rd_base.specs.declared.peers.Peer.{Peer}
 use Rattle.message_model.specs.declared.messages.Unread.{Unread}
@@ -34,7 +35,8 @@ last_kept name rows = last_row (λ r. list_any (λ n. is_some (answer_kept name 
 
 -- the row that formed the kept answer of a name
 abbrev pub former_of_kept : RequestName → List Row → Option Placed
-former_of_kept name rows = option_and_then (λ p. former_of_body p.row.step.kind p) (last_kept name rows)
+former_of_kept name rows =
+    option_and_then (λ p. former_of_body p.row.step.kind p) (last_kept name rows)
 
 -- the notice of a peer and a Message ID is formed by the note
 abbrev pub forms_notice : Peer → ℕ → Note → Bool
@@ -50,16 +52,19 @@ abbrev pub reads_answer : RequestName → Note → Bool
 reads_answer name (note.Used peer key) = is_same_request (peer, key) name
 reads_answer name _ = false
 
--- a request for a block with a number above 0 is answered from the kept answer of its own peer and key, which its row notes to read
+-- a request for a block with a number above 0 is answered from the kept answer of its own peer and
+-- key, which its row notes to read
 abbrev pub reads_further_block : Result Message Unread → Placed → Bool
 reads_further_block (Err fault) here = false
-reads_further_block (Ok m) here = is_later_block m && list_any (reads_answer (here.row.step.peer, key_in m)) here.row.notes
+reads_further_block (Ok m) here =
+    is_later_block m && list_any (reads_answer (here.row.step.peer, key_in m)) here.row.notes
 
 -- a row sends a notice again, to a peer under a Message ID
 abbrev pub sends_again : Peer → ℕ → Placed → Bool
 sends_again peer mid here = list_any (is_again_of peer mid) here.row.notes
 
--- what a row sends repeats a body of an earlier row: a further block of a kept answer, or a notice that is sent again
+-- what a row sends repeats a body of an earlier row: a further block of a kept answer, or a notice
+-- that is sent again
 abbrev pub repeats_body : StepKind → Peer → ℕ → Placed → Bool
 repeats_body step.Tick peer mid here = sends_again peer mid here
 repeats_body (step.Keep body tag) peer mid here = false
@@ -70,15 +75,19 @@ abbrev pub former_of_further : Result Message Unread → Placed → Option Place
 former_of_further (Err fault) here = Some here
 former_of_further (Ok m) here = former_of_kept (here.row.step.peer, key_in m) here.before
 
--- the row that formed the body of a message which a row sends to a peer under a Message ID: that row itself; of a keep the look whose job it ends;
--- and of what repeats a body the row that formed this
+-- the row that formed the body of a message which a row sends to a peer under a Message ID: that
+-- row itself; of a keep the look whose job it ends; and of what repeats a body the row that formed
+-- this
 abbrev pub former_at : StepKind → Peer → ℕ → Placed → Option Placed
 former_at (step.Keep body tag) peer mid here = look_of here.row.step.worker here.before
-former_at step.Tick peer mid here = if sends_again peer mid here then former_of_notice peer mid here.before else Some here
+former_at step.Tick peer mid here =
+    if sends_again peer mid here then former_of_notice peer mid here.before else Some here
 former_at _ peer mid here =
-    if reads_further_block (reading here.row.step.datagram) here then former_of_further (reading here.row.step.datagram) here else Some here
+    if reads_further_block (reading here.row.step.datagram) here
+    then former_of_further (reading here.row.step.datagram) here else Some here
 
--- the row in which a worker was asked for what a row sends: that row itself, and of a keep the look whose job it ends
+-- the row in which a worker was asked for what a row sends: that row itself, and of a keep the look
+-- whose job it ends
 abbrev pub asker_at : StepKind → Placed → Option Placed
 asker_at (step.Keep body tag) here = look_of here.row.step.worker here.before
 asker_at _ here = Some here
@@ -98,9 +107,12 @@ is_of_keep (Some p) = is_keep p.row.step.kind
 -- a further block is read from an answer that a keep kept
 abbrev pub reads_body_of_keep : Result Message Unread → Placed → Bool
 reads_body_of_keep (Err fault) here = false
-reads_body_of_keep (Ok m) here = reads_further_block (Ok m) here && is_of_keep (last_kept (here.row.step.peer, key_in m) here.before)
+reads_body_of_keep (Ok m) here =
+    reads_further_block (Ok m) here
+    && is_of_keep (last_kept (here.row.step.peer, key_in m) here.before)
 
--- the body of what a row sends was formed in a row: the row is no keep, and reads no answer that a keep kept
+-- the body of what a row sends was formed in a row: the row is no keep, and reads no answer that a
+-- keep kept
 abbrev pub is_formed_in_rows : StepKind → Placed → Bool
 is_formed_in_rows (step.Keep body tag) here = false
 is_formed_in_rows step.Tick here = true

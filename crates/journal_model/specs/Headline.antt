@@ -15,8 +15,9 @@ pub record Headline (rows : List Row) : Type 0 where
   pub observers : ObserversKnow rows
   pub sends : SendsToWhoAsked rows
 
--- What holds of every journal of a desk, whose looks need not stand in it, and whose keeps may have any body and tag: of its answers what is said
--- of those whose bodies were formed in its rows, and of its datagrams where each look, commit and keep is made for a request and each keep has a tag
+-- What holds of every journal of a desk, whose looks need not stand in it, and whose keeps may have
+-- any body and tag: of its answers what is said of those whose bodies were formed in its rows, and
+-- of its datagrams where each look, commit and keep is made for a request and each keep has a tag
 -- of eight octets.
 pub record DeskHeadline (rows : List Row) : Type 0 where
   pub changes : HoldsEachOnce rows

@@ -50,15 +50,17 @@ pub record AnswersFetch (before : List Row) (s : Step) : Type 0 where
   pub request : Request
   pub fetch : fetch_of s message (events before) ≡ Some request
 
--- a response brings the end of a whole body: it is 2.05, it begins where what was collected ends, no more follows,
--- and nothing of it ends the fetch without a registration
+-- a response brings the end of a whole body: it is 2.05, it begins where what was collected ends,
+-- no more follows, and nothing of it ends the fetch without a registration
 pub record EndsBody (before : List Row) (s : Step) (m : Message) : Type 0 where
   pub content : m.code ≡ codes_of.content
   pub joins : is_elsewhere (block_in m) (length (collected s.peer (events before))) ≡ false
   pub last : more_follow (block_in m) ≡ false
-  pub whole : ends_fetch m (gathered s.peer (events before)) (length (collected s.peer (events before))) ≡ false
+  pub whole : ends_fetch m (gathered s.peer (events before))
+      (length (collected s.peer (events before))) ≡ false
 
--- such a response completed the fetch: it brought the end of a whole body, and its row ends the fetch
+-- such a response completed the fetch: it brought the end of a whole body, and its row ends the
+-- fetch
 pub record IsCompletion (before : List Row) (r : Row) : Type 0 where
   pub answers : AnswersFetch before r.step
   pub body : EndsBody before r.step answers.message
@@ -82,7 +84,8 @@ abbrev pub IsCollected : Option Block → List Row → ℕ → Step → Message 
 IsCollected None rows moment s m collected = collected ≡ []
 IsCollected (Some b) rows moment s m collected = collected_before b (live_upload moment (s.peer, key_in m) (events rows)) ≡ Some collected
 
--- the links are those of the body of a registration, which is whole: its payload, after what is collected before it, and no more follows
+-- the links are those of the body of a registration, which is whole: its payload, after what is
+-- collected before it, and no more follows
 pub record RegistersLinks (rows : List Row) (moment : ℕ) (s : Step) (m : Message) (links : List SubmittedLink) : Type 0 where
   pub last : more_follow (sent_block m) ≡ false
   pub collected : List ℕ
@@ -114,7 +117,8 @@ pub record CompletionMakes (rows : List Row) (s : Step) (what : Change) : Type 0
   pub body : EndsBody rows s answers.message
   pub makes : FetchesChange rows s answers.message answers.request what
 
--- the change is what a step of this kind makes: a commit what its own request asks for, and a datagram that is heard what its fetch was made for
+-- the change is what a step of this kind makes: a commit what its own request asks for, and a
+-- datagram that is heard what its fetch was made for
 abbrev pub IsAskedBy : StepKind → List Row → ℕ → Step → Change → Type 0
 IsAskedBy (step.Commit place) rows moment s what = CommitAsks rows moment s what
 IsAskedBy step.Admit rows moment s what = CompletionMakes rows s what
@@ -149,14 +153,15 @@ pub record AdmittedAt (rows : List Row) (place : ℕ) (s : Step) : Type 0 where
   pub from_peer : row.step.peer ≡ s.peer
   pub datagram : row.step.datagram ≡ s.datagram
 
--- Registrations are the replay of one legal history that holds each accepted request once, despite repeats:
--- a row has at most one entry; an entry stands in the row of a commit, or of a response that completed a fetch with the end of a whole body, and has
--- the moment, the worker and the peer of that row; the change of a commit is the one that its own request asks for, with its last block or a whole body,
--- and that of a response is the one that the fetch was made for;
--- a commit whose answer says that a change was made has exactly one, and any other has none; a commit is of a row
--- that admitted its write, and each admission is committed at most once;
--- and of two admissions with one peer and Message ID that are less than the lifetime of an exchange apart, the earlier ended in 5.00, which was sent,
--- before the later one was made.
+-- Registrations are the replay of one legal history that holds each accepted request once, despite
+-- repeats: a row has at most one entry; an entry stands in the row of a commit, or of a response
+-- that completed a fetch with the end of a whole body, and has the moment, the worker and the peer
+-- of that row; the change of a commit is the one that its own request asks for, with its last block
+-- or a whole body, and that of a response is the one that the fetch was made for; a commit whose
+-- answer says that a change was made has exactly one, and any other has none; a commit is of a row
+-- that admitted its write, and each admission is committed at most once; and of two admissions with
+-- one peer and Message ID that are less than the lifetime of an exchange apart, the earlier ended
+-- in 5.00, which was sent, before the later one was made.
 pub record HoldsEachOnce (rows : List Row) : Type 0 where
   pub legal : IsLegal (entries rows)
   pub single : (before : List Row) (r : Row) → Within rows before r → length (entries_of r) ≤ 1

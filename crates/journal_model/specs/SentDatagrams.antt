@@ -109,7 +109,8 @@ pub record SendsToWhoAsked (rows : List Row) : Type 0 where
   pub formed : (before : List Row) (r : Row) (peer : Peer) (token body : List ℕ) (mid : Option ℕ) → Within rows before r
       → IsAmong r.notes (note.Formed peer token body mid) → SendsFirst r peer token body
 
--- a step that answers what it does not hear first is made for a request, the message in its datagram; and a keep has a tag of eight octets
+-- a step that answers what it does not hear first is made for a request, the message in its
+-- datagram; and a keep has a tag of eight octets
 abbrev pub IsForRequest : StepKind → Message → Type 0
 IsForRequest step.Admit m = Unit {0}
 IsForRequest step.Look m = role_of m.kind m.code ≡ role.Request
@@ -117,6 +118,9 @@ IsForRequest (step.Commit place) m = role_of m.kind m.code ≡ role.Request
 IsForRequest (step.Keep body tag) m = (role_of m.kind m.code ≡ role.Request) × (length tag ≡ 8)
 IsForRequest step.Tick m = Unit {0}
 
--- each look, commit and keep of a journal is made for a request, where its datagram can be read; and each keep has a tag of eight octets
+-- each look, commit and keep of a journal is made for a request, where its datagram can be read;
+-- and each keep has a tag of eight octets
 abbrev pub AreForRequests : List Row → Type 0
-AreForRequests rows = (before : List Row) (r : Row) (m : Message) → Within rows before r → reading r.step.datagram ≡ Ok m → IsForRequest r.step.kind m
+AreForRequests rows =
+    (before : List Row) (r : Row) (m : Message) → Within rows before r
+    → reading r.step.datagram ≡ Ok m → IsForRequest r.step.kind m
