@@ -5,7 +5,8 @@ use Rattle.journal_model.specs.AnswersAsFormed.{AnswersAsFormed}
 use Rattle.journal_model.specs.TagsDecideStates.{TagsDecideStates}
 use Rattle.journal_model.specs.ObserversKnow.{ObserversKnow}
 use Rattle.journal_model.specs.SentDatagrams.{SendsToWhoAsked}
-use Rattle.headline_law.proofs.datagrams.DatagramLaws.{journal-SendsToWhoAsked, desk-SendsToWhoAsked}
+use Rattle.headline_law.proofs.datagrams.DatagramLaws.{journal-SendsToWhoAsked}
+use Rattle.headline_law.proofs.datagrams.DatagramLaws.{desk-SendsToWhoAsked}
 use Rattle.journal_model.specs.Headline.{Headline, DeskHeadline}
 use Rattle.headline_law.proofs.entries.HoldsEachOnce.{journal-HoldsEachOnce, desk-HoldsEachOnce}
 use Rattle.headline_law.proofs.rows.AnswersAsFormed.{answers_as_formed, desk-DeskAnswersAsFormed}

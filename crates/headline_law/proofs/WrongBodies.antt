@@ -1,6 +1,8 @@
--- Rows that send a body of another state than the one that they should: none of them has the headline; and wrong answers of a desk, none of which has what
--- holds of its journals. Beside each datagram its parts are shown: type, code, Message ID, token, options, payload.
-use Rattle.std.proofs.Common.{◌≡◌, ◌⊎◌, inl, inr, ℕ, Bool, true, false, List, [], ◌∷◌, Option, Some, Result, Ok, codes, refl, sym, ap, subst, ◌∙◌, arith}
+-- Rows that send a body of another state than the one that they should: none of them has the
+-- headline; and wrong answers of a desk, none of which has what holds of its journals. Beside each
+-- datagram its parts are shown: type, code, Message ID, token, options, payload.
+use Rattle.std.proofs.Common.{◌≡◌, ◌⊎◌, inl, inr, ℕ, Bool, true, false, List, [], ◌∷◌, Option, Some}
+use Rattle.std.proofs.Common.{Result, Ok, codes, refl, sym, ap, subst, ◌∙◌, arith}
 use Rattle.std.proofs.lemmas.Option.{same_Some}
 use Rattle.message_model.specs.declared.messages.Kind4.TheVariants.{Con}
 use Rattle.message_model.specs.declared.messages.Unread.{Unread}
@@ -34,7 +36,8 @@ use Rattle.headline_law.proofs.WrongRows.{row_of, lookup, answer, sent_first}
 abbrev no_entries : List ℕ
 no_entries = 0 ∷ 0 ∷ 0 ∷ 0 ∷ 0 ∷ 0 ∷ 0 ∷ 0 ∷ []
 
--- ---- the listing of before a change is sent after it, under its tag, as if it were read from the kept answer of another peer
+-- ---- the listing of before a change is sent after it, under its tag, as if it were read from the
+-- kept answer of another peer
 
 -- ACK 2.05 m=0010 t=c1 [4 0000000000000000]
 abbrev old_listing : Message
@@ -42,20 +45,31 @@ old_listing = answer codes_of.content (193 ∷ []) ((table.etag, no_entries) ∷
 
 -- peer 2 had the listing of before the change kept
 abbrev kept_for_another : Row
-kept_for_another = row_of (step.Keep [] no_entries) [] false [] (note.Kept (peer 2) (key_in lookup) [] no_entries ∷ [])
+kept_for_another = row_of (step.Keep [] no_entries) [] false []
+    (note.Kept (peer 2) (key_in lookup) [] no_entries ∷ [])
 
 -- the change
 abbrev changed : Row
-changed = row_of (step.Commit 0) [] false [] (note.Entered (record { moment = record { 0 = 0 }; worker = 0; peer = peer 2; change = change.Remove 1 }) ∷ [])
+changed = row_of (step.Commit 0) [] false []
+    (note.Entered (record {
+      moment = record { 0 = 0 };
+      worker = 0;
+      peer = peer 2;
+      change = change.Remove 1;
+    }) ∷ [])
 
 -- peer 1 looks
 abbrev looked_after : Row
-looked_after = row_of step.Look (spelling lookup) false ((peer 1, spelling old_listing) ∷ []) (note.Used (peer 2) (key_in lookup) ∷ [])
+looked_after = row_of step.Look (spelling lookup) false ((peer 1, spelling old_listing) ∷ [])
+    (note.Used (peer 2) (key_in lookup) ∷ [])
 
 -- An end theorem: nothing here cites it.
 pub old_listing_falls : Headline (looked_after ∷ changed ∷ kept_for_another ∷ []) → ⊥
 unfolding messages_on_literals machine_on_literals
-old_listing_falls h = absurd (let one : ◌≡◌ {A = ℕ} 0 1 = ap sixth (f.carries.tag ∙ ap (λ (p : Placed). tag (entries (p.row ∷ p.before)) p.row.moment.0 ∷ []) (sym former)) in omega (arith, one))
+old_listing_falls h =
+    absurd (let one : ◌≡◌ {A = ℕ} 0 1 = ap sixth (f.carries.tag
+    ∙ ap (λ (p : Placed). tag (entries (p.row ∷ p.before)) p.row.moment.0 ∷ []) (sym former)) in
+    omega (arith, one))
   where
     here : Placed
     here = record { row = looked_after; before = changed ∷ kept_for_another ∷ [] }
@@ -84,12 +98,15 @@ old_listing_falls h = absurd (let one : ◌≡◌ {A = ℕ} 0 1 = ap sixth (f.ca
 
 -- ---- blocks of two states under one tag
 
--- ACK 2.05 m=0010 t=c1 [4 0000000000000000][23 0/1/16] aaaaaaaaaaaaaaaa, and the same with [23 1/0/16] b
+-- ACK 2.05 m=0010 t=c1 [4 0000000000000000][23 0/1/16] aaaaaaaaaaaaaaaa, and the same with [23
+-- 1/0/16] b
 abbrev first_part : Message
-first_part = answer codes_of.content (193 ∷ []) ((table.etag, no_entries) ∷ (table.block2, 8 ∷ []) ∷ []) (codes "aaaaaaaaaaaaaaaa")
+first_part = answer codes_of.content (193 ∷ [])
+    ((table.etag, no_entries) ∷ (table.block2, 8 ∷ []) ∷ []) (codes "aaaaaaaaaaaaaaaa")
 
 abbrev second_part : Message
-second_part = answer codes_of.content (193 ∷ []) ((table.etag, no_entries) ∷ (table.block2, 16 ∷ []) ∷ []) (codes "b")
+second_part = answer codes_of.content (193 ∷ [])
+    ((table.etag, no_entries) ∷ (table.block2, 16 ∷ []) ∷ []) (codes "b")
 
 -- one is sent before a change and the other after it; what the tag says is of neither
 abbrev first_sent : Row
@@ -101,11 +118,13 @@ second_sent = row_of step.Look (spelling lookup) false ((peer 1, spelling second
 abbrev two_states : List Row
 two_states = second_sent ∷ changed ∷ first_sent ∷ []
 
--- the third sentence alone refuses them: at no row of the journal is the listing one of which both are blocks
+-- the third sentence alone refuses them: at no row of the journal is the listing one of which both
+-- are blocks
 -- An end theorem: nothing here cites it.
 pub two_states_fall : TagsDecideStates two_states → ⊥
 unfolding messages_on_literals machine_on_literals history_on_literals
-two_states_fall h = by (within_cases second_sent (changed ∷ first_sent ∷ []) both.before both.row both.within)
+two_states_fall h =
+    by (within_cases second_sent (changed ∷ first_sent ∷ []) both.before both.row both.within)
   where
     one : Sent two_states
     one = record {
@@ -133,18 +152,24 @@ two_states_fall h = by (within_cases second_sent (changed ∷ first_sent ∷ [])
     both = h.answers one other (query_of lookup) refl refl refl refl refl
 
     -- nothing is listed at any of the rows, so what is listed has no such block
-    empty_block : ◌≡◌ {A = Option (List ℕ × Bool)} (Some ([], false)) (Some (codes "aaaaaaaaaaaaaaaa", true)) → ⊥
-    empty_block same = absurd (let no : false ≡ true = ap (λ (part : List ℕ × Bool). part.1) (same_Some ([], false) (codes "aaaaaaaaaaaaaaaa", true) same) in cc)
+    empty_block : ◌≡◌ {A = Option (List ℕ × Bool)} (Some ([], false))
+        (Some (codes "aaaaaaaaaaaaaaaa", true)) → ⊥
+    empty_block same = absurd (let no : false ≡ true =
+        ap (λ (part : List ℕ × Bool). part.1)
+        (same_Some ([], false) (codes "aaaaaaaaaaaaaaaa", true) same) in cc)
 
     -- the listing at a row, which has the first block
     Shows : Row → List Row → Type 0
-    Shows r before = IsBlockOf (asked_block first_part) (listing (query_of lookup) (entries (r ∷ before)) r.moment.0) first_part.payload
+    Shows r before = IsBlockOf (asked_block first_part)
+        (listing (query_of lookup) (entries (r ∷ before)) r.moment.0) first_part.payload
 
     at : (r : Row) (before : List Row) → r ≡ both.row → before ≡ both.before → Shows r before
     at r before same_row same_before =
-        subst (λ (x : Row). Shows x before) (sym same_row) (subst (λ (rows : List Row). Shows both.row rows) (sym same_before) both.first)
+        subst (λ (x : Row). Shows x before) (sym same_row)
+        (subst (λ (rows : List Row). Shows both.row rows) (sym same_before) both.first)
 
-    by : ((second_sent ≡ both.row) × (changed ∷ first_sent ∷ [] ≡ both.before)) ⊎ Within (changed ∷ first_sent ∷ []) both.before both.row → ⊥
+    by : ((second_sent ≡ both.row) × (changed ∷ first_sent ∷ [] ≡ both.before))
+        ⊎ Within (changed ∷ first_sent ∷ []) both.before both.row → ⊥
     by (inl here) = empty_block (at second_sent (changed ∷ first_sent ∷ []) here.0 here.1)
     by (inr further) = elim (within_cases changed (first_sent ∷ []) both.before both.row further) [
       | inl here ↦ empty_block (at changed (first_sent ∷ []) here.0 here.1)
@@ -163,7 +188,8 @@ observing = record {
   code = codes_of.get;
   mid = 16;
   token = 193 ∷ [];
-  options = (table.observe, []) ∷ (table.uri_path, codes "rd-lookup") ∷ (table.uri_path, codes "ep") ∷ [];
+  options = (table.observe, []) ∷ (table.uri_path, codes "rd-lookup") ∷ (table.uri_path, codes "ep")
+      ∷ [];
   payload = [];
 }
 
@@ -172,7 +198,8 @@ abbrev strange_body : Message
 strange_body = answer codes_of.content (193 ∷ []) ((table.etag, no_entries) ∷ []) (codes "a")
 
 abbrev observed_strangely : Row
-observed_strangely = row_of step.Admit (spelling observing) false ((peer 1, spelling strange_body) ∷ []) []
+observed_strangely =
+    row_of step.Admit (spelling observing) false ((peer 1, spelling strange_body) ∷ []) []
 
 -- An end theorem: nothing here cites it.
 pub observed_strangely_falls : DeskHeadline (observed_strangely ∷ []) → ⊥
@@ -183,7 +210,9 @@ observed_strangely_falls h = empty_body carried
     here = record { row = observed_strangely; before = [] }
 
     f : FormedAs here (peer 1) strange_body
-    f = h.answers.carried (sent_first observed_strangely (peer 1) (spelling strange_body) strange_body [] refl refl) refl refl
+    f = h.answers.carried
+        (sent_first observed_strangely (peer 1) (spelling strange_body) strange_body [] refl refl)
+        refl refl
 
     former : here ≡ f.former
     former = same_Some here f.former f.formed
@@ -194,10 +223,14 @@ observed_strangely_falls h = empty_body carried
     query : query_of observing ≡ f.asked.query
     query = ap (λ (a : Asked). a.query) (same_Some asked f.asked f.asks)
 
-    carried : IsBlockOf (asked_block strange_body) (listing (query_of observing) (entries (observed_strangely ∷ [])) 0) strange_body.payload
+    carried : IsBlockOf (asked_block strange_body)
+        (listing (query_of observing) (entries (observed_strangely ∷ [])) 0) strange_body.payload
     carried =
-        subst (λ (q : Query). IsBlockOf (asked_block strange_body) (listing q (entries (observed_strangely ∷ [])) 0) strange_body.payload) (sym query)
-        (subst (λ (p : Placed). IsBlockOf (asked_block strange_body) (listing f.asked.query (entries (p.row ∷ p.before)) p.row.moment.0) strange_body.payload) (sym former) f.carries.block.block)
+        subst (λ (q : Query). IsBlockOf (asked_block strange_body)
+        (listing q (entries (observed_strangely ∷ [])) 0) strange_body.payload) (sym query)
+        (subst (λ (p : Placed). IsBlockOf (asked_block strange_body)
+        (listing f.asked.query (entries (p.row ∷ p.before)) p.row.moment.0)
+        strange_body.payload) (sym former) f.carries.block.block)
 
     empty_body : ◌≡◌ {A = List ℕ} (codes "a") [] → ⊥
     empty_body same = absurd cc
@@ -207,26 +240,32 @@ abbrev misdirected : Message
 misdirected = answer codes_of.not_found (194 ∷ []) [] (codes "path")
 
 abbrev answered_another : Row
-answered_another = row_of step.Admit (spelling lookup) false ((peer 1, spelling misdirected) ∷ []) []
+answered_another = row_of step.Admit (spelling lookup) false
+    ((peer 1, spelling misdirected) ∷ []) []
 
 -- An end theorem: nothing here cites it.
 pub answered_another_falls : DeskHeadline (answered_another ∷ []) → ⊥
 unfolding messages_on_literals
 answered_another_falls h =
     elim it.answers [
-      | inl request ↦ other request.request (same lookup request.request (let read : reading (spelling lookup) ≡ Ok request.request = request.read in read)) request.token
+      | inl request ↦ other request.request
+          (same lookup request.request
+          (let read : reading (spelling lookup) ≡ Ok request.request = request.read in
+          read)) request.token
       | inr repeat ↦ nothing_within repeat.first.before repeat.first.row repeat.within
     ]
   where
     requests : AreForRequests (answered_another ∷ [])
     requests before r m within read = by (within_cases answered_another [] before r within)
       where
-        by : ((answered_another ≡ r) × ([] ≡ before)) ⊎ Within [] before r → IsForRequest r.step.kind m
+        by : ((answered_another ≡ r) × ([] ≡ before)) ⊎ Within [] before r
+            → IsForRequest r.step.kind m
         by (inl here) = subst (λ (x : Row). IsForRequest x.step.kind m) here.0 tt
         by (inr none) = absurd (nothing_within before r none)
 
     it : IsAnswer (record { row = answered_another; before = [] }) (peer 1) misdirected
-    it = (h.sends requests).addressed (sent_first answered_another (peer 1) (spelling misdirected) misdirected [] refl refl) refl
+    it = (h.sends requests).addressed
+        (sent_first answered_another (peer 1) (spelling misdirected) misdirected [] refl refl) refl
 
     same : (m n : Message) → ◌≡◌ {A = Result Message Unread} (Ok m) (Ok n) → m ≡ n
     same m n e = cc
@@ -236,4 +275,6 @@ answered_another_falls h =
     head (c ∷ others) = c
 
     other : (m : Message) → lookup ≡ m → 194 ∷ [] ≡ m.token → ⊥
-    other m is e = absurd (let different : ◌≡◌ {A = ℕ} 194 193 = ap head (e ∙ sym (ap (λ (x : Message). x.token) is)) in omega (arith, different))
+    other m is e = absurd
+        (let different : ◌≡◌ {A = ℕ} 194 193 = ap head (e
+        ∙ sym (ap (λ (x : Message). x.token) is)) in omega (arith, different))

@@ -1,6 +1,7 @@
--- Rows with a wrong entry: none of them has the headline, whatever rows stand before them. Beside each datagram its parts are shown: type, code, Message ID,
--- token, options, payload.
-use Rattle.std.proofs.Common.{◌≡◌, inl, inr, ℕ, true, false, List, [], ◌∷◌, Option, Some, None, Result, Ok, codes, refl, sym, ap, subst, ◌∙◌, arith}
+-- Rows with a wrong entry: none of them has the headline, whatever rows stand before them. Beside
+-- each datagram its parts are shown: type, code, Message ID, token, options, payload.
+use Rattle.std.proofs.Common.{◌≡◌, inl, inr, ℕ, true, false, List, [], ◌∷◌, Option, Some, None}
+use Rattle.std.proofs.Common.{Result, Ok, codes, refl, sym, ap, subst, ◌∙◌, arith}
 use Rattle.std.proofs.lemmas.Bool.{false≢true}
 use Rattle.std.proofs.lemmas.Option.{same_Some}
 use Rattle.rd_base.specs.declared.parameters.RegParams.{RegParams}
@@ -34,7 +35,13 @@ use Rattle.headline_law.proofs.WrongRows.{row_of}
 
 -- a registration of links, at the moment, the worker and the peer of these rows
 abbrev registered : RegParams → List SubmittedLink → Entry
-registered params links = record { moment = record { 0 = 0 }; worker = 0; peer = peer 1; change = change.Register params links }
+registered params links =
+    record {
+      moment = record { 0 = 0 };
+      worker = 0;
+      peer = peer 1;
+      change = change.Register params links;
+    }
 
 -- what is read from the same octets is one message
 same_read : (m n : Message) → ◌≡◌ {A = Result Message Unread} (Ok m) (Ok n) → m ≡ n
@@ -44,21 +51,35 @@ same_read m n e = cc
 
 -- NON 4.04 m=0010 t=01 </a>: what a device answers to a fetch
 abbrev not_found : Message
-not_found = record { kind = Con; code = codes_of.not_found; mid = 16; token = 1 ∷ []; options = []; payload = codes "</a>" }
+not_found = record {
+  kind = Con;
+  code = codes_of.not_found;
+  mid = 16;
+  token = 1 ∷ [];
+  options = [];
+  payload = codes "</a>";
+}
 
 abbrev not_found_entered : RegParams → List SubmittedLink → Row
-not_found_entered params links = row_of step.Admit (spelling not_found) false [] (note.Entered (registered params links) ∷ note.Ceased (peer 1) ∷ [])
+not_found_entered params links =
+    row_of step.Admit (spelling not_found) false []
+    (note.Entered (registered params links) ∷ note.Ceased (peer 1) ∷ [])
 
 -- An end theorem: nothing here cites it.
-pub not_found_entered_falls : (params : RegParams) (links : List SubmittedLink) (before : List Row) → Headline (not_found_entered params links ∷ before) → ⊥
+pub not_found_entered_falls : (params : RegParams) (links : List SubmittedLink) (before : List Row)
+    → Headline (not_found_entered params links ∷ before) → ⊥
 unfolding messages_on_literals
 not_found_entered_falls params links before h =
-    elim (h.changes.origin before (not_found_entered params links) (record { later = []; whole = refl }) (omega arith)) [
+    elim (h.changes.origin before (not_found_entered params links)
+    (record { later = []; whole = refl }) (omega arith)) [
       | inl commit ↦ let no : step.Admit ≡ step.Commit commit.0 = commit.1 in absurd cc
       | inr completion ↦
-          let read : reading (spelling not_found) ≡ Ok completion.answers.message = completion.answers.read in
-          let is : not_found ≡ completion.answers.message = same_read not_found completion.answers.message read in
-          let code : ◌≡◌ {A = ℕ} codes_of.not_found codes_of.content = ap (λ (m : Message). m.code) is ∙ completion.body.content in
+          let read : reading (spelling not_found) ≡ Ok completion.answers.message =
+          completion.answers.read in
+          let is : not_found ≡ completion.answers.message =
+          same_read not_found completion.answers.message read in
+          let code : ◌≡◌ {A = ℕ} codes_of.not_found codes_of.content =
+          ap (λ (m : Message). m.code) is ∙ completion.body.content in
           absurd (omega (arith, code))
     ]
 
@@ -71,31 +92,41 @@ first_block = record {
   code = codes_of.post;
   mid = 16;
   token = 1 ∷ [];
-  options = (table.uri_path, codes "rd") ∷ (table.uri_query, codes "ep=n") ∷ (table.block1, 8 ∷ []) ∷ [];
+  options = (table.uri_path, codes "rd") ∷ (table.uri_query, codes "ep=n") ∷ (table.block1, 8 ∷ [])
+      ∷ [];
   payload = codes "</aaaaaaaaaaaaa>";
 }
 
 abbrev first_block_entered : RegParams → List SubmittedLink → Row
-first_block_entered params links = row_of (step.Commit 0) (spelling first_block) false [] (note.Entered (registered params links) ∷ [])
+first_block_entered params links =
+    row_of (step.Commit 0) (spelling first_block) false []
+    (note.Entered (registered params links) ∷ [])
 
 -- An end theorem: nothing here cites it.
-pub first_block_entered_falls : (params : RegParams) (links : List SubmittedLink) (before : List Row) → Headline (first_block_entered params links ∷ before) → ⊥
+pub first_block_entered_falls : (params : RegParams) (links : List SubmittedLink)
+    (before : List Row) → Headline (first_block_entered params links ∷ before) → ⊥
 unfolding messages_on_literals machine_on_literals
-first_block_entered_falls params links before h = by asks.message asks.asks (same_read first_block asks.message (let read : reading (spelling first_block) ≡ Ok asks.message = asks.read in read))
+first_block_entered_falls params links before h =
+    by asks.message asks.asks
+    (same_read first_block asks.message
+    (let read : reading (spelling first_block) ≡ Ok asks.message = asks.read in read))
   where
     r : Row
     r = first_block_entered params links
 
     it : IsEntryOf before 0 r.step (registered params links)
-    it = h.changes.entry before r (registered params links) (record { later = []; whole = refl }) refl
+    it = h.changes.entry before r (registered params links)
+        (record { later = []; whole = refl }) refl
 
     asks : CommitAsks before 0 r.step (change.Register params links)
     asks = it.asked
 
-    by : (m : Message) → AsksChange (path_in m) before 0 r.step m (change.Register params links) → first_block ≡ m → ⊥
+    by : (m : Message) → AsksChange (path_in m) before 0 r.step m (change.Register params links)
+        → first_block ≡ m → ⊥
     by m change_asked is =
         let own : AsksChange path.Rd before 0 r.step first_block (change.Register params links) =
-        subst (λ (x : Message). AsksChange (path_in x) before 0 r.step x (change.Register params links)) (sym is) change_asked in
+        subst (λ (x : Message). AsksChange (path_in x) before 0 r.step x
+        (change.Register params links)) (sym is) change_asked in
         let last : true ≡ false = own.1.last in
         false≢true (sym last)
 
@@ -114,32 +145,48 @@ with_query = record {
 
 abbrev own_parameters_entered : List SubmittedLink → Row
 own_parameters_entered links =
-    row_of step.Admit (spelling with_query) false [] (note.Entered (registered (registration_values (queries_in with_query)) links) ∷ note.Ceased (peer 1) ∷ [])
+    row_of step.Admit (spelling with_query) false []
+    (note.Entered (registered (registration_values (queries_in with_query)) links)
+    ∷ note.Ceased (peer 1) ∷ [])
 
 -- the fetch runs for a registration with these parameters
 abbrev fetch_runs : RegParams → Row
-fetch_runs params = row_of (step.Commit 0) [] false [] (note.Asked (peer 1) (1 ∷ []) 0 params 0 ∷ [])
+fetch_runs params =
+    row_of (step.Commit 0) [] false [] (note.Asked (peer 1) (1 ∷ []) 0 params 0 ∷ [])
 
 -- An end theorem: nothing here cites it.
-pub own_parameters_entered_fall : (params : RegParams) (links : List SubmittedLink) → (params ≡ registration_values (queries_in with_query) → ⊥) → Headline (own_parameters_entered links ∷ fetch_runs params ∷ []) → ⊥
+pub own_parameters_entered_fall : (params : RegParams) (links : List SubmittedLink)
+    → (params ≡ registration_values (queries_in with_query) → ⊥)
+    → Headline (own_parameters_entered links ∷ fetch_runs params ∷ []) → ⊥
 unfolding messages_on_literals machine_on_literals
-own_parameters_entered_fall params links other h = by makes.answers.message makes.answers.request (same_read with_query makes.answers.message (let read : reading (spelling with_query) ≡ Ok makes.answers.message = makes.answers.read in read)) makes.answers.fetch makes.makes.0
+own_parameters_entered_fall params links other h =
+    by makes.answers.message makes.answers.request
+    (same_read with_query makes.answers.message
+    (let read : reading (spelling with_query) ≡ Ok makes.answers.message = makes.answers.read in
+    read)) makes.answers.fetch makes.makes.0
   where
     r : Row
     r = own_parameters_entered links
 
-    it : IsEntryOf (fetch_runs params ∷ []) 0 r.step (registered (registration_values (queries_in with_query)) links)
-    it = h.changes.entry (fetch_runs params ∷ []) r (registered (registration_values (queries_in with_query)) links) (record { later = []; whole = refl }) refl
+    it : IsEntryOf (fetch_runs params ∷ []) 0 r.step
+        (registered (registration_values (queries_in with_query)) links)
+    it = h.changes.entry (fetch_runs params ∷ []) r
+        (registered (registration_values (queries_in with_query)) links)
+        (record { later = []; whole = refl }) refl
 
-    makes : CompletionMakes (fetch_runs params ∷ []) r.step (change.Register (registration_values (queries_in with_query)) links)
+    makes : CompletionMakes (fetch_runs params ∷ []) r.step
+        (change.Register (registration_values (queries_in with_query)) links)
     makes = it.asked
 
     params_of : Option Request → Option RegParams
     params_of None = None
     params_of (Some request) = Some request.params
 
-    by : (m : Message) (request : Request) → with_query ≡ m → fetch_of r.step m (events (fetch_runs params ∷ [])) ≡ Some request → registration_values (queries_in with_query) ≡ request.params → ⊥
+    by : (m : Message) (request : Request) → with_query ≡ m
+        → fetch_of r.step m (events (fetch_runs params ∷ [])) ≡ Some request
+        → registration_values (queries_in with_query) ≡ request.params → ⊥
     by m request is fetch own =
         let asked : Some params ≡ Some request.params =
-        ap params_of (ap (λ (x : Message). fetch_of r.step x (events (fetch_runs params ∷ []))) is ∙ fetch) in
+        ap params_of (ap (λ (x : Message). fetch_of r.step x (events (fetch_runs params ∷ []))) is
+        ∙ fetch) in
         other (same_Some params request.params asked ∙ sym own)

@@ -241,9 +241,12 @@ two_bodies_fall h =
       message = body_of 98;
       read = refl;
     } in
-    let both : AreBlocksOfOne (two_bodies ∷ []) (query_of lookup) (body_of 97) (body_of 98) = h.tags.answers one other (query_of lookup) refl refl refl refl refl in
-    let first : 97 ∷ [] ≡ listing (query_of lookup) (entries (both.row ∷ both.before)) both.row.moment.0 = both.first in
-    let second : 98 ∷ [] ≡ listing (query_of lookup) (entries (both.row ∷ both.before)) both.row.moment.0 = both.second in
+    let both : AreBlocksOfOne (two_bodies ∷ []) (query_of lookup) (body_of 97) (body_of 98) =
+    h.tags.answers one other (query_of lookup) refl refl refl refl refl in
+    let first : 97 ∷ [] ≡ listing (query_of lookup)
+    (entries (both.row ∷ both.before)) both.row.moment.0 = both.first in
+    let second : 98 ∷ [] ≡ listing (query_of lookup)
+    (entries (both.row ∷ both.before)) both.row.moment.0 = both.second in
     different (ap head (first ∙ sym second))
   where
     head : List ℕ → ℕ

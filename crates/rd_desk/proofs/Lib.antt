@@ -1,7 +1,8 @@
 -- What the desk sends (answers): OutboxLaws, ReplyWriting, AskedLaws, SendingLaws, RefusalLaws, and what looks find (LookLaws).
 -- A step in parts (parts): effects one after the other (EffectLaws), what a journal shows while its last row is made (MakingLaws, FetchLaws), which table a note is about (NoteTopics)
 --   and what it leaves (AsideLaws), a step under way from its beginning to its row (WayLaws), one part more (PartLaws); tables of the empty journal (DeskLaws), writes (WriteLaws),
---   of what datagrams they are (WriteJobLaws) and one that is forgotten in its own row (ForgottenLaws), empty messages (EmptyMessageLaws), keeps (KeepLaws), the row of a look,
+-- of what datagrams they are (WriteJobLaws) and one that is forgotten in its own row
+-- (ForgottenLaws), empty messages (EmptyMessageLaws), keeps (KeepLaws), the row of a look,
 --   which leaves what a desk stands for (LookRows), lookups with the journal
 --   (LookupLaws), and what an admission does and leaves by what it hears (AdmissionLaws, HearingLaws).
 -- The watched queries and their observers (observers): marks that are handed on (MarkLaws), which observer is found (WalkLaws, FoundObservers), each query is watched as often as it

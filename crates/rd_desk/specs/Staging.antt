@@ -17,14 +17,17 @@ staged_after (entry ∷ entries) version before = Some version
 -- where a board tells what is staged, a step with these notes that left this version leaves its
 -- version staged where it made an entry, and stages nothing where it made none; and whether the
 -- board tells it or not, nothing is staged after a step that made none
-abbrev pub LeavesStaged : List Note → Version → Option (Option Version) → Option (Option Version) → Bool → Type 0
+abbrev pub LeavesStaged : List Note → Version → Option (Option Version) → Option (Option Version)
+    → Bool → Type 0
 LeavesStaged notes version before after is_staged =
-    IfSome before (λ staged. after ≡ Some (staged_after (filter_map entry_noted notes) version staged))
+    IfSome before (λ staged. after ≡ Some
+    (staged_after (filter_map entry_noted notes) version staged))
     × (filter_map entry_noted notes ≡ [] → is_staged ≡ false)
 
 -- a part of a step found one version and left another, beside a board: either it entered one entry
 -- and laid the version with it, or it left both as they were, and nothing is staged afterwards
-pub record IsLaid (old new : Version) (before after : Option (Option Version)) (is_staged : Bool) : Type 0 where
+pub record IsLaid (old new : Version) (before after : Option (Option Version))
+    (is_staged : Bool) : Type 0 where
   pub entered : Bool
   pub staged : IfSome before (λ staged. after ≡ Some (if entered then Some new else staged))
   pub kept : entered ≡ false → new ≡ old

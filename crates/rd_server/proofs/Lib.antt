@@ -1,5 +1,6 @@
 -- Texts: Cuts (by a separator), SentLines (of what is sent), LineFeeds (lines), Fronts (the beginnings of a text), WrittenPieces.
--- Steps: DeskSteps (the journal with the row of a step is one of a desk), JobRows (what a worker holds and drew after its own row),
+-- Steps: DeskSteps (the journal with the row of a step is one of a desk), JobRows (what a worker
+-- holds and drew after its own row),
 --   OtherWorkers (what it leaves of the others), WorkerSteps (what the desk made of a call is the step), MachineLaws (the machine after a line), EachWorker (lists by index).
 -- A replay: JournalRuns (its journal is that of its steps), LineDone (one line), Journeys (pieces of a trace), LastLines (its end), ReportLaws (status), ReplayLaws (the whole).
 -- A made trace: MadeCounts (what is counted of its lines).

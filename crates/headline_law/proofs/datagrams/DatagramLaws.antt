@@ -14,8 +14,11 @@ use Rattle.journal_model.specs.Machine.{IsJournal}
 use Rattle.journal_model.specs.DeskJournal.{IsDeskJournal}
 use Rattle.journal_model.specs.BodyFormers.{is_formed_in_rows}
 use Rattle.journal_model.specs.HoldsEachOnce.{AdmittedAt}
-use Rattle.journal_model.specs.AnswersAsFormed.{observer_named, Asked, asked_by_observer, asked_at, answers_lookup, is_content, is_tagged, FormedAs, Sent, is_listing}
-use Rattle.journal_model.specs.SentDatagrams.{is_response, IsAnswer, IsNotice, IsAddressed, SendsToWhoAsked, IsForRequest, AreForRequests}
+use Rattle.journal_model.specs.AnswersAsFormed.{observer_named, Asked, asked_by_observer, asked_at}
+use Rattle.journal_model.specs.AnswersAsFormed.{answers_lookup, is_content, is_tagged, FormedAs}
+use Rattle.journal_model.specs.AnswersAsFormed.{Sent, is_listing}
+use Rattle.journal_model.specs.SentDatagrams.{is_response, IsAnswer, IsNotice, IsAddressed}
+use Rattle.journal_model.specs.SentDatagrams.{SendsToWhoAsked, IsForRequest, AreForRequests}
 use Rattle.journal_model.proofs.RowEquations.{row-step}
 use Rattle.journal_model.proofs.entries.JournalLaws.{Made, each_row, journal-AreRows}
 use Rattle.journal_model.proofs.entries.CommitPlaces.{journal-place}
@@ -25,7 +28,8 @@ use Rattle.headline_law.proofs.rows.AnswersAsFormed.{answer_formed, desk_answer_
 use Rattle.journal_model.proofs.sends.BodyAnswers.{tag-length, same_message}
 use Rattle.journal_model.proofs.observers.ObserversKnow.{IsNoTick}
 use Rattle.journal_model.proofs.datagrams.SentRows.{AllSent, rows_sent}
-use Rattle.journal_model.proofs.datagrams.DatagramRows.{sent-fitting, sent-formed, sent-answer, sent-content, desk_sent}
+use Rattle.journal_model.proofs.datagrams.DatagramRows.{sent-fitting, sent-formed, sent-answer}
+use Rattle.journal_model.proofs.datagrams.DatagramRows.{sent-content, desk_sent}
 
 -- what a look held has a tag of eight octets
 tag_short : (rows : List Row) (worker : ℕ) (m : Message) (body current : List ℕ) → KeepOf rows worker m body current → length current ≡ 8
@@ -73,10 +77,13 @@ named_of : (o : Option Observer) (asked : Asked) → option_map (λ x. asked_by_
 named_of None asked h = absurd (let no : None ≡ Some asked = h in cc)
 named_of (Some x) asked h = (x, refl)
 
--- each response is addressed, where each datagram is known and each notice was formed as the headline says
+-- each response is addressed, where each datagram is known and each notice was formed as the
+-- headline says
 addressed : (rows : List Row) → AllSent rows → (sent : Sent rows)
-    → (sent.here.row.step.kind ≡ step.Tick → is_listing sent ≡ true → FormedAs sent.here sent.peer sent.message)
-    → is_response sent.message ≡ true → IsAddressed sent.here.row.step.kind sent.here sent.peer sent.message
+    → (sent.here.row.step.kind ≡ step.Tick → is_listing sent ≡ true
+    → FormedAs sent.here sent.peer sent.message)
+    → is_response sent.message ≡ true
+    → IsAddressed sent.here.row.step.kind sent.here sent.peer sent.message
 addressed rows all sent formed responds = by sent.here.row.step.kind refl
   where
     answers : IsNoTick sent.here.row.step.kind → IsAnswer sent.here sent.peer sent.message
@@ -100,19 +107,26 @@ addressed rows all sent formed responds = by sent.here.row.step.kind refl
 
 -- so it is of rows of which each datagram is known
 rows-SendsToWhoAsked : (rows : List Row) → AllSent rows
-    → ((sent : Sent rows) → sent.here.row.step.kind ≡ step.Tick → is_listing sent ≡ true → FormedAs sent.here sent.peer sent.message) → SendsToWhoAsked rows
+    → ((sent : Sent rows) → sent.here.row.step.kind ≡ step.Tick → is_listing sent ≡ true
+    → FormedAs sent.here sent.peer sent.message) → SendsToWhoAsked rows
 rows-SendsToWhoAsked rows all formed_so = record {
   fitting = λ datagram. sent-fitting rows all datagram;
   addressed = λ sent responds. addressed rows all sent (formed_so sent) responds;
-  formed = λ before r peer token body mid within among. sent-formed rows all before r peer token body mid within among;
+  formed = λ before r peer token body mid within among. sent-formed rows all before r peer token
+      body mid within among;
 }
 
 -- so it is in each journal of the machine
 pub journal-SendsToWhoAsked : (rows : List Row) → IsJournal rows → SendsToWhoAsked rows
-journal-SendsToWhoAsked rows journal = rows-SendsToWhoAsked rows (journal_sent rows journal) (λ sent tick listed. answer_formed rows journal sent listed)
+journal-SendsToWhoAsked rows journal =
+    rows-SendsToWhoAsked rows (journal_sent rows journal)
+    (λ sent tick listed. answer_formed rows journal sent listed)
 
--- and in each of a desk, where each look, commit and keep is made for a request, and each keep has a tag of eight octets
-pub desk-SendsToWhoAsked : (rows : List Row) → IsDeskJournal rows → AreForRequests rows → SendsToWhoAsked rows
+-- and in each of a desk, where each look, commit and keep is made for a request, and each keep has
+-- a tag of eight octets
+pub desk-SendsToWhoAsked : (rows : List Row) → IsDeskJournal rows → AreForRequests rows
+    → SendsToWhoAsked rows
 desk-SendsToWhoAsked rows journal requests =
     rows-SendsToWhoAsked rows (desk_sent rows journal requests)
-    (λ sent tick listed. desk_answer_formed rows journal sent listed (ap (λ k. is_formed_in_rows k sent.here) tick))
+    (λ sent tick listed. desk_answer_formed rows journal sent listed
+    (ap (λ k. is_formed_in_rows k sent.here) tick))

@@ -1,5 +1,7 @@
 -- An entry has the moment, the worker and the peer of its row, and is the change that its request asks for.
-use Rattle.std.proofs.Common.{◌≡◌, ℕ, ◌+◌, ◌==◌, Bool, true, false, List, [], ◌∷◌, ◌++◌, length, Option, Some, None, Ok, refl, sym, ap, subst, ◌∙◌, eqb-true, nat_lt, nat_le, cond}
+use Rattle.std.proofs.Common.{◌≡◌, ℕ, ◌+◌, ◌==◌, Bool, true, false, List, [], ◌∷◌, ◌++◌, length}
+use Rattle.std.proofs.Common.{Option, Some, None, Ok, refl, sym, ap, subst, ◌∙◌, eqb-true, nat_lt}
+use Rattle.std.proofs.Common.{nat_le, cond}
 use Rattle.std.specs.List.{AllByRecursion}
 use Rattle.rd_base.specs.declared.parameters.RegParams.{RegParams}
 use Rattle.rd_base.specs.declared.submitted_links.SubmittedLink.{SubmittedLink}
@@ -111,12 +113,24 @@ registering-enters rows moment s m = by (sent_block m) refl
     P : Entry → Type 0
     P = OfRequest path.Rd rows moment s m
 
-    taken : (more : Bool) (b : Block) (before : List ℕ) → b.more ≡ more → sent_block m ≡ Some b → collected_before b (live_upload moment (s.peer, key_in m) (events rows)) ≡ Some before
+    taken : (more : Bool) (b : Block) (before : List ℕ) → b.more ≡ more → sent_block m ≡ Some b
+        → collected_before b (live_upload moment (s.peer, key_in m) (events rows)) ≡ Some before
         → AllEnter P (block_taken more rows moment s m b (before ++ m.payload)).notes
     taken true b before last is e = (tt, tt)
     taken false b before last is e =
         registration-enters P (entries rows) moment s (registration_values (queries_in m)) (before ++ m.payload) _ (note.Finished s.peer (key_in m) ∷ [])
-        (λ links read. (refl, (refl, record { last = ap more_follow is ∙ last; collected = before; before = rw is e; read = read }))) (tt, tt)
+        (λ links read. (
+          refl,
+          (
+            refl,
+            record {
+              last = ap more_follow is ∙ last;
+              collected = before;
+              before = rw is e;
+              read = read;
+            },
+          ),
+        )) (tt, tt)
 
     unless : (too_long too_many : Bool) (b : Block) (before : List ℕ) → sent_block m ≡ Some b → collected_before b (live_upload moment (s.peer, key_in m) (events rows)) ≡ Some before
         → AllEnter P (block_unless too_long too_many rows moment s m b (before ++ m.payload)).notes
@@ -133,7 +147,18 @@ registering-enters rows moment s m = by (sent_block m) refl
     by : (b : Option Block) → sent_block m ≡ b → AllEnter P (registration_outcome b rows moment s m).notes
     by None is =
         registration-enters P (entries rows) moment s (registration_values (queries_in m)) m.payload [] []
-        (λ links read. (refl, (refl, record { last = ap more_follow is; collected = []; before = rw is refl; read = read }))) tt
+        (λ links read. (
+          refl,
+          (
+            refl,
+            record {
+              last = ap more_follow is;
+              collected = [];
+              before = rw is refl;
+              read = read;
+            },
+          ),
+        )) tt
     by (Some b) is = after (collected_before b (live_upload moment (s.peer, key_in m) (events rows))) b is refl
 
 -- the method of a code that is none of POST
@@ -188,7 +213,10 @@ commit_enters rows moment place s m = by (path_in m)
 
 -- a response
 response_enters : (rows : List Row) (moment : ℕ) (s : Step) (m : Message) (P : Entry → Type 0)
-    → ((request : Request) (links : List SubmittedLink) → fetch_of s m (events rows) ≡ Some request → EndsBody rows s m → body_read (collected s.peer (events rows) ++ m.payload) ≡ good_body links → P (entry_of_step moment s (change.Register request.params links)))
+    → ((request : Request) (links : List SubmittedLink) → fetch_of s m (events rows) ≡ Some request
+    → EndsBody rows s m
+    → body_read (collected s.peer (events rows) ++ m.payload) ≡ good_body links
+    → P (entry_of_step moment s (change.Register request.params links)))
     → AllEnter P (response_effects rows moment s m).notes
 unfolding response_effects
 response_enters rows moment s m P good = by (fetch_of s m (events rows)) refl
@@ -208,31 +236,45 @@ response_enters rows moment s m P good = by (fetch_of s m (events rows)) refl
     size : ℕ
     size = length (collected s.peer (events rows))
 
-    whole : (request : Request) → fetch_of s m (events rows) ≡ Some request → EndsBody rows s m → AllEnter P (completed rows moment s request (collected s.peer (events rows) ++ m.payload)).notes
+    whole : (request : Request) → fetch_of s m (events rows) ≡ Some request → EndsBody rows s m
+        → AllEnter P (completed rows moment s request
+        (collected s.peer (events rows) ++ m.payload)).notes
     whole request e ended =
         each_append (Enters P) (registration (entries rows) moment s request.params (collected s.peer (events rows) ++ m.payload) [] []).notes (note.Ceased s.peer ∷ [])
-        (registration-enters P (entries rows) moment s request.params (collected s.peer (events rows) ++ m.payload) [] [] (λ links read. good request links e ended read) tt) (tt, tt)
+        (registration-enters P (entries rows) moment s request.params
+        (collected s.peer (events rows) ++ m.payload) [] []
+        (λ links read. good request links e ended read) tt) (tt, tt)
 
-    gathers : (more : Bool) (b : Option Block) (request : Request) → fetch_of s m (events rows) ≡ Some request → (more ≡ false → EndsBody rows s m) → (b ≡ None → more ≡ false)
+    gathers : (more : Bool) (b : Option Block) (request : Request)
+        → fetch_of s m (events rows) ≡ Some request → (more ≡ false → EndsBody rows s m)
+        → (b ≡ None → more ≡ false)
         → AllEnter P (gathering more b rows moment s m request).notes
     gathers more None request e ended one = whole request e (ended (one refl))
     gathers false (Some b) request e ended one = whole request e (ended refl)
     gathers true (Some b) request e ended one = (tt, (tt, tt))
 
-    taken : (elsewhere over : Bool) (request : Request) → fetch_of s m (events rows) ≡ Some request → is_elsewhere (block_in m) size ≡ elsewhere
-        → ends_fetch m (gathered s.peer (events rows)) size ≡ over → AllEnter P (response_taken elsewhere over rows moment s m request).notes
+    taken : (elsewhere over : Bool) (request : Request) → fetch_of s m (events rows) ≡ Some request
+        → is_elsewhere (block_in m) size ≡ elsewhere
+        → ends_fetch m (gathered s.peer (events rows)) size ≡ over
+        → AllEnter P (response_taken elsewhere over rows moment s m request).notes
     taken true over request e joins goes_on = tt
     taken false true request e joins goes_on = (tt, tt)
     taken false false request e joins goes_on =
         gathers (more_follow (block_in m)) (block_in m) request e
-        (λ last_one. record { content = content_of m (gathered s.peer (events rows)) size goes_on; joins = joins; last = last_one; whole = goes_on })
+        (λ last_one. record {
+          content = content_of m (gathered s.peer (events rows)) size goes_on;
+          joins = joins;
+          last = last_one;
+          whole = goes_on;
+        })
         (λ none. ap more_follow none)
 
     by : (request : Option Request) → fetch_of s m (events rows) ≡ request → AllEnter P (response_to_request request rows moment s m).notes
     by None e = foreign m.kind
     by (Some request) e =
         each_append (Enters P) (acknowledgement s m m.kind).notes (response_to rows moment s m request).notes (acknowledged m.kind)
-        (taken (is_elsewhere (block_in m) size) (ends_fetch m (gathered s.peer (events rows)) size) request e refl refl)
+        (taken (is_elsewhere (block_in m) size)
+        (ends_fetch m (gathered s.peer (events rows)) size) request e refl refl)
 
 -- whatever a step enters
 step_enters : (starved : Bool) (rows : List Row) (moment : ℕ) (s : Step) (ns : List Note) → StepNoted s.kind starved rows moment s ns → AllEnter (IsEntryOf rows moment s) ns
@@ -242,14 +284,18 @@ step_enters starved rows moment s ns it = by it
     P = IsEntryOf rows moment s
 
     -- what a commit enters
-    committed : (place : ℕ) → s.kind ≡ step.Commit place → (m : Message) → reading s.datagram ≡ Ok m → (notes : List Note) → AllEnter (OfRequest (path_in m) rows moment s m) notes → AllEnter P notes
+    committed : (place : ℕ) → s.kind ≡ step.Commit place → (m : Message) → reading s.datagram ≡ Ok m
+        → (notes : List Note) → AllEnter (OfRequest (path_in m) rows moment s m) notes
+        → AllEnter P notes
     committed place kind m read [] all = tt
-    committed place kind m read (n ∷ notes) all = (one n all.0, committed place kind m read notes all.1)
+    committed place kind m read (n ∷ notes) all =
+        (one n all.0, committed place kind m read notes all.1)
       where
         one : (x : Note) → Enters (OfRequest (path_in m) rows moment s m) x → Enters P x
         one (note.Entered entry) h = record {
           stamped = h.0;
-          asked = subst (λ (k : StepKind). IsAskedBy k rows moment s entry.change) (sym kind) (record { message = m; read = read; asks = h.1 });
+          asked = subst (λ (k : StepKind). IsAskedBy k rows moment s entry.change) (sym kind)
+              (record { message = m; read = read; asks = h.1 });
         }
         one _ h = tt
 
@@ -261,13 +307,24 @@ step_enters starved rows moment s ns it = by it
     by (noted.response m here read responds is) = subst (AllEnter P) (sym is) (response_enters rows moment s m P
         (λ request links e ended body. record {
           stamped = refl;
-          asked = subst (λ (k : StepKind). IsAskedBy k rows moment s (change.Register request.params links)) (sym here) (record {
-            answers = record { kind = here; message = m; read = read; response = responds; request = request; fetch = e };
-            body = ended;
-            makes = (refl, body);
-          });
+          asked = subst (λ (k : StepKind). IsAskedBy k rows moment s
+              (change.Register request.params links)) (sym here) (record {
+                answers = record {
+                  kind = here;
+                  message = m;
+                  read = read;
+                  response = responds;
+                  request = request;
+                  fetch = e;
+                };
+                body = ended;
+                makes = (refl, body);
+              });
         }))
-    by (noted.commit m place commits read is) = subst (AllEnter P) (sym is) (committed place commits m read (commit_effects rows moment place s m).notes (commit_enters rows moment place s m))
+    by (noted.commit m place commits read is) =
+        subst (AllEnter P) (sym is)
+        (committed place commits m read (commit_effects rows moment place s m).notes
+        (commit_enters rows moment place s m))
     by (noted.failed place commits is) = none_enter P ns (ap entries_in is)
     by (noted.keep m body tag keeps is) = none_enter P ns (ap entries_in is ∙ keep_effects-entries_in s m body tag)
     by (noted.tick ticks is) = none_enter P ns (ap entries_in is ∙ tick_effects-entries_in starved rows moment s)

@@ -1,5 +1,6 @@
 -- What a tick sends carries the listing of the row that formed it, and what is in flight after it is known.
-use Rattle.std.proofs.Common.{◌≡◌, ℕ, ◌||◌, Bool, true, false, cond, List, ◌∷◌, Option, Some, option_map, Ok, refl, sym, ap, ap₂, subst, ◌∙◌}
+use Rattle.std.proofs.Common.{◌≡◌, ℕ, ◌||◌, Bool, true, false, cond, List, ◌∷◌, Option, Some}
+use Rattle.std.proofs.Common.{option_map, Ok, refl, sym, ap, ap₂, subst, ◌∙◌}
 use Rattle.std.proofs.lemmas.Bool.{false≢true}
 use Rattle.std.proofs.lemmas.Option.{same_Some}
 use Rattle.rd_base.specs.declared.peers.Peer.{Peer}
@@ -17,8 +18,11 @@ use Rattle.journal_model.specs.declared.steps.StepKind.TheVariants as step
 use Rattle.journal_model.specs.declared.rows.Row.{Row}
 use Rattle.journal_model.specs.Journal.{events, entries}
 use Rattle.journal_model.specs.PlacedRows.{Placed}
-use Rattle.journal_model.specs.BodyFormers.{reads_further_block, sends_again, repeats_body, former_at, asker_at}
-use Rattle.journal_model.specs.AnswersAsFormed.{seen, is_content, is_tagged, answers_lookup, asked_by_observer, observer_named, asked_at, FormedAs}
+use Rattle.journal_model.specs.BodyFormers.{reads_further_block, sends_again, repeats_body}
+use Rattle.journal_model.specs.BodyFormers.{former_at, asker_at}
+use Rattle.journal_model.specs.AnswersAsFormed.{seen, is_content, is_tagged, answers_lookup}
+use Rattle.journal_model.specs.AnswersAsFormed.{asked_by_observer, observer_named, asked_at}
+use Rattle.journal_model.specs.AnswersAsFormed.{FormedAs}
 use Rattle.journal_model.proofs.entries.JournalLaws.{entries-IsPrefix-row}
 use Rattle.journal_model.proofs.sends.BodyAnswers.{wanted_by_observer, Bears, bears_carries}
 use Rattle.rd_base.proofs.lemmas.Among.{Among, all_among, among_all, find_only}
@@ -31,26 +35,35 @@ Carried here d =
 
 -- ---- what the worker had seen
 
--- unless a body is repeated, the history at the row that formed it holds all that the worker had seen when it was asked
-pub former_holds_seen : (k : StepKind) (peer : Peer) (mid : ℕ) (here former : Placed) → former_at k peer mid here ≡ Some former → repeats_body k peer mid here ≡ false
-    → (asker : Placed) → asker_at k here ≡ Some asker → IsFront (seen asker) (entries (former.row ∷ former.before))
+-- unless a body is repeated, the history at the row that formed it holds all that the worker had
+-- seen when it was asked
+pub former_holds_seen : (k : StepKind) (peer : Peer) (mid : ℕ) (here former : Placed)
+    → former_at k peer mid here ≡ Some former → repeats_body k peer mid here ≡ false
+    → (asker : Placed) → asker_at k here ≡ Some asker
+    → IsFront (seen asker) (entries (former.row ∷ former.before))
 former_holds_seen k peer mid here former formed new asker asks = by k formed new asks
   where
-    one : (p : Placed) → p ≡ former → p ≡ asker → IsFront (seen asker) (entries (former.row ∷ former.before))
+    one : (p : Placed) → p ≡ former → p ≡ asker
+        → IsFront (seen asker) (entries (former.row ∷ former.before))
     one p first second =
-        subst (λ (x : Placed). IsFront (seen x) (entries (former.row ∷ former.before))) (sym first ∙ second) (entries-IsPrefix-row former.before former.row)
+        subst (λ (x : Placed). IsFront (seen x) (entries (former.row ∷ former.before))) (sym first
+        ∙ second) (entries-IsPrefix-row former.before former.row)
 
-    own : (b : Bool) (earlier : Option Placed) → cond b earlier (Some here) ≡ Some former → b ≡ false → Some here ≡ Some asker → IsFront (seen asker) (entries (former.row ∷ former.before))
+    own : (b : Bool) (earlier : Option Placed) → cond b earlier (Some here) ≡ Some former
+        → b ≡ false → Some here ≡ Some asker
+        → IsFront (seen asker) (entries (former.row ∷ former.before))
     own true earlier f n a = absurd (false≢true (sym n))
     own false earlier f n a = one here (same_Some here former f) (same_Some here asker a)
 
-    by : (kind : StepKind) → former_at kind peer mid here ≡ Some former → repeats_body kind peer mid here ≡ false → asker_at kind here ≡ Some asker
+    by : (kind : StepKind) → former_at kind peer mid here ≡ Some former
+        → repeats_body kind peer mid here ≡ false → asker_at kind here ≡ Some asker
         → IsFront (seen asker) (entries (former.row ∷ former.before))
     by (step.Keep body tag) f n a = one former refl (same_Some former asker (sym f ∙ a))
     by step.Tick f n a = own (sends_again peer mid here) _ f n a
     by step.Admit f n a = own (reads_further_block (reading here.row.step.datagram) here) _ f n a
     by step.Look f n a = own (reads_further_block (reading here.row.step.datagram) here) _ f n a
-    by (step.Commit place) f n a = own (reads_further_block (reading here.row.step.datagram) here) _ f n a
+    by (step.Commit place) f n a =
+        own (reads_further_block (reading here.row.step.datagram) here) _ f n a
 
 -- ---- observers
 

@@ -1,5 +1,6 @@
 -- Rows of keeps: what they send and keep was formed by the look whose job they end.
-use Rattle.std.proofs.Common.{◌≡◌, ℕ, ◌≤◌, Bool, true, false, not, cond, List, [], ◌∷◌, length, Some, None, Ok, refl, sym, ap, subst, ◌∙◌}
+use Rattle.std.proofs.Common.{◌≡◌, ℕ, ◌≤◌, Bool, true, false, not, cond, List, [], ◌∷◌, length}
+use Rattle.std.proofs.Common.{Some, None, Ok, refl, sym, ap, subst, ◌∙◌}
 use Rattle.std.specs.Prelude.{is_none, option_map}
 use Rattle.std.specs.List.{AllByRecursion}
 use Rattle.std.proofs.lemmas.Bool.{false≢true, and_parts}
@@ -27,7 +28,8 @@ use Rattle.journal_model.specs.Looks.{names_tag, unless_long, unless_valid, look
 use Rattle.journal_model.specs.Rows.{effects, row_moment, row}
 use Rattle.journal_model.specs.Machine.{Job, job_of, MayBegin, hears, goes, ticks, is_look_datagram, is_look_reading, IsJournal}
 use Rattle.journal_model.specs.PlacedRows.{Placed}
-use Rattle.journal_model.specs.BodyFormers.{look_of, former_of_body, former_at, is_keep, is_formed_in_rows}
+use Rattle.journal_model.specs.BodyFormers.{look_of, former_of_body, former_at, is_keep}
+use Rattle.journal_model.specs.BodyFormers.{is_formed_in_rows}
 use Rattle.journal_model.specs.AnswersAsFormed.{asked_at, Carries}
 use Rattle.journal_model.proofs.EntriesNoted.{entries_in}
 use Rattle.journal_model.proofs.StepNotes.{keep_effects-notes}
@@ -173,13 +175,28 @@ keep_of rows s m body current journal may kind read = record {
         subst (λ x. only_looks x ≡ true) same (look_only looks_at.message looks_at.looks)
 
 -- any row of a keep
--- of a journal in which it is known to end a look; of any other nothing is said of what it sends and keeps
-pub keep_row : (keeps : Bool) (rows : List Row) (r : Row) (m : Message) (body current : List ℕ) → (keeps ≡ true → KeepOf rows r.step.worker m body current) → r.step.kind ≡ step.Keep body current → reading r.step.datagram ≡ Ok m
-    → r.sent ≡ (keep_effects r.step m body current).sent → r.notes ≡ (keep_effects r.step m body current).notes → RowCarries keeps rows r
+-- of a journal in which it is known to end a look; of any other nothing is said of what it sends
+-- and keeps
+pub keep_row : (keeps : Bool) (rows : List Row) (r : Row) (m : Message) (body current : List ℕ)
+    → (keeps ≡ true → KeepOf rows r.step.worker m body current)
+    → r.step.kind ≡ step.Keep body current → reading r.step.datagram ≡ Ok m
+    → r.sent ≡ (keep_effects r.step m body current).sent
+    → r.notes ≡ (keep_effects r.step m body current).notes → RowCarries keeps rows r
 keep_row true rows r m body current ends kind read sent notes = record {
-  carried = λ _. subst (AllByRecursion (Carried here)) (sym sent) (each_weaker (IsAnswerOf r.step.peer (wanted_by m) body current) (Carried here) one (keep_effects r.step m body current).sent (keep_bears r.step m body current small short));
-  noted = λ _. subst (AllByRecursion (NoteAsFormed here)) (sym (notes ∙ keep_effects-notes r.step m body current)) (record { former = it.look; formed = ap (λ k. former_of_body k here) kind ∙ it.found; is_kept = it.is_kept }, tt);
-  asking = subst (AllByRecursion (OfWatched IsAsking)) (sym (notes ∙ keep_effects-notes r.step m body current)) (tt, tt);
+  carried = λ _. subst (AllByRecursion (Carried here)) (sym sent)
+      (each_weaker (IsAnswerOf r.step.peer (wanted_by m) body current) (Carried here) one
+      (keep_effects r.step m body current).sent (keep_bears r.step m body current small short));
+  noted = λ _. subst (AllByRecursion (NoteAsFormed here))
+      (sym (notes ∙ keep_effects-notes r.step m body current)) (
+        record {
+          former = it.look;
+          formed = ap (λ k. former_of_body k here) kind ∙ it.found;
+          is_kept = it.is_kept;
+        },
+        tt,
+      );
+  asking = subst (AllByRecursion (OfWatched IsAsking))
+      (sym (notes ∙ keep_effects-notes r.step m body current)) (tt, tt);
 }
   where
     here : Placed
@@ -210,7 +227,10 @@ keep_row true rows r m body current ends kind read sent notes = record {
           (subst (λ b. Bears (wanted_by m) b current n) it.is_kept.body_is (bears.1 n e listed))));
     }
 keep_row false rows r m body current ends kind read sent notes = record {
-  carried = λ known. absurd (false≢true (sym (ap (λ k. is_formed_in_rows k (record { row = r; before = rows })) kind) ∙ known));
+  carried = λ known. absurd
+      (false≢true (sym (ap (λ k. is_formed_in_rows k (record { row = r; before = rows })) kind)
+      ∙ known));
   noted = λ known. absurd (false≢true (sym (ap (λ k. not (is_keep k)) kind) ∙ known));
-  asking = subst (AllByRecursion (OfWatched IsAsking)) (sym (notes ∙ keep_effects-notes r.step m body current)) (tt, tt);
+  asking = subst (AllByRecursion (OfWatched IsAsking))
+      (sym (notes ∙ keep_effects-notes r.step m body current)) (tt, tt);
 }

@@ -1,5 +1,7 @@
 -- Rows of lookups: what they send was formed as the headline says, also where it is read from a kept answer.
-use Rattle.std.proofs.Common.{◌≡◌, ℕ, ◌≤◌, ◌||◌, Bool, true, false, not, cond, List, [], ◌∷◌, length, Option, Some, None, option_and_then, Ok, refl, sym, ap, subst, ◌∙◌}
+use Rattle.std.proofs.Common.{◌≡◌, ℕ, ◌≤◌, ◌||◌, Bool, true, false, not, cond, List, [], ◌∷◌}
+use Rattle.std.proofs.Common.{length, Option, Some, None, option_and_then, Ok, refl, sym, ap, subst}
+use Rattle.std.proofs.Common.{◌∙◌}
 use Rattle.std.specs.Prelude.{is_some}
 use Rattle.std.specs.List.{list_any, AllByRecursion}
 use Rattle.std.proofs.lemmas.Bool.{false≢true}
@@ -23,17 +25,25 @@ use Rattle.journal_model.specs.Journal.{is_heard, events, entries}
 use Rattle.journal_model.specs.Requests.{query_of, is_lookup, is_later_block}
 use Rattle.journal_model.specs.Lookups.{lookup_effects}
 use Rattle.journal_model.specs.PlacedRows.{Placed}
-use Rattle.journal_model.specs.BodyFormers.{former_of_body, former_of_kept, reads_answer, reads_further_block, former_of_further, former_at, last_kept, is_keep, is_of_keep, reads_body_of_keep, is_formed_in_rows}
+use Rattle.journal_model.specs.BodyFormers.{former_of_body, former_of_kept, reads_answer}
+use Rattle.journal_model.specs.BodyFormers.{reads_further_block, former_of_further, former_at}
+use Rattle.journal_model.specs.BodyFormers.{last_kept, is_keep, is_of_keep, reads_body_of_keep}
+use Rattle.journal_model.specs.BodyFormers.{is_formed_in_rows}
 use Rattle.journal_model.specs.AnswersAsFormed.{Carries}
 use Rattle.journal_model.proofs.EntriesNoted.{entries_in}
 use Rattle.journal_model.proofs.entries.QuietSteps.{lookup_effects-entries_in}
 use Rattle.message_model.proofs.ReadingLaws.{header_read}
 use Rattle.journal_model.proofs.sends.BodyAnswers.{wanted_by, asking, Bears, tag-length, bears_carries}
-use Rattle.headline_law.proofs.sends.LookupSends.{IsAnswerOf, AreListings, AreBodiesOf, reads_kept, LookupOutcome, now, kept, lookup_outcome}
+use Rattle.headline_law.proofs.sends.LookupSends.{IsAnswerOf, AreListings, AreBodiesOf, reads_kept}
+use Rattle.headline_law.proofs.sends.LookupSends.{LookupOutcome, now, kept, lookup_outcome}
 use Rattle.journal_model.proofs.EventRows.{AllRows, row_of, row_within, said_by}
 use Rattle.journal_model.proofs.notes.LookupNotes.{asks_once, lookup_fits, KeptAt, NotesAsAsked, lookup_notes_as_asked}
 use Rattle.headline_law.proofs.flights.CarriedListings.{Carried, former_holds_seen}
-use Rattle.headline_law.proofs.rows.RowCarries.{KeptAsFormed, NoteAsFormed, RowCarries, asks_as_noted, heard_former, heard_asked, asked_in-own, lookup_no_discovery, heard_forms_itself, now_carried, own_notes_as_formed}
+use Rattle.headline_law.proofs.rows.RowCarries.{KeptAsFormed, NoteAsFormed, RowCarries}
+use Rattle.headline_law.proofs.rows.RowCarries.{asks_as_noted, heard_former, heard_asked}
+use Rattle.headline_law.proofs.rows.RowCarries.{asked_in-own, lookup_no_discovery}
+use Rattle.headline_law.proofs.rows.RowCarries.{heard_forms_itself, now_carried}
+use Rattle.headline_law.proofs.rows.RowCarries.{own_notes_as_formed}
 use Rattle.rd_base.proofs.lemmas.Among.{all_among}
 use Rattle.journal_model.proofs.entries.JournalLaws.{entries-none_noted}
 use Rattle.rd_base.proofs.lemmas.Each.{each_weaker}
@@ -72,13 +82,17 @@ pub record KeptFrom (rows : List Row) (name : RequestName) (answer : Answer) : T
 
 -- so it is of each kept answer that lives
 -- where the keeps are known, or none kept it
-pub kept_from : (keeps : Bool) (rows : List Row) (moment : ℕ) (name : RequestName) (answer : Answer) → AllRows (RowCarries keeps) rows → (keeps || not (is_of_keep (last_kept name rows))) ≡ true
+pub kept_from : (keeps : Bool) (rows : List Row) (moment : ℕ) (name : RequestName) (answer : Answer)
+    → AllRows (RowCarries keeps) rows → (keeps || not (is_of_keep (last_kept name rows))) ≡ true
     → kept_answer moment name (events rows) ≡ Some answer → KeptFrom rows name answer
 kept_from keeps rows moment name answer all known e =
     let found = said_by (answer_kept name) (events rows) answer (was_kept moment name (events rows) answer e) in
     let it = row_of (λ n. is_some (answer_kept name n)) rows found.0 found.1 in
-    let formed_so : (keeps || not (is_keep it.placed.row.step.kind)) ≡ true = subst (λ (o : Option Placed). (keeps || not (is_of_keep o)) ≡ true) it.last known in
-    let noted = all_among (NoteAsFormed it.placed) found.0.note it.placed.row.notes ((row_within (RowCarries keeps) rows it.placed.before it.placed.row all it.within).noted formed_so) it.note in
+    let formed_so : (keeps || not (is_keep it.placed.row.step.kind)) ≡ true =
+    subst (λ (o : Option Placed). (keeps || not (is_of_keep o)) ≡ true) it.last known in
+    let noted = all_among (NoteAsFormed it.placed) found.0.note it.placed.row.notes
+    ((row_within (RowCarries keeps) rows it.placed.before it.placed.row all it.within).noted
+    formed_so) it.note in
     let by = kept_note it.placed name answer found.0.note noted found.2 in
     record {
       former = by.former;
@@ -89,7 +103,8 @@ kept_from keeps rows moment name answer all known e =
 -- ---- a row of a lookup
 
 -- one that reads a kept answer
-used_carried : (rows : List Row) (r : Row) (m : Message) (answer : Answer) → is_later_block m ≡ true → is_heard r.step.kind ≡ true → reading r.step.datagram ≡ Ok m → is_lookup (path_in m) ≡ true
+used_carried : (rows : List Row) (r : Row) (m : Message) (answer : Answer) → is_later_block m ≡ true
+    → is_heard r.step.kind ≡ true → reading r.step.datagram ≡ Ok m → is_lookup (path_in m) ≡ true
     → r.notes ≡ note.Used r.step.peer (key_in m) ∷ [] → KeptFrom rows (r.step.peer, key_in m) answer → AreBodiesOf r.step.peer (wanted_by m) answer.body answer.tag r.sent → AllByRecursion (Carried (record { row = r; before = rows })) r.sent
 used_carried rows r m answer further heard read lookup notes from all =
     each_weaker (IsAnswerOf r.step.peer (wanted_by m) answer.body answer.tag) (Carried (record { row = r; before = rows })) one r.sent all
@@ -102,10 +117,15 @@ used_carried rows r m answer further heard read lookup notes from all =
 
     reads : reads_further_block (reading r.step.datagram) here ≡ true
     reads = ap (λ read_as. reads_further_block read_as here) read
-        ∙ rw (further, ap (list_any (reads_answer (r.step.peer, key_in m))) notes, is_same_request-refl (r.step.peer, key_in m)) refl
+        ∙ rw (
+          further,
+          ap (list_any (reads_answer (r.step.peer, key_in m))) notes,
+          is_same_request-refl (r.step.peer, key_in m),
+        ) refl
 
     formed : (peer : Peer) (mid : ℕ) → former_at r.step.kind peer mid here ≡ Some from.former
-    formed peer mid = heard_former r.step.kind peer mid here heard ∙ rw reads (ap (λ read_as. former_of_further read_as here) read ∙ from.formed)
+    formed peer mid = heard_former r.step.kind peer mid here heard
+        ∙ rw reads (ap (λ read_as. former_of_further read_as here) read ∙ from.formed)
 
     one : (d : Peer × List ℕ) → IsAnswerOf r.step.peer (wanted_by m) answer.body answer.tag d → Carried (record { row = r; before = rows }) d
     one d body n e listed _ = record {
@@ -121,10 +141,14 @@ used_carried rows r m answer further heard read lookup notes from all =
     }
 
 -- any row of a lookup
-pub lookup_row : (keeps : Bool) (rows : List Row) (r : Row) (m : Message) → AllRows (RowCarries keeps) rows → is_heard r.step.kind ≡ true → reading r.step.datagram ≡ Ok m → is_lookup (path_in m) ≡ true
-    → r.sent ≡ (lookup_effects rows r.moment.0 r.step m).sent → r.notes ≡ (lookup_effects rows r.moment.0 r.step m).notes → RowCarries keeps rows r
+pub lookup_row : (keeps : Bool) (rows : List Row) (r : Row) (m : Message)
+    → AllRows (RowCarries keeps) rows → is_heard r.step.kind ≡ true → reading r.step.datagram ≡ Ok m
+    → is_lookup (path_in m) ≡ true
+    → r.sent ≡ (lookup_effects rows r.moment.0 r.step m).sent
+    → r.notes ≡ (lookup_effects rows r.moment.0 r.step m).notes → RowCarries keeps rows r
 lookup_row keeps rows r m all heard read lookup sent notes = record {
-  carried = λ known. by known (lookup_outcome rows r.moment.0 r.step m small (lookup_no_discovery (path_in m) lookup));
+  carried = λ known. by known
+      (lookup_outcome rows r.moment.0 r.step m small (lookup_no_discovery (path_in m) lookup));
   noted = λ _. own;
   asking = asks_as_noted here r.notes own;
 }
@@ -139,24 +163,41 @@ lookup_row keeps rows r m all heard read lookup sent notes = record {
     same_entries = entries-none_noted rows r (ap entries_in notes ∙ lookup_effects-entries_in rows r.moment.0 r.step m)
 
     own : AllByRecursion (NoteAsFormed here) r.notes
-    own = own_notes_as_formed rows r (heard_forms_itself r.step.kind (record { row = r; before = rows }) heard) same_entries r.notes (subst (NotesAsAsked rows r.moment.0) (sym notes) (lookup_notes_as_asked rows r.moment.0 r.step m lookup small))
+    own = own_notes_as_formed rows r
+        (heard_forms_itself r.step.kind (record { row = r; before = rows }) heard) same_entries
+        r.notes (subst (NotesAsAsked rows r.moment.0) (sym notes)
+        (lookup_notes_as_asked rows r.moment.0 r.step m lookup small))
 
-    reads_of : reads_further_block (Ok m) here ≡ true → reads_body_of_keep (reading r.step.datagram) here ≡ is_of_keep (last_kept (r.step.peer, key_in m) rows)
+    reads_of : reads_further_block (Ok m) here ≡ true
+        → reads_body_of_keep (reading r.step.datagram) here ≡ is_of_keep
+        (last_kept (r.step.peer, key_in m) rows)
     reads_of reads = ap (λ read_as. reads_body_of_keep read_as here) read ∙ rw reads refl
 
     -- what is read was kept by a row that is known
-    known_by : (k : StepKind) → is_heard k ≡ true → (keeps || is_formed_in_rows k here) ≡ true → reads_further_block (Ok m) here ≡ true → (keeps || not (is_of_keep (last_kept (r.step.peer, key_in m) rows))) ≡ true
+    known_by : (k : StepKind) → is_heard k ≡ true → (keeps || is_formed_in_rows k here) ≡ true
+        → reads_further_block (Ok m) here ≡ true
+        → (keeps || not (is_of_keep (last_kept (r.step.peer, key_in m) rows))) ≡ true
     known_by step.Admit h known reads = subst (λ b. (keeps || not b) ≡ true) (reads_of reads) known
     known_by step.Look h known reads = subst (λ b. (keeps || not b) ≡ true) (reads_of reads) known
     known_by (step.Commit place) h known reads = absurd (false≢true h)
     known_by (step.Keep body current) h known reads = absurd (false≢true h)
     known_by step.Tick h known reads = absurd (false≢true h)
 
-    by : (keeps || is_formed_in_rows r.step.kind here) ≡ true → LookupOutcome rows r.moment.0 r.step m (lookup_effects rows r.moment.0 r.step m) → AllByRecursion (Carried (record { row = r; before = rows })) r.sent
-    by known (now none listed) = now_carried rows r m heard read same_entries (ap (list_any reads_kept) notes ∙ none) (subst (AreListings r.step.peer m (entries rows) r.moment.0) (sym sent) listed)
+    by : (keeps || is_formed_in_rows r.step.kind here) ≡ true
+        → LookupOutcome rows r.moment.0 r.step m (lookup_effects rows r.moment.0 r.step m)
+        → AllByRecursion (Carried (record { row = r; before = rows })) r.sent
+    by known (now none listed) =
+        now_carried rows r m heard read same_entries (ap (list_any reads_kept) notes
+        ∙ none) (subst (AreListings r.step.peer m (entries rows) r.moment.0) (sym sent) listed)
     by known (kept answer further found used bodies) =
-        let reads : reads_further_block (Ok m) here ≡ true = rw (further, ap (list_any (reads_answer (r.step.peer, key_in m))) (notes ∙ used), is_same_request-refl (r.step.peer, key_in m)) refl in
-        let from = kept_from keeps rows r.moment.0 (r.step.peer, key_in m) answer all (known_by r.step.kind heard known reads) found in
+        let reads : reads_further_block (Ok m) here ≡ true =
+        rw (
+          further,
+          ap (list_any (reads_answer (r.step.peer, key_in m))) (notes ∙ used),
+          is_same_request-refl (r.step.peer, key_in m),
+        ) refl in
+        let from = kept_from keeps rows r.moment.0 (r.step.peer, key_in m) answer all
+        (known_by r.step.kind heard known reads) found in
         used_carried rows r m answer further heard read lookup (notes ∙ used) from
         (subst (AreBodiesOf r.step.peer (wanted_by m) answer.body answer.tag) (sym sent)
         (bodies (ap length from.is_kept.tag_is ∙ tag-length (entries (from.former.row ∷ from.former.before)) from.former.row.moment.0)))

@@ -1,5 +1,6 @@
 -- A row that is no tick: what it sends was formed as the headline says, and so was what it keeps.
-use Rattle.std.proofs.Common.{◌≡◌, ℕ, ◌≤◌, ◌&&◌, ◌||◌, Bool, true, false, not, cond, List, [], ◌∷◌, length, Some, Result, Ok, Err, refl, sym, ap, ap₂, subst, ◌∙◌}
+use Rattle.std.proofs.Common.{◌≡◌, ℕ, ◌≤◌, ◌&&◌, ◌||◌, Bool, true, false, not, cond, List, [], ◌∷◌}
+use Rattle.std.proofs.Common.{length, Some, Result, Ok, Err, refl, sym, ap, ap₂, subst, ◌∙◌}
 use Rattle.std.specs.List.{list_any, AllByRecursion}
 use Rattle.std.proofs.lemmas.Bool.{false≢true}
 use Rattle.rd_base.specs.declared.peers.Peer.{Peer}
@@ -22,15 +23,19 @@ use Rattle.journal_model.specs.Journal.{is_heard, entries}
 use Rattle.journal_model.specs.Requests.{query_of, is_lookup, is_discovery, is_later_block}
 use Rattle.journal_model.specs.Looks.{look_effects}
 use Rattle.journal_model.specs.PlacedRows.{Placed}
-use Rattle.journal_model.specs.BodyFormers.{former_of_body, reads_answer, reads_further_block, former_of_further, former_at, is_keep, is_formed_in_rows}
+use Rattle.journal_model.specs.BodyFormers.{former_of_body, reads_answer, reads_further_block}
+use Rattle.journal_model.specs.BodyFormers.{former_of_further, former_at, is_keep}
+use Rattle.journal_model.specs.BodyFormers.{is_formed_in_rows}
 use Rattle.journal_model.specs.AnswersAsFormed.{asked_in, asked_at, names_lookup, answers_lookup}
 use Rattle.journal_model.proofs.EntriesNoted.{entries_in}
 use Rattle.journal_model.proofs.StepNotes.{look_effects-notes}
 use Rattle.message_model.proofs.ReadingLaws.{header_read}
 use Rattle.journal_model.proofs.sends.BodyAnswers.{wanted_by, asking, Bears, IsUntagged, other_code, bears_carries}
 use Rattle.journal_model.proofs.sends.PlainSteps.{ArePlain, IsPlain}
-use Rattle.headline_law.proofs.sends.LookupSends.{IsAnswerOf, AreListings, look_lists, look_discovers, reads_kept}
-use Rattle.journal_model.proofs.notes.LookupNotes.{IsAsking, KeptAt, NoteAsAsked, NotesAsAsked, OfWatched}
+use Rattle.headline_law.proofs.sends.LookupSends.{IsAnswerOf, AreListings, look_lists}
+use Rattle.headline_law.proofs.sends.LookupSends.{look_discovers, reads_kept}
+use Rattle.journal_model.proofs.notes.LookupNotes.{IsAsking, KeptAt, NoteAsAsked, NotesAsAsked}
+use Rattle.journal_model.proofs.notes.LookupNotes.{OfWatched}
 use Rattle.headline_law.proofs.flights.CarriedListings.{Carried, former_holds_seen}
 use Rattle.headline_law.proofs.sends.StepOutcomes.{is_keeping}
 use Rattle.journal_model.proofs.entries.JournalLaws.{entries-none_noted}
@@ -48,15 +53,19 @@ NoteAsFormed here (note.Kept peer key body current) = KeptAsFormed here key body
 NoteAsFormed here (note.Watched o) = IsAsking o
 NoteAsFormed here _ = Unit {0}
 
--- what holds of each row: where the keeps are known to end looks, as in a journal of the machine, of all rows; else of those whose bodies were formed in rows
+-- what holds of each row: where the keeps are known to end looks, as in a journal of the machine,
+-- of all rows; else of those whose bodies were formed in rows
 pub record RowCarries (keeps : Bool) (before : List Row) (r : Row) : Type 0 where
-  pub carried : (keeps || is_formed_in_rows r.step.kind (record { row = r; before = before })) ≡ true
+  pub carried : (keeps || is_formed_in_rows r.step.kind (record { row = r; before = before })) ≡
+      true
       → AllByRecursion (Carried (record { row = r; before = before })) r.sent
-  pub noted : (keeps || not (is_keep r.step.kind)) ≡ true → AllByRecursion (NoteAsFormed (record { row = r; before = before })) r.notes
+  pub noted : (keeps || not (is_keep r.step.kind)) ≡ true
+      → AllByRecursion (NoteAsFormed (record { row = r; before = before })) r.notes
   pub asking : AllByRecursion (OfWatched IsAsking) r.notes
 
 -- an observer that a note adds asks for its query
-pub asks_as_noted : (here : Placed) (notes : List Note) → AllByRecursion (NoteAsFormed here) notes → AllByRecursion (OfWatched IsAsking) notes
+pub asks_as_noted : (here : Placed) (notes : List Note) → AllByRecursion (NoteAsFormed here) notes
+    → AllByRecursion (OfWatched IsAsking) notes
 asks_as_noted here notes all = each_weaker (NoteAsFormed here) (OfWatched IsAsking) by notes all
   where
     by : (n : Note) → NoteAsFormed here n → OfWatched IsAsking n
@@ -75,18 +84,25 @@ keeps_nothing here notes none = each_failing is_keeping (NoteAsFormed here) by n
     by _ h = tt
 
 -- so it is of a row of plain messages
-pub plain_row : (keeps : Bool) (rows : List Row) (r : Row) → ArePlain r.sent → list_any is_keeping r.notes ≡ false → RowCarries keeps rows r
+pub plain_row : (keeps : Bool) (rows : List Row) (r : Row) → ArePlain r.sent
+    → list_any is_keeping r.notes ≡ false → RowCarries keeps rows r
 plain_row keeps rows r plain none = record {
-  carried = λ _. each_weaker (λ (d : Peer × List ℕ). IsPlain d.1) (Carried (record { row = r; before = rows })) (λ d p m e listed _. absurd (false≢true (sym (other_code d.1 p.no_content m e) ∙ listed))) r.sent plain;
+  carried = λ _. each_weaker (λ (d : Peer × List ℕ). IsPlain d.1)
+      (Carried (record { row = r; before = rows }))
+      (λ d p m e listed _. absurd (false≢true (sym (other_code d.1 p.no_content m e) ∙ listed)))
+      r.sent plain;
   noted = λ _. keeps_nothing (record { row = r; before = rows }) r.notes none;
-  asking = asks_as_noted (record { row = r; before = rows }) r.notes (keeps_nothing (record { row = r; before = rows }) r.notes none);
+  asking = asks_as_noted (record { row = r; before = rows }) r.notes
+      (keeps_nothing (record { row = r; before = rows }) r.notes none);
 }
 
 -- ---- rows of datagrams that are heard
 
--- the row that formed what a heard datagram is answered with: its own, unless it reads a further block
+-- the row that formed what a heard datagram is answered with: its own, unless it reads a further
+-- block
 pub heard_former : (k : StepKind) (peer : Peer) (mid : ℕ) (here : Placed) → is_heard k ≡ true
-    → former_at k peer mid here ≡ cond (reads_further_block (reading here.row.step.datagram) here) (former_of_further (reading here.row.step.datagram) here) (Some here)
+    → former_at k peer mid here ≡ cond (reads_further_block (reading here.row.step.datagram) here)
+    (former_of_further (reading here.row.step.datagram) here) (Some here)
 heard_former step.Admit peer mid here h = refl
 heard_former step.Look peer mid here h = refl
 heard_former (step.Commit place) peer mid here h = absurd (false≢true h)
@@ -116,24 +132,34 @@ heard_forms_itself (step.Keep body current) here h = absurd (false≢true h)
 heard_forms_itself step.Tick here h = absurd (false≢true h)
 
 -- a row that reads no kept answer reads no further block
-reads_none : (here : Placed) (read : Result Message Unread) → list_any reads_kept here.row.notes ≡ false → reads_further_block read here ≡ false
+reads_none : (here : Placed) (read : Result Message Unread)
+    → list_any reads_kept here.row.notes ≡ false → reads_further_block read here ≡ false
 reads_none here (Err fault) none = refl
-reads_none here (Ok m) none = by (is_later_block m) (none_pass reads_kept (reads_answer (here.row.step.peer, key_in m)) never here.row.notes none)
+reads_none here (Ok m) none =
+    by (is_later_block m)
+    (none_pass reads_kept (reads_answer (here.row.step.peer, key_in m)) never here.row.notes none)
   where
-    never : (n : Note) → reads_kept n ≡ false → reads_answer (here.row.step.peer, key_in m) n ≡ false
+    never : (n : Note) → reads_kept n ≡ false
+        → reads_answer (here.row.step.peer, key_in m) n ≡ false
     never (note.Used p key) h = absurd (false≢true (sym h))
     never _ h = refl
 
-    by : (b : Bool) → list_any (reads_answer (here.row.step.peer, key_in m)) here.row.notes ≡ false → (b && list_any (reads_answer (here.row.step.peer, key_in m)) here.row.notes) ≡ false
+    by : (b : Bool) → list_any (reads_answer (here.row.step.peer, key_in m)) here.row.notes ≡ false
+        → (b && list_any (reads_answer (here.row.step.peer, key_in m)) here.row.notes) ≡ false
     by true h = h
     by false h = refl
 
 -- so it formed what it answers
-formed_now : (here : Placed) (k : StepKind) (peer : Peer) (mid : ℕ) → is_heard k ≡ true → list_any reads_kept here.row.notes ≡ false → former_at k peer mid here ≡ Some here
-formed_now here k peer mid hears none = heard_former k peer mid here hears ∙ rw (reads_none here (reading here.row.step.datagram) none) refl
+formed_now : (here : Placed) (k : StepKind) (peer : Peer) (mid : ℕ) → is_heard k ≡ true
+    → list_any reads_kept here.row.notes ≡ false → former_at k peer mid here ≡ Some here
+formed_now here k peer mid hears none =
+    heard_former k peer mid here hears
+    ∙ rw (reads_none here (reading here.row.step.datagram) none) refl
 
 -- the listing now
-pub now_carried : (rows : List Row) (r : Row) (m : Message) → is_heard r.step.kind ≡ true → reading r.step.datagram ≡ Ok m → entries (r ∷ rows) ≡ entries rows → list_any reads_kept r.notes ≡ false
+pub now_carried : (rows : List Row) (r : Row) (m : Message) → is_heard r.step.kind ≡ true
+    → reading r.step.datagram ≡ Ok m → entries (r ∷ rows) ≡ entries rows
+    → list_any reads_kept r.notes ≡ false
     → AreListings r.step.peer m (entries rows) r.moment.0 r.sent → AllByRecursion (Carried (record { row = r; before = rows })) r.sent
 now_carried rows r m hears read same_entries none all =
     each_weaker (IsAnswerOf r.step.peer (wanted_by m) (listing (query_of m) (entries rows) r.moment.0) (tag (entries rows) r.moment.0)) (Carried (record { row = r; before = rows })) one r.sent all
@@ -146,7 +172,8 @@ now_carried rows r m hears read same_entries none all =
       asks = heard_asked r.step.kind (d.0, n.token) (record { row = r; before = rows }) hears ∙ asked_in-own r.step.peer m (d.0, n.token) (reading r.step.datagram) read body.0 (body.1 n e listed).token_is;
       carries = bears_carries (wanted_by m) (query_of m) (entries (r ∷ rows)) r.moment.0 n
           (subst (λ history. Bears (wanted_by m) (listing (query_of m) history r.moment.0) (tag history r.moment.0) n) (sym same_entries) (body.1 n e listed));
-      holds_seen = former_holds_seen r.step.kind d.0 n.mid (record { row = r; before = rows }) (record { row = r; before = rows })
+      holds_seen = former_holds_seen r.step.kind d.0 n.mid (record { row = r; before = rows })
+          (record { row = r; before = rows })
           (formed_now (record { row = r; before = rows }) r.step.kind d.0 n.mid hears none);
     }
 
@@ -183,11 +210,14 @@ lookup_no_discovery p h = by (is_discovery p) refl
     by false e = refl
 
 -- a row of a look
-pub look_row : (keeps : Bool) (rows : List Row) (r : Row) (m : Message) → is_heard r.step.kind ≡ true → reading r.step.datagram ≡ Ok m → r.sent ≡ (look_effects (entries rows) r.moment.0 r.step m).sent
+pub look_row : (keeps : Bool) (rows : List Row) (r : Row) (m : Message)
+    → is_heard r.step.kind ≡ true → reading r.step.datagram ≡ Ok m
+    → r.sent ≡ (look_effects (entries rows) r.moment.0 r.step m).sent
     → r.notes ≡ (look_effects (entries rows) r.moment.0 r.step m).notes → RowCarries keeps rows r
 look_row keeps rows r m hears read sent notes = record {
   carried = λ _. by (is_discovery (path_in m)) refl;
-  noted = λ _. subst (AllByRecursion (NoteAsFormed (record { row = r; before = rows }))) (sym none) tt;
+  noted = λ _. subst (AllByRecursion (NoteAsFormed (record { row = r; before = rows })))
+      (sym none) tt;
   asking = subst (AllByRecursion (OfWatched IsAsking)) (sym none) tt;
 }
   where
@@ -211,5 +241,6 @@ look_row keeps rows r m hears read sent notes = record {
         (λ d none n e content listed. absurd (false≢true (sym (rw (no_lookup r.step.kind hears discovers, none n e content) refl) ∙ listed))) r.sent
         (subst (AllByRecursion (λ (d : Peer × List ℕ). IsUntagged d.1)) (sym sent) (look_discovers (entries rows) r.moment.0 r.step m small discovers))
     by false lists =
-        now_carried rows r m hears read (entries-none_noted rows r (ap entries_in none)) (ap (list_any reads_kept) none)
+        now_carried rows r m hears read (entries-none_noted rows r (ap entries_in none))
+        (ap (list_any reads_kept) none)
         (subst (AreListings r.step.peer m (entries rows) r.moment.0) (sym sent) (look_lists (entries rows) r.moment.0 r.step m small lists))

@@ -1,5 +1,7 @@
 -- Equal tags that are read in two answers to equal queries mean blocks of one listing.
-use Rattle.std.proofs.Common.{◌≡◌, ℕ, Bool, true, false, cond, List, [], ◌∷◌, ◌++◌, Option, Some, None, option_map, option_and_then, Result, Ok, Err, refl, sym, ap, subst, ◌∙◌, append_assoc}
+use Rattle.std.proofs.Common.{◌≡◌, ℕ, Bool, true, false, cond, List, [], ◌∷◌, ◌++◌, Option, Some}
+use Rattle.std.proofs.Common.{None, option_map, option_and_then, Result, Ok, Err, refl, sym, ap}
+use Rattle.std.proofs.Common.{subst, ◌∙◌, append_assoc}
 use Rattle.std.specs.Prelude.{is_some}
 use Rattle.std.specs.List.{list_any}
 use Rattle.std.proofs.lemmas.Option.{same_Some}
@@ -23,7 +25,9 @@ use Rattle.journal_model.specs.Machine.{IsJournal}
 use Rattle.journal_model.specs.DeskJournal.{IsDeskJournal}
 use Rattle.journal_model.specs.Requests.{asked_block}
 use Rattle.journal_model.specs.PlacedRows.{Within, Placed, last_row}
-use Rattle.journal_model.specs.BodyFormers.{former_of_body, former_of_kept, former_of_notice, reads_further_block, sends_again, former_of_further, former_at}
+use Rattle.journal_model.specs.BodyFormers.{former_of_body, former_of_kept, former_of_notice}
+use Rattle.journal_model.specs.BodyFormers.{reads_further_block, sends_again, former_of_further}
+use Rattle.journal_model.specs.BodyFormers.{former_at}
 use Rattle.journal_model.specs.AnswersAsFormed.{FormedAs, Asked, IsBlockOf, Sent}
 use Rattle.journal_model.specs.TagsDecideStates.{query_of_sent, AreBlocksOfOne, TagsDecideStates, FormedTagsDecideStates}
 use Rattle.journal_model.proofs.entries.JournalLaws.{journal-AreRows, desk-AreRows}
@@ -78,23 +82,37 @@ stands_kept name rows p e = by (last_row (λ r. list_any (λ n. is_some (answer_
     by (Some q) found h = stands_through rows q p (stands_last _ rows q found) (stands_body q.row.step.kind q p h)
 
 -- the row that formed what a row sends
-stands_former : (k : StepKind) (peer : Peer) (mid : ℕ) (here p : Placed) → former_at k peer mid here ≡ Some p → Stands (here.row ∷ here.before) p
+stands_former : (k : StepKind) (peer : Peer) (mid : ℕ) (here p : Placed)
+    → former_at k peer mid here ≡ Some p → Stands (here.row ∷ here.before) p
 stands_former k peer mid here p e = by k e
   where
-    own : (b : Bool) (earlier : Option Placed) → cond b earlier (Some here) ≡ Some p → (earlier ≡ Some p → Stands (here.row ∷ here.before) p) → Stands (here.row ∷ here.before) p
+    own : (b : Bool) (earlier : Option Placed) → cond b earlier (Some here) ≡ Some p
+        → (earlier ≡ Some p → Stands (here.row ∷ here.before) p) → Stands (here.row ∷ here.before) p
     own true earlier h more = more h
-    own false earlier h more = subst (λ (x : Placed). Stands (here.row ∷ here.before) x) (same_Some here p h) (stands_newest here)
+    own false earlier h more =
+        subst (λ (x : Placed). Stands (here.row ∷ here.before) x) (same_Some here p h)
+        (stands_newest here)
 
-    further : (read : Result Message Unread) → former_of_further read here ≡ Some p → Stands (here.row ∷ here.before) p
-    further (Err fault) h = subst (λ (x : Placed). Stands (here.row ∷ here.before) x) (same_Some here p h) (stands_newest here)
-    further (Ok m) h = stands_more here.row here.before p (stands_kept (here.row.step.peer, key_in m) here.before p h)
+    further : (read : Result Message Unread) → former_of_further read here ≡ Some p
+        → Stands (here.row ∷ here.before) p
+    further (Err fault) h =
+        subst (λ (x : Placed). Stands (here.row ∷ here.before) x) (same_Some here p h)
+        (stands_newest here)
+    further (Ok m) h = stands_more here.row here.before p
+        (stands_kept (here.row.step.peer, key_in m) here.before p h)
 
-    heard : cond (reads_further_block (reading here.row.step.datagram) here) (former_of_further (reading here.row.step.datagram) here) (Some here) ≡ Some p → Stands (here.row ∷ here.before) p
-    heard h = own (reads_further_block (reading here.row.step.datagram) here) (former_of_further (reading here.row.step.datagram) here) h (further (reading here.row.step.datagram))
+    heard : cond (reads_further_block (reading here.row.step.datagram) here)
+        (former_of_further (reading here.row.step.datagram) here) (Some here) ≡ Some p
+        → Stands (here.row ∷ here.before) p
+    heard h = own (reads_further_block (reading here.row.step.datagram) here)
+        (former_of_further (reading here.row.step.datagram) here) h
+        (further (reading here.row.step.datagram))
 
-    by : (kind : StepKind) → former_at kind peer mid here ≡ Some p → Stands (here.row ∷ here.before) p
+    by : (kind : StepKind) → former_at kind peer mid here ≡ Some p
+        → Stands (here.row ∷ here.before) p
     by (step.Keep body tag) h = stands_more here.row here.before p (stands_last _ here.before p h)
-    by step.Tick h = own (sends_again peer mid here) (former_of_notice peer mid here.before) h (λ again. stands_more here.row here.before p (stands_last _ here.before p again))
+    by step.Tick h = own (sends_again peer mid here) (former_of_notice peer mid here.before) h
+        (λ again. stands_more here.row here.before p (stands_last _ here.before p again))
     by step.Admit h = heard h
     by step.Look h = heard h
     by (step.Commit place) h = heard h
@@ -102,15 +120,19 @@ stands_former k peer mid here p e = by k e
 -- ---- the law
 
 -- two answers that were formed in rows, with equal tags, to one query
-formed_share : (rows : List Row) → AreRows rows → (one other : Sent rows) (query : Query) → FormedAs one.here one.peer one.message → FormedAs other.here other.peer other.message
-    → etags_in one.message ≡ etags_in other.message → query_of_sent one ≡ Some query → query_of_sent other ≡ Some query → AreBlocksOfOne rows query one.message other.message
+formed_share : (rows : List Row) → AreRows rows → (one other : Sent rows) (query : Query)
+    → FormedAs one.here one.peer one.message → FormedAs other.here other.peer other.message
+    → etags_in one.message ≡ etags_in other.message → query_of_sent one ≡ Some query
+    → query_of_sent other ≡ Some query → AreBlocksOfOne rows query one.message other.message
 formed_share rows all one other query f g same_tags asks_one asks_other = record {
   before = f.former.before;
   row = f.former.row;
   within = here;
   first_tag = f.carries.tag;
   second_tag = sym same_tags ∙ f.carries.tag;
-  first = subst (λ q. IsBlockOf (asked_block one.message) (listing q (entries (f.former.row ∷ f.former.before)) f.former.row.moment.0) one.message.payload) first_query f.carries.block.block;
+  first = subst (λ q. IsBlockOf (asked_block one.message)
+      (listing q (entries (f.former.row ∷ f.former.before)) f.former.row.moment.0)
+      one.message.payload) first_query f.carries.block.block;
   second = subst (λ body. IsBlockOf (asked_block other.message) body other.message.payload) (sym same_listings) g.carries.block.block;
 }
   where
@@ -128,16 +150,22 @@ formed_share rows all one other query f g same_tags asks_one asks_other = record
     same_tag = ap first_of (sym f.carries.tag ∙ (same_tags ∙ g.carries.tag))
 
     first_query : f.asked.query ≡ query
-    first_query = same_Some f.asked.query query (sym (ap (option_map (λ (a : Asked). a.query)) f.asks) ∙ asks_one)
+    first_query = same_Some f.asked.query query
+        (sym (ap (option_map (λ (a : Asked). a.query)) f.asks) ∙ asks_one)
 
     second_query : g.asked.query ≡ query
-    second_query = same_Some g.asked.query query (sym (ap (option_map (λ (a : Asked). a.query)) g.asks) ∙ asks_other)
+    second_query = same_Some g.asked.query query
+        (sym (ap (option_map (λ (a : Asked). a.query)) g.asks) ∙ asks_other)
 
-    same_listings : listing query (entries (f.former.row ∷ f.former.before)) f.former.row.moment.0 ≡ listing g.asked.query (entries (g.former.row ∷ g.former.before)) g.former.row.moment.0
+    same_listings : listing query
+        (entries (f.former.row ∷ f.former.before)) f.former.row.moment.0 ≡ listing g.asked.query
+        (entries (g.former.row ∷ g.former.before)) g.former.row.moment.0
     same_listings =
-        listing-live query (entries (f.former.row ∷ f.former.before)) (entries (g.former.row ∷ g.former.before)) f.former.row.moment.0 g.former.row.moment.0
+        listing-live query (entries (f.former.row ∷ f.former.before))
+        (entries (g.former.row ∷ g.former.before)) f.former.row.moment.0 g.former.row.moment.0
         (tags_tell rows f.former.before g.former.before f.former.row g.former.row all here there same_tag).1
-        ∙ ap (λ (q : Query). listing q (entries (g.former.row ∷ g.former.before)) g.former.row.moment.0) (sym second_query)
+        ∙ ap (λ (q : Query). listing q
+        (entries (g.former.row ∷ g.former.before)) g.former.row.moment.0) (sym second_query)
 
 -- equally tagged answers come from one state, and carry blocks of one listing
 pub journal-TagsDecideStates : (rows : List Row) → IsJournal rows → TagsDecideStates rows
@@ -145,7 +173,9 @@ journal-TagsDecideStates rows journal = record {
   histories = λ before other_before r other here there same. (tags_tell rows before other_before r other (journal-AreRows rows journal) here there same).0;
   records = λ before other_before r other here there same. (tags_tell rows before other_before r other (journal-AreRows rows journal) here there same).1;
   answers = λ one other query listed also same_tags asks_one asks_other.
-      formed_share rows (journal-AreRows rows journal) one other query (answer_formed rows journal one listed) (answer_formed rows journal other also) same_tags asks_one asks_other;
+      formed_share rows (journal-AreRows rows journal) one other query
+      (answer_formed rows journal one listed)
+      (answer_formed rows journal other also) same_tags asks_one asks_other;
 }
 
 -- of a journal of a desk, so do answers that were formed in rows
@@ -154,5 +184,6 @@ desk-FormedTagsDecideStates rows journal = record {
   histories = λ before other_before r other here there same. (tags_tell rows before other_before r other (desk-AreRows rows journal) here there same).0;
   records = λ before other_before r other here there same. (tags_tell rows before other_before r other (desk-AreRows rows journal) here there same).1;
   answers = λ one other query formed also same_tags asks_one asks_other.
-      formed_share rows (desk-AreRows rows journal) one other query formed also same_tags asks_one asks_other;
+      formed_share rows (desk-AreRows rows journal) one other query formed also same_tags asks_one
+      asks_other;
 }

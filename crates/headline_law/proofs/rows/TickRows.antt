@@ -58,8 +58,12 @@ requests_none test resent ceased notes h = none_of of_resent test never notes h
 again_carried : (rows : List Row) (r : Row) → (t : TickRow rows r) → (d : Peer × List ℕ) → AgainSent rows r.moment.0 d → Carried (record { row = r; before = rows }) d
 again_carried rows r t d a m e listed _ =
     observer_formed (record { row = r; before = rows }) notice.placed a.observer d m t.tick a.again.stands (again_peer rows r.moment.0 d a) (found.holds found.to_peer m e listed)
-    (subst (λ p. former_at step.Tick p m.mid (record { row = r; before = rows }) ≡ Some notice.placed) (sym (again_peer rows r.moment.0 d a))
-    (subst (λ n. former_at step.Tick a.observer.peer n (record { row = r; before = rows }) ≡ Some notice.placed) (sym (mid_of_confirmable a.flight_is.mid d.1 m found.confirmable e))
+    (subst (λ p. former_at step.Tick p m.mid
+    (record { row = r; before = rows }) ≡ Some notice.placed)
+    (sym (again_peer rows r.moment.0 d a))
+    (subst (λ n. former_at step.Tick a.observer.peer n
+    (record { row = r; before = rows }) ≡ Some notice.placed)
+    (sym (mid_of_confirmable a.flight_is.mid d.1 m found.confirmable e))
     (rw again notice.last)))
   where
     notice : NoticeOf rows a.observer a.flight_is.mid a.flight_is.formed.place

@@ -92,10 +92,14 @@ abbrev pub reads_kept : Note → Bool
 reads_kept (note.Used peer key) = true
 reads_kept _ = false
 
--- what a lookup sends: of the listing now, or a further block of the kept answer, which it then uses
+-- what a lookup sends: of the listing now, or a further block of the kept answer, which it then
+-- uses
 pub data LookupOutcome (rows : List Row) (moment : ℕ) (s : Step) (m : Message) (e : Effects) : Type 0 where
-  now : list_any reads_kept e.notes ≡ false → AreListings s.peer m (entries rows) moment e.sent → LookupOutcome rows moment s m e
-  kept : (answer : Answer) → is_later_block m ≡ true → kept_answer moment (s.peer, key_in m) (events rows) ≡ Some answer → e.notes ≡ note.Used s.peer (key_in m) ∷ []
+  now : list_any reads_kept e.notes ≡ false → AreListings s.peer m (entries rows) moment e.sent
+      → LookupOutcome rows moment s m e
+  kept : (answer : Answer) → is_later_block m ≡ true
+      → kept_answer moment (s.peer, key_in m) (events rows) ≡ Some answer
+      → e.notes ≡ note.Used s.peer (key_in m) ∷ []
       → (length answer.tag ≡ 8 → AreBodiesOf s.peer (wanted_by m) answer.body answer.tag e.sent) → LookupOutcome rows moment s m e
 
 -- so it is of each lookup that the journal takes part in
@@ -110,15 +114,31 @@ lookup_outcome rows moment s m small lists = by (is_later_block m) refl
     now_block (Some part) cut = now refl
         ((refl, part_bears (answer_kind m.kind) (answer_mid s m m.kind) (tag (entries rows) moment) None (asked_block m) m.token (listing (query_of m) (entries rows) moment) (Some part) small (tag-length (entries rows) moment) (request-usable m) cut), tt)
 
-    later : is_later_block m ≡ true → (found : Option Answer) → kept_answer moment (s.peer, key_in m) (events rows) ≡ found → LookupOutcome rows moment s m (block_of_kept s m (listing_now rows moment m) found)
-    later further (Some answer) e = kept answer further e refl (λ short. ((refl, body_bears (answer_kind m.kind) (answer_mid s m m.kind) m.token answer.tag None (asked_block m) answer.body small short (request-usable m)), tt))
-    later further None e = now_block (block_of (listing (query_of m) (entries rows) moment) (number_of (asked_block m)) (szx_of (asked_block m))) refl
+    later : is_later_block m ≡ true → (found : Option Answer)
+        → kept_answer moment (s.peer, key_in m) (events rows) ≡ found
+        → LookupOutcome rows moment s m (block_of_kept s m (listing_now rows moment m) found)
+    later further (Some answer) e =
+        kept answer further e refl
+        (λ short. (
+          (
+            refl,
+            body_bears (answer_kind m.kind)
+                (answer_mid s m m.kind) m.token answer.tag None (asked_block m) answer.body small short
+                (request-usable m),
+          ),
+          tt,
+        ))
+    later further None e =
+        now_block (block_of (listing (query_of m) (entries rows) moment) (number_of (asked_block m))
+        (szx_of (asked_block m))) refl
 
-    removed : (b : Bool) (peer : Peer) (token : List ℕ) → list_any reads_kept (cond b (note.Unwatched peer token ∷ []) []) ≡ false
+    removed : (b : Bool) (peer : Peer) (token : List ℕ)
+        → list_any reads_kept (cond b (note.Unwatched peer token ∷ []) []) ≡ false
     removed true peer token = refl
     removed false peer token = refl
 
-    keeps : (b : Bool) (a : Answer) → list_any reads_kept (cond b (note.Kept s.peer (key_in m) a.body a.tag ∷ []) []) ≡ false
+    keeps : (b : Bool) (a : Answer)
+        → list_any reads_kept (cond b (note.Kept s.peer (key_in m) a.body a.tag ∷ []) []) ≡ false
     keeps true a = refl
     keeps false a = refl
 
@@ -130,14 +150,17 @@ lookup_outcome rows moment s m small lists = by (is_later_block m) refl
 
     added : (b : Bool) → LookupOutcome rows moment s m (observed_if b rows s m (listing_now rows moment m))
     added true = now
-        (list_any-append reads_kept (removal (s.peer, m.token) (observers (events rows))) _ ∙ rw (ends, keeping_now) refl)
+        (list_any-append reads_kept (removal (s.peer, m.token) (observers (events rows))) _
+        ∙ rw (ends, keeping_now) refl)
         ((refl, body_bears (answer_kind m.kind) (answer_mid s m m.kind) m.token (tag (entries rows) moment) (Some (observe_value (events rows))) (asked_block m) (listing (query_of m) (entries rows) moment) small (tag-length (entries rows) moment) (request-usable m)), tt)
     added false = now
-        (list_any-append reads_kept (removal (s.peer, m.token) (observers (events rows))) _ ∙ rw (ends, keeping_now) refl)
+        (list_any-append reads_kept (removal (s.peer, m.token) (observers (events rows))) _
+        ∙ rw (ends, keeping_now) refl)
         ((refl, body_bears (answer_kind m.kind) (answer_mid s m m.kind) m.token (tag (entries rows) moment) None (asked_block m) (listing (query_of m) (entries rows) moment) small (tag-length (entries rows) moment) (request-usable m)), tt)
 
     only_looked : LookupOutcome rows moment s m (look_effects (entries rows) moment s m)
-    only_looked = now (ap (list_any reads_kept) (look_effects-notes (entries rows) moment s m)) (look_lists (entries rows) moment s m small lists)
+    only_looked = now (ap (list_any reads_kept) (look_effects-notes (entries rows) moment s m))
+        (look_lists (entries rows) moment s m small lists)
 
     valued : (b c : Bool) → LookupOutcome rows moment s m (observation_effects b c rows moment s m)
     valued true c = added (has_room_for (query_of m) (without (s.peer, m.token) (observers (events rows))))
@@ -148,6 +171,7 @@ lookup_outcome rows moment s m small lists = by (is_later_block m) refl
     observe None = only_looked
     observe (Some value) = valued (value == register) (value == deregister)
 
-    by : (b : Bool) → is_later_block m ≡ b → LookupOutcome rows moment s m (block_effects b rows moment s m)
+    by : (b : Bool) → is_later_block m ≡ b
+        → LookupOutcome rows moment s m (block_effects b rows moment s m)
     by true further = later further (kept_answer moment (s.peer, key_in m) (events rows)) refl
     by false first = observe (observe_in m)

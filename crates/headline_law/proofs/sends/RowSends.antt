@@ -64,8 +64,12 @@ plain_sends sent notes plain settles = record { none_valid = plain_not_valid sen
     by _ h = tt
 
 -- where nothing is settled, and nothing asked for
-quiet_facts : (kind : Note → Bool) → ((place : ℕ) (octets : List ℕ) → kind (note.Settled place octets) ≡ false) → ((peer : Peer) (token : List ℕ) (mid : ℕ) (params : RegParams) (number : ℕ) → kind (note.Asked peer token mid params number) ≡ false)
-    → (sent : List (Peer × List ℕ)) (notes : List Note) → are kind notes ≡ true → AllByRecursion (NoteFact sent) notes
+quiet_facts : (kind : Note → Bool)
+    → ((place : ℕ) (octets : List ℕ) → kind (note.Settled place octets) ≡ false)
+    → ((peer : Peer) (token : List ℕ) (mid : ℕ) (params : RegParams) (number : ℕ)
+    → kind (note.Asked peer token mid params number) ≡ false)
+    → (sent : List (Peer × List ℕ)) (notes : List Note) → are kind notes ≡ true
+    → AllByRecursion (NoteFact sent) notes
 quiet_facts kind settled asked sent notes h = each notes h
   where
     one : (n : Note) → kind n ≡ true → NoteFact sent n
@@ -77,9 +81,14 @@ quiet_facts kind settled asked sent notes h = each notes h
     each [] fits = tt
     each (n ∷ ns) fits = (one n (and_parts (kind n) (are kind ns) fits).0, each ns (and_parts (kind n) (are kind ns) fits).1)
 
-quiet_sends : (kind : Note → Bool) → ((place : ℕ) (octets : List ℕ) → kind (note.Settled place octets) ≡ false) → ((peer : Peer) (token : List ℕ) (mid : ℕ) (params : RegParams) (number : ℕ) → kind (note.Asked peer token mid params number) ≡ false)
-    → (sent : List (Peer × List ℕ)) (notes : List Note) → NoneValid sent → are kind notes ≡ true → Sends sent notes
-quiet_sends kind settled asked sent notes none h = record { none_valid = none; facts = quiet_facts kind settled asked sent notes h }
+quiet_sends : (kind : Note → Bool)
+    → ((place : ℕ) (octets : List ℕ) → kind (note.Settled place octets) ≡ false)
+    → ((peer : Peer) (token : List ℕ) (mid : ℕ) (params : RegParams) (number : ℕ)
+    → kind (note.Asked peer token mid params number) ≡ false)
+    → (sent : List (Peer × List ℕ)) (notes : List Note) → NoneValid sent → are kind notes ≡ true
+    → Sends sent notes
+quiet_sends kind settled asked sent notes none h =
+    record { none_valid = none; facts = quiet_facts kind settled asked sent notes h }
 
 -- where nothing is noted
 bare_sends : (sent : List (Peer × List ℕ)) (notes : List Note) → ArePlain sent → notes ≡ [] → Sends sent notes
@@ -167,21 +176,30 @@ kept_sends false s (Ok m) body tag =
 -- ---- what notes say of what a row sends, whatever it hears
 
 -- no note says anything
-no_facts : (sent : List (Peer × List ℕ)) (notes : List Note) → notes ≡ [] → AllByRecursion (NoteFact sent) notes
+no_facts : (sent : List (Peer × List ℕ)) (notes : List Note) → notes ≡ []
+    → AllByRecursion (NoteFact sent) notes
 no_facts sent notes none = subst (AllByRecursion (NoteFact sent)) (sym none) tt
 
 -- a request that is heard
-request_facts : (rows : List Row) (moment : ℕ) (s : Step) (m : Message) → AllByRecursion (NoteFact (request_answered (refusal_of_request m) rows moment s m).sent) (request_answered (refusal_of_request m) rows moment s m).notes
+request_facts : (rows : List Row) (moment : ℕ) (s : Step) (m : Message)
+    → AllByRecursion (NoteFact (request_answered (refusal_of_request m) rows moment s m).sent)
+    (request_answered (refusal_of_request m) rows moment s m).notes
 unfolding served answering
 request_facts rows moment s m = by (refusal_of_request m)
   where
-    write : AllByRecursion (NoteFact (write_effects (events rows) moment s m).sent) (write_effects (events rows) moment s m).notes
-    write = quiet_facts of_write (λ place octets. refl) (λ peer token mid params number. refl) _ (write_effects (events rows) moment s m).notes (write_effects-notes (events rows) moment s m)
+    write : AllByRecursion (NoteFact (write_effects (events rows) moment s m).sent)
+        (write_effects (events rows) moment s m).notes
+    write = quiet_facts of_write (λ place octets. refl) (λ peer token mid params number. refl) _
+        (write_effects (events rows) moment s m).notes
+        (write_effects-notes (events rows) moment s m)
 
-    lookup : AllByRecursion (NoteFact (lookup_effects rows moment s m).sent) (lookup_effects rows moment s m).notes
-    lookup = quiet_facts of_lookup (λ place octets. refl) (λ peer token mid params number. refl) _ (lookup_effects rows moment s m).notes (lookup_effects-notes rows moment s m)
+    lookup : AllByRecursion (NoteFact (lookup_effects rows moment s m).sent)
+        (lookup_effects rows moment s m).notes
+    lookup = quiet_facts of_lookup (λ place octets. refl) (λ peer token mid params number. refl) _
+        (lookup_effects rows moment s m).notes (lookup_effects-notes rows moment s m)
 
-    on : (p : Path) → AllByRecursion (NoteFact (served p rows moment s m).sent) (served p rows moment s m).notes
+    on : (p : Path) → AllByRecursion (NoteFact (served p rows moment s m).sent)
+        (served p rows moment s m).notes
     on path.Core = no_facts _ _ (look_effects-notes (entries rows) moment s m)
     on path.Res = lookup
     on path.Ep = lookup
@@ -190,38 +208,56 @@ request_facts rows moment s m = by (refusal_of_request m)
     on (path.Location number) = write
     on path.Other = tt
 
-    by : (refusal : Option Reply) → AllByRecursion (NoteFact (request_answered refusal rows moment s m).sent) (request_answered refusal rows moment s m).notes
+    by : (refusal : Option Reply)
+        → AllByRecursion (NoteFact (request_answered refusal rows moment s m).sent)
+        (request_answered refusal rows moment s m).notes
     by (Some refusal) = no_facts _ _ (refusal_notes m.kind (first_bad_option m.options) s m refusal)
     by None = on (path_in m)
 
 -- a message that is heard
-role_facts : (r : Role) (starved : Bool) (rows : List Row) (moment : ℕ) (s : Step) (m : Message) → AllByRecursion (NoteFact (message_effects r starved rows moment s m).sent) (message_effects r starved rows moment s m).notes
+role_facts : (r : Role) (starved : Bool) (rows : List Row) (moment : ℕ) (s : Step) (m : Message)
+    → AllByRecursion (NoteFact (message_effects r starved rows moment s m).sent)
+    (message_effects r starved rows moment s m).notes
 unfolding answering
 role_facts role.Ping starved rows moment s m = tt
 role_facts role.Acknowledgement starved rows moment s m =
-    quiet_facts of_empty (λ place octets. refl) (λ peer token mid params number. refl) _ (acknowledged s.peer m.mid (events rows)).notes (acknowledged-notes s.peer m.mid (events rows))
+    quiet_facts of_empty (λ place octets. refl) (λ peer token mid params number. refl) _
+    (acknowledged s.peer m.mid (events rows)).notes
+    (acknowledged-notes s.peer m.mid (events rows))
 role_facts role.Reset starved rows moment s m =
-    quiet_facts of_empty (λ place octets. refl) (λ peer token mid params number. refl) _ (reset s.peer m.mid (events rows)).notes (reset-notes s.peer m.mid (events rows))
+    quiet_facts of_empty (λ place octets. refl) (λ peer token mid params number. refl) _
+    (reset s.peer m.mid (events rows)).notes (reset-notes s.peer m.mid (events rows))
 role_facts role.Request true rows moment s m = tt
 role_facts role.Request false rows moment s m = request_facts rows moment s m
 role_facts role.Response true rows moment s m = tt
-role_facts role.Response false rows moment s m = (plain_sends (response_effects rows moment s m).sent (response_effects rows moment s m).notes (response_plain rows moment s m)
-    (never_settles of_response (λ place octets. refl) (response_effects rows moment s m).notes (response_effects-notes rows moment s m))).facts
+role_facts role.Response false rows moment s m =
+    (plain_sends (response_effects rows moment s m).sent (response_effects rows moment s m).notes
+    (response_plain rows moment s m)
+    (never_settles of_response (λ place octets. refl) (response_effects rows moment s m).notes
+    (response_effects-notes rows moment s m))).facts
 role_facts role.Ignored starved rows moment s m = tt
 
 -- any step
-pub step_facts : (kind : StepKind) (starved : Bool) (rows : List Row) (moment : ℕ) (s : Step) → AllByRecursion (NoteFact (effects kind starved rows moment s).sent) (effects kind starved rows moment s).notes
+pub step_facts : (kind : StepKind) (starved : Bool) (rows : List Row) (moment : ℕ) (s : Step)
+    → AllByRecursion (NoteFact (effects kind starved rows moment s).sent)
+    (effects kind starved rows moment s).notes
 unfolding effects answering
 step_facts step.Admit starved rows moment s = by (reading s.datagram)
   where
-    by : (read : Result Message Unread) → AllByRecursion (NoteFact (heard starved rows moment s read).sent) (heard starved rows moment s read).notes
+    by : (read : Result Message Unread)
+        → AllByRecursion (NoteFact (heard starved rows moment s read).sent)
+        (heard starved rows moment s read).notes
     by (Err fault) = no_facts _ _ (unread_notes s fault)
     by (Ok m) = role_facts (role_of m.kind m.code) starved rows moment s m
-step_facts step.Look starved rows moment s = no_facts _ _ (looked_notes starved (entries rows) moment s (reading s.datagram))
-step_facts (step.Commit place) starved rows moment s = (done_sends starved rows moment place s (reading s.datagram)).facts
-step_facts (step.Keep body tag) starved rows moment s = (kept_sends starved s (reading s.datagram) body tag).facts
+step_facts step.Look starved rows moment s =
+    no_facts _ _ (looked_notes starved (entries rows) moment s (reading s.datagram))
+step_facts (step.Commit place) starved rows moment s =
+    (done_sends starved rows moment place s (reading s.datagram)).facts
+step_facts (step.Keep body tag) starved rows moment s =
+    (kept_sends starved s (reading s.datagram) body tag).facts
 step_facts step.Tick starved rows moment s =
-    quiet_facts of_tick (λ place octets. refl) (λ peer token mid params number. refl) _ (tick_effects starved rows moment s).notes (tick_effects-notes starved rows moment s)
+    quiet_facts of_tick (λ place octets. refl) (λ peer token mid params number. refl) _
+    (tick_effects starved rows moment s).notes (tick_effects-notes starved rows moment s)
 
 -- what any step sends and notes: a look notes nothing
 pub record StepSends (kind : StepKind) (sent : List (Peer × List ℕ)) (notes : List Note) : Type 0 where

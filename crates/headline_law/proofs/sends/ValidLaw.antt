@@ -34,7 +34,8 @@ use Rattle.journal_model.proofs.sends.PlainSteps.{IsPlain, ArePlain, SettledPlai
 use Rattle.journal_model.proofs.sends.ValidSends.{NoneValid, NoConfirmableValid, look_valid}
 use Rattle.journal_model.proofs.EventRows.{AllRows, RowOf, row_of, row_within, said_by}
 use Rattle.journal_model.proofs.sends.TickSends.{AskedPlain}
-use Rattle.headline_law.proofs.sends.RowSends.{NoteFact, Before, StepSends, effects_send, step_facts}
+use Rattle.headline_law.proofs.sends.RowSends.{NoteFact, Before, StepSends, effects_send}
+use Rattle.headline_law.proofs.sends.RowSends.{step_facts}
 use Rattle.rd_base.proofs.lemmas.Among.{all_among}
 
 -- ---- all rows of a journal
@@ -61,11 +62,15 @@ RowFacts before r = AllByRecursion (NoteFact r.sent) r.notes
 pub rows_facts : (rows : List Row) → AreRows rows → AllRows RowFacts rows
 unfolding row
 rows_facts [] empty = tt
-rows_facts (r ∷ before) (added {rows} s starved rest) = (step_facts s.kind starved before (row_moment before s) s, rows_facts before rest)
+rows_facts (r ∷ before) (added {rows} s starved rest) =
+    (step_facts s.kind starved before (row_moment before s) s, rows_facts before rest)
 
 -- what a note says where it stands among the notes of the last row of its kind
-noted_fact : (rows : List Row) → AllRows RowFacts rows → (test : Note → Bool) (e : Event) → (it : RowOf test rows e) → NoteFact it.placed.row.sent e.note
-noted_fact rows all test e it = all_among (NoteFact it.placed.row.sent) e.note it.placed.row.notes (row_within RowFacts rows it.placed.before it.placed.row all it.within) it.note
+noted_fact : (rows : List Row) → AllRows RowFacts rows → (test : Note → Bool) (e : Event)
+    → (it : RowOf test rows e) → NoteFact it.placed.row.sent e.note
+noted_fact rows all test e it =
+    all_among (NoteFact it.placed.row.sent) e.note it.placed.row.notes
+    (row_within RowFacts rows it.placed.before it.placed.row all it.within) it.note
 
 -- what is settled is plain
 pub settled_plain : (rows : List Row) → AllRows RowFacts rows → SettledPlain (events rows)
@@ -73,9 +78,11 @@ unfolding settled
 settled_plain rows all place octets said =
     let found = said_by (answer_noted place) (events rows) octets said in
     let it = row_of (λ n. is_some (answer_noted place n)) rows found.0 found.1 in
-    settles it.placed.row.sent found.0.note (noted_fact rows all (λ n. is_some (answer_noted place n)) found.0 it) found.2
+    settles it.placed.row.sent found.0.note
+    (noted_fact rows all (λ n. is_some (answer_noted place n)) found.0 it) found.2
   where
-    settles : (sent : List (Peer × List ℕ)) (n : Note) → NoteFact sent n → answer_noted place n ≡ Some octets → IsPlain octets
+    settles : (sent : List (Peer × List ℕ)) (n : Note) → NoteFact sent n
+        → answer_noted place n ≡ Some octets → IsPlain octets
     settles sent (note.Settled p reply) h answers = by (p == place) answers
       where
         by : (b : Bool) → cond b (Some reply) None ≡ Some octets → IsPlain octets
@@ -88,9 +95,11 @@ pub asked_plain : (rows : List Row) → AllRows RowFacts rows → AskedPlain row
 asked_plain rows all peer e request r last noted at =
     let it = row_of (is_request_to peer) rows e last in
     let same : it.placed.row ≡ r = same_Some it.placed.row r (sym it.at_place ∙ at) in
-    subst (λ (x : Row). ArePlain x.sent) same (asks it.placed.row.sent e.note (noted_fact rows all (is_request_to peer) e it) noted)
+    subst (λ (x : Row). ArePlain x.sent) same
+    (asks it.placed.row.sent e.note (noted_fact rows all (is_request_to peer) e it) noted)
   where
-    asks : (sent : List (Peer × List ℕ)) (n : Note) → NoteFact sent n → request_noted n ≡ Some request → ArePlain sent
+    asks : (sent : List (Peer × List ℕ)) (n : Note) → NoteFact sent n
+        → request_noted n ≡ Some request → ArePlain sent
     asks sent (note.Asked to token mid params number) h is_request = h
     asks sent _ h is_request = absurd (let no : None ≡ Some request = is_request in cc)
 
@@ -98,7 +107,11 @@ asked_plain rows all peer e request r last noted at =
 before_all : (rows : List Row) → IsJournal rows → AllRows RowSends rows → Before rows
 before_all rows journal all =
     let facts : AllRows RowFacts rows = rows_facts rows (journal-AreRows rows journal) in
-    record { settled = settled_plain rows facts; asked = asked_plain rows facts; confirmables = λ place r at. no_confirmable_valid_in rows place r all at }
+    record {
+      settled = settled_plain rows facts;
+      asked = asked_plain rows facts;
+      confirmables = λ place r at. no_confirmable_valid_in rows place r all at;
+    }
 
 -- a datagram that is admitted is no look
 admitted_no_look : (rows : List Row) (s : Step) → MayMake rows s → s.kind ≡ step.Admit → is_look_reading (reading s.datagram) ≡ false
@@ -115,8 +128,11 @@ pub journal_sends : (rows : List Row) → IsJournal rows → AllRows RowSends ro
 unfolding row
 journal_sends [] begun = tt
 journal_sends (r ∷ before) (made {rows} {s} starved journal may) =
-    let all : AllRows RowSends before = journal_sends before journal in
-    (effects_send s.kind starved before (row_moment before s) s (before_all before journal all) (admitted_no_look before s may), all)
+    let all : AllRows RowSends before = journal_sends before journal in (
+      effects_send s.kind starved before (row_moment before s) s (before_all before journal all)
+          (admitted_no_look before s may),
+      all,
+    )
 
 -- ---- the law
 

@@ -62,7 +62,8 @@ none_staged None = tt
 none_staged (Some b) = refl
 
 -- nothing is entered, and nothing is laid
-pub laid_none : (old new : Version) (before : Option (Option Version)) (is_staged : Bool) → new ≡ old → is_staged ≡ false → IsLaid old new before before is_staged
+pub laid_none : (old new : Version) (before : Option (Option Version)) (is_staged : Bool)
+    → new ≡ old → is_staged ≡ false → IsLaid old new before before is_staged
 laid_none old new before is_staged same free = record {
   entered = false;
   staged = none_staged before;
@@ -72,8 +73,11 @@ laid_none old new before is_staged same free = record {
 }
 
 -- what is planned is laid and done
-pub laid_planned : (old new : Version) (e : Option Entering) (before after : Option (Option Version)) (is_staged : Bool) → IfSome before (λ staged. after ≡ Some (version_ready e staged)) → IsLeftBy old new e
-    → ((history : List Entry) → VersionStandsFor 0 history old → IfSome e (λ e. HasOneMore history (arc_value e.version)))
+pub laid_planned : (old new : Version) (e : Option Entering)
+    (before after : Option (Option Version)) (is_staged : Bool)
+    → IfSome before (λ staged. after ≡ Some (version_ready e staged)) → IsLeftBy old new e
+    → ((history : List Entry) → VersionStandsFor 0 history old
+    → IfSome e (λ e. HasOneMore history (arc_value e.version)))
     → (e ≡ None → is_staged ≡ false) → IsLaid old new before after is_staged
 laid_planned old new None before after is_staged laid left next free = record {
   entered = false;
@@ -95,13 +99,18 @@ laid_planned old new (Some e) before after is_staged laid left next free = recor
     staged (Some b) h = h ∙ ap (λ v. Some (Some v)) (sym left)
 
 -- nor is anything where memory ran out
-pub laid_kept : (old new : Version) (before after : Option (Option Version)) (is_staged : Bool) → new ≡ old → after ≡ before → is_staged ≡ false → IsLaid old new before after is_staged
+pub laid_kept : (old new : Version) (before after : Option (Option Version)) (is_staged : Bool)
+    → new ≡ old → after ≡ before → is_staged ≡ false → IsLaid old new before after is_staged
 laid_kept old new before after is_staged same kept free =
-    subst (λ (now : Option (Option Version)). IsLaid old new before now is_staged) (sym kept) (laid_none old new before is_staged same free)
+    subst (λ (now : Option (Option Version)). IsLaid old new before now is_staged) (sym kept)
+    (laid_none old new before is_staged same free)
 
 -- where the version stayed before, it is laid as from the beginning
-pub laid_from : (old begun new : Version) (before after : Option (Option Version)) (is_staged : Bool) → begun ≡ old → IsLaid begun new before after is_staged → IsLaid old new before after is_staged
-laid_from old begun new before after is_staged same laid = subst (λ (v : Version). IsLaid v new before after is_staged) same laid
+pub laid_from : (old begun new : Version) (before after : Option (Option Version))
+    (is_staged : Bool) → begun ≡ old → IsLaid begun new before after is_staged
+    → IsLaid old new before after is_staged
+laid_from old begun new before after is_staged same laid =
+    subst (λ (v : Version). IsLaid v new before after is_staged) same laid
 
 -- ---- a whole step
 
@@ -119,7 +128,9 @@ one_left [] version n o = absurd (omega (arith, n))
 one_left (e ∷ es) version n o = refl
 
 -- a version stood for a history, and then one for that with the entries of these notes: it is staged where there is one
-leaves_staged : (history : List Entry) (notes : List Note) (old new : Version) (before after : Option (Option Version)) (is_staged : Bool) → VersionStandsFor 0 history old → VersionStandsFor 0 (history ++ filter_map entry_noted notes) new
+leaves_staged : (history : List Entry) (notes : List Note) (old new : Version)
+    (before after : Option (Option Version)) (is_staged : Bool) → VersionStandsFor 0 history old
+    → VersionStandsFor 0 (history ++ filter_map entry_noted notes) new
     → IsLaid old new before after is_staged → LeavesStaged notes new before after is_staged
 leaves_staged history notes old new before after is_staged stood stands laid = by laid.entered refl
   where
@@ -129,8 +140,11 @@ leaves_staged history notes old new before after is_staged stood stands laid = b
         let are = stands.entries in
         let same = ap (λ (v : Version). v.entries) (laid.kept is) in
         let longer = length-append history (filter_map entry_noted notes) in (
-          carried after (λ o. o) (λ o. staged_after (filter_map entry_noted notes) new o) (none_left (filter_map entry_noted notes) new (omega (arith, was, are, same, longer))) before
-              (subst (λ (b : Bool). IfSome before (λ staged. after ≡ Some (if b then Some new else staged))) is laid.staged),
+          carried after (λ o. o) (λ o. staged_after (filter_map entry_noted notes) new o)
+              (none_left (filter_map entry_noted notes) new (omega (arith, was, are, same, longer)))
+              before
+              (subst (λ (b : Bool). IfSome before
+              (λ staged. after ≡ Some (if b then Some new else staged))) is laid.staged),
           λ none. laid.free is,
         )
     by true is =
@@ -139,13 +153,20 @@ leaves_staged history notes old new before after is_staged stood stands laid = b
         let are = stands.entries in
         let longer = length-append history (filter_map entry_noted notes) in
         let once = length-append history (more.entry ∷ []) in (
-          carried after (λ o. Some new) (λ o. staged_after (filter_map entry_noted notes) new o) (one_left (filter_map entry_noted notes) new (omega (arith, was, are, longer, once))) before
-              (subst (λ (b : Bool). IfSome before (λ staged. after ≡ Some (if b then Some new else staged))) is laid.staged),
+          carried after (λ o. Some new) (λ o. staged_after (filter_map entry_noted notes) new o)
+              (one_left (filter_map entry_noted notes) new (omega (arith, was, are, longer, once)))
+              before
+              (subst (λ (b : Bool). IfSome before
+              (λ staged. after ≡ Some (if b then Some new else staged))) is laid.staged),
           λ none. let no = ap length none in absurd (omega (arith, was, are, longer, once, no)),
         )
 
 -- a step that was made leaves its version staged where it made an entry
-pub made_staged : (rows : List Row) (r : Row) (d e : Seen) (before after : Option (Option Version)) (is_staged : Bool) → StandsFor rows d → StandsFor (r ∷ rows) e → IsLaid d.version e.version before after is_staged
+pub made_staged : (rows : List Row) (r : Row) (d e : Seen) (before after : Option (Option Version))
+    (is_staged : Bool) → StandsFor rows d → StandsFor (r ∷ rows) e
+    → IsLaid d.version e.version before after is_staged
     → LeavesStaged r.notes e.version before after is_staged
 unfolding entries
-made_staged rows r d e before after is_staged stood stands laid = leaves_staged (entries rows) r.notes d.version e.version before after is_staged stood.directory.history stands.directory.history laid
+made_staged rows r d e before after is_staged stood stands laid =
+    leaves_staged (entries rows) r.notes d.version e.version before after is_staged
+    stood.directory.history stands.directory.history laid

@@ -27,5 +27,9 @@ pub returns-clause-staged : goal.returns-clause-staged
 returns-clause-staged g c rows s kind of datagram worded called =
     let here = subst (λ (d : Seen). IsCalled rows s c.args.now c.args.mids.now d) (sym (ap (λ x. x.tables) c.self.view_is)) called in
     let made = c.admit.ensures.made rows s kind of datagram worded here in
-    subst (λ x. LeavesStaged (row rows s (is_starved_admission c.admit.result)).notes c.admit.new.self.version (g.B.Board.staged x.board) (g.B.Board.staged c.admit.new.board) (g.B.Board.has_staged c.admit.new.board)) c.self.view_is
-    (made_staged rows (row rows s (is_starved_admission c.admit.result)) _ c.admit.new.self _ _ _ here.stands made.stands c.admit.ensures.laid)
+    subst (λ x. LeavesStaged
+    (row rows s (is_starved_admission c.admit.result)).notes c.admit.new.self.version
+    (g.B.Board.staged x.board) (g.B.Board.staged c.admit.new.board)
+    (g.B.Board.has_staged c.admit.new.board)) c.self.view_is
+    (made_staged rows (row rows s (is_starved_admission c.admit.result)) _ c.admit.new.self _ _ _
+    here.stands made.stands c.admit.ensures.laid)

@@ -19,5 +19,9 @@ pub returns-clause-staged : goal.returns-clause-staged
 returns-clause-staged g c rows s place m kind of datagram word read opened called =
     let here = subst (λ (d : Seen). IsCalled rows s c.args.now c.args.mids.now d) (sym (ap (λ x. x.tables) c.self.view_is)) called in
     let made = c.commit.ensures.made rows s place m kind of datagram word read opened here in
-    subst (λ x. LeavesStaged (row rows s (is_starved_step c.commit.result)).notes c.commit.new.self.version (g.B.Board.staged x.board) (g.B.Board.staged c.commit.new.board) (g.B.Board.has_staged c.commit.new.board)) c.self.view_is
-    (made_staged rows (row rows s (is_starved_step c.commit.result)) _ c.commit.new.self _ _ _ here.stands made.stands c.commit.ensures.laid)
+    subst (λ x. LeavesStaged
+    (row rows s (is_starved_step c.commit.result)).notes c.commit.new.self.version
+    (g.B.Board.staged x.board) (g.B.Board.staged c.commit.new.board)
+    (g.B.Board.has_staged c.commit.new.board)) c.self.view_is
+    (made_staged rows (row rows s (is_starved_step c.commit.result)) _ c.commit.new.self _ _ _
+    here.stands made.stands c.commit.ensures.laid)

@@ -51,7 +51,9 @@ pub hear-requires-clause-told : goal.hear-requires-clause-told
 hear-requires-clause-told g c = subst (λ (v : Version). AreToldOf v (g.B.Board.told c.args.board.now)) (sym c.pass.ensures.version) c.requires.told
 
 pub returns-in-Ok-clause-laid : goal.returns-in-Ok-clause-laid
-returns-in-Ok-clause-laid g c = laid_from c.args.self.now.version _ _ _ _ _ c.pass.ensures.version c.hear.ensures.laid
+returns-in-Ok-clause-laid g c =
+    laid_from c.args.self.now.version _ _ _ _ _ c.pass.ensures.version c.hear.ensures.laid
 
 pub returns-in-Err-clause-laid : goal.returns-in-Err-clause-laid
-returns-in-Err-clause-laid g c = laid_none c.args.self.now.version _ _ _ c.pass.ensures.version c.requires.free
+returns-in-Err-clause-laid g c =
+    laid_none c.args.self.now.version _ _ _ c.pass.ensures.version c.requires.free

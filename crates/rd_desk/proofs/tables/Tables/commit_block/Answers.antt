@@ -90,25 +90,38 @@ returns-in-Starved-clause-way g c =
 -- what is laid: where no body is done, the version stays
 
 pub returns-in_default-clause-laid : goal.returns-in_default-clause-laid
-returns-in_default-clause-laid g c = laid_none c.args.self.now.version _ _ _ c.fail.ensures.version c.requires.free
+returns-in_default-clause-laid g c =
+    laid_none c.args.self.now.version _ _ _ c.fail.ensures.version c.requires.free
 
 pub returns-in-More-clause-laid : goal.returns-in-More-clause-laid
-returns-in-More-clause-laid g c = laid_none c.args.self.now.version _ _ _ (c.settle.ensures.version ∙ c.take_block.ensures.version) c.requires.free
+returns-in-More-clause-laid g c =
+    laid_none c.args.self.now.version _ _ _ (c.settle.ensures.version
+    ∙ c.take_block.ensures.version) c.requires.free
 
 pub commit_body-requires-clause-told : goal.commit_body-requires-clause-told
 commit_body-requires-clause-told g c = subst (λ (v : Version). AreToldOf v (g.B.Board.told c.args.board.now)) (sym c.take_block.ensures.version) c.requires.told
 
 pub returns-in-Whole-clause-laid : goal.returns-in-Whole-clause-laid
-returns-in-Whole-clause-laid g c = laid_from c.args.self.now.version _ _ _ _ _ c.take_block.ensures.version c.commit_body.ensures.laid
+returns-in-Whole-clause-laid g c =
+    laid_from c.args.self.now.version _ _ _ _ _ c.take_block.ensures.version
+    c.commit_body.ensures.laid
 
 pub returns-in-OutOfOrder-clause-laid : goal.returns-in-OutOfOrder-clause-laid
-returns-in-OutOfOrder-clause-laid g c = laid_none c.args.self.now.version _ _ _ (c.refuse_write.ensures.version ∙ c.take_block.ensures.version) c.requires.free
+returns-in-OutOfOrder-clause-laid g c =
+    laid_none c.args.self.now.version _ _ _ (c.refuse_write.ensures.version
+    ∙ c.take_block.ensures.version) c.requires.free
 
 pub returns-in-TooLarge-clause-laid : goal.returns-in-TooLarge-clause-laid
-returns-in-TooLarge-clause-laid g c = laid_none c.args.self.now.version _ _ _ (c.refuse_write-in-TooLarge.ensures.version ∙ c.take_block.ensures.version) c.requires.free
+returns-in-TooLarge-clause-laid g c =
+    laid_none c.args.self.now.version _ _ _ (c.refuse_write-in-TooLarge.ensures.version
+    ∙ c.take_block.ensures.version) c.requires.free
 
 pub returns-in-FullUploads-clause-laid : goal.returns-in-FullUploads-clause-laid
-returns-in-FullUploads-clause-laid g c = laid_none c.args.self.now.version _ _ _ (c.refuse_write-in-FullUploads.ensures.version ∙ c.take_block.ensures.version) c.requires.free
+returns-in-FullUploads-clause-laid g c =
+    laid_none c.args.self.now.version _ _ _ (c.refuse_write-in-FullUploads.ensures.version
+    ∙ c.take_block.ensures.version) c.requires.free
 
 pub returns-in-Starved-clause-laid : goal.returns-in-Starved-clause-laid
-returns-in-Starved-clause-laid g c = laid_none c.args.self.now.version _ _ _ (c.fail-in-Starved.ensures.version ∙ c.take_block.ensures.version) c.requires.free
+returns-in-Starved-clause-laid g c =
+    laid_none c.args.self.now.version _ _ _ (c.fail-in-Starved.ensures.version
+    ∙ c.take_block.ensures.version) c.requires.free

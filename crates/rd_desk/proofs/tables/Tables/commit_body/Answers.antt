@@ -48,12 +48,18 @@ returns-in-Ok-clause-way g c =
 
 pub returns-in-Ok-clause-laid : goal.returns-in-Ok-clause-laid
 returns-in-Ok-clause-laid g c =
-    laid_planned c.args.self.now.version _ c.in-Ok.outcome.entering _ _ _ c.in-Ok.ensures.laid c.settle_upload.ensures.version
+    laid_planned c.args.self.now.version _ c.in-Ok.outcome.entering _ _ _ c.in-Ok.ensures.laid
+    c.settle_upload.ensures.version
     (λ history stands. of_laid (IsNextOf history) c.body_outcome-planned.result c.in-Ok.outcome c.in-Ok.ensures.same
-    (c.body_outcome-planned.ensures.next history (subst (VersionStandsFor 0 history) (sym (c.deref.ensures ∙ ap (λ (d : Seen). d.version) c.self.view_is)) stands))) c.in-Ok.ensures.none_laid
+    (c.body_outcome-planned.ensures.next history
+    (subst (VersionStandsFor 0 history)
+    (sym (c.deref.ensures ∙ ap (λ (d : Seen). d.version) c.self.view_is)) stands)))
+    c.in-Ok.ensures.none_laid
 
 pub returns-in-Err-clause-way : goal.returns-in-Err-clause-way
 returns-in-Err-clause-way g c = λ rows s place of opened way. c.fail.ensures.way rows s true place of opened way
 
 pub returns-in-Err-clause-laid : goal.returns-in-Err-clause-laid
-returns-in-Err-clause-laid g c = laid_kept c.args.self.now.version _ _ _ _ c.fail.ensures.version c.in-Err.ensures.kept c.in-Err.ensures.none_kept
+returns-in-Err-clause-laid g c =
+    laid_kept c.args.self.now.version _ _ _ _ c.fail.ensures.version c.in-Err.ensures.kept
+    c.in-Err.ensures.none_kept

@@ -34,7 +34,12 @@ returns-clause-laid g c =
     laid_planned c.args.self.now.version _ c.in-Ok.planned.entering _ _ _ c.in-Ok.ensures.laid
     (subst (λ (d : Seen). IsLeftBy c.args.self.now.version d.version c.in-Ok.planned.entering) (sym c.self-2.view_is) c.register_fetched.ensures.version)
     (λ history stands. of_laid (IsNextOf history) c.registered-planned.result c.in-Ok.planned c.in-Ok.ensures.same
-    (c.registered-planned.ensures.next history (subst (VersionStandsFor 0 history) (sym (c.deref.ensures ∙ ap (λ (d : Seen). d.version) c.self.view_is)) stands))) c.in-Ok.ensures.none_laid
+    (c.registered-planned.ensures.next history
+    (subst (VersionStandsFor 0 history)
+    (sym (c.deref.ensures ∙ ap (λ (d : Seen). d.version) c.self.view_is)) stands)))
+    c.in-Ok.ensures.none_laid
 
 pub returns-in_default-clause-laid : goal.returns-in_default-clause-laid
-returns-in_default-clause-laid g c = laid_kept c.args.self.now.version _ _ _ _ refl c.in_default.ensures.kept c.in_default.ensures.none_kept
+returns-in_default-clause-laid g c =
+    laid_kept c.args.self.now.version _ _ _ _ refl c.in_default.ensures.kept
+    c.in_default.ensures.none_kept

@@ -38,7 +38,13 @@ conclude-requires-clause-timely g c = of_laid (IsTimely c.args.self.now.moment) 
 
 pub returns-in-Ok-clause-laid : goal.returns-in-Ok-clause-laid
 returns-in-Ok-clause-laid g c =
-    laid_planned c.args.self.now.version _ c.in-Ok.outcome.entering _ _ _ c.in-Ok.ensures.laid c.conclude.ensures.version (λ history stands. of_laid (IsNextOf history) c.args.planned c.in-Ok.outcome c.in-Ok.ensures.same (c.requires.next history stands)) c.in-Ok.ensures.none_laid
+    laid_planned c.args.self.now.version _ c.in-Ok.outcome.entering _ _ _ c.in-Ok.ensures.laid
+    c.conclude.ensures.version
+    (λ history stands. of_laid
+    (IsNextOf history) c.args.planned c.in-Ok.outcome c.in-Ok.ensures.same
+    (c.requires.next history stands)) c.in-Ok.ensures.none_laid
 
 pub returns-in-Err-clause-laid : goal.returns-in-Err-clause-laid
-returns-in-Err-clause-laid g c = laid_kept c.args.self.now.version _ _ _ _ c.fail.ensures.version c.in-Err.ensures.kept c.in-Err.ensures.none_kept
+returns-in-Err-clause-laid g c =
+    laid_kept c.args.self.now.version _ _ _ _ c.fail.ensures.version c.in-Err.ensures.kept
+    c.in-Err.ensures.none_kept

@@ -89,13 +89,16 @@ pub returns-in-Ping-clause-laid : goal.returns-in-Ping-clause-laid
 returns-in-Ping-clause-laid g c = laid_none c.args.self.now.version _ _ _ refl c.requires.free
 
 pub returns-in-Acknowledgement-clause-laid : goal.returns-in-Acknowledgement-clause-laid
-returns-in-Acknowledgement-clause-laid g c = laid_none c.args.self.now.version _ _ _ c.acknowledge.ensures.version c.requires.free
+returns-in-Acknowledgement-clause-laid g c =
+    laid_none c.args.self.now.version _ _ _ c.acknowledge.ensures.version c.requires.free
 
 pub returns-in-Reset-clause-laid : goal.returns-in-Reset-clause-laid
-returns-in-Reset-clause-laid g c = laid_none c.args.self.now.version _ _ _ c.reset.ensures.version c.requires.free
+returns-in-Reset-clause-laid g c =
+    laid_none c.args.self.now.version _ _ _ c.reset.ensures.version c.requires.free
 
 pub returns-in-Request-clause-laid : goal.returns-in-Request-clause-laid
-returns-in-Request-clause-laid g c = laid_none c.args.self.now.version _ _ _ c.hear_request.ensures.version c.requires.free
+returns-in-Request-clause-laid g c =
+    laid_none c.args.self.now.version _ _ _ c.hear_request.ensures.version c.requires.free
 
 pub returns-in-Ignored-clause-laid : goal.returns-in-Ignored-clause-laid
 returns-in-Ignored-clause-laid g c = laid_none c.args.self.now.version _ _ _ refl c.requires.free

@@ -51,19 +51,29 @@ returns-in-Ended-clause-way g c =
 -- what is laid: only a body that is whole can enter anything
 
 pub returns-in-Passed-clause-laid : goal.returns-in-Passed-clause-laid
-returns-in-Passed-clause-laid g c = laid_none c.args.self.now.version _ _ _ (ap (λ (d : Seen). d.version) c.self.view_is) c.requires.free
+returns-in-Passed-clause-laid g c =
+    laid_none c.args.self.now.version _ _ _
+    (ap (λ (d : Seen). d.version) c.self.view_is) c.requires.free
 
 pub returns-in-Next-clause-laid : goal.returns-in-Next-clause-laid
-returns-in-Next-clause-laid g c = laid_none c.args.self.now.version _ _ _ (ap (λ (d : Seen). d.version) c.self.view_is) c.requires.free
+returns-in-Next-clause-laid g c =
+    laid_none c.args.self.now.version _ _ _
+    (ap (λ (d : Seen). d.version) c.self.view_is) c.requires.free
 
 pub returns-in-Ended-clause-laid : goal.returns-in-Ended-clause-laid
-returns-in-Ended-clause-laid g c = laid_none c.args.self.now.version _ _ _ (ap (λ (d : Seen). d.version) c.self.view_is) c.requires.free
+returns-in-Ended-clause-laid g c =
+    laid_none c.args.self.now.version _ _ _
+    (ap (λ (d : Seen). d.version) c.self.view_is) c.requires.free
 
 pub returns-in-Starved-clause-laid : goal.returns-in-Starved-clause-laid
-returns-in-Starved-clause-laid g c = laid_none c.args.self.now.version _ _ _ (ap (λ (d : Seen). d.version) c.self.view_is) c.requires.free
+returns-in-Starved-clause-laid g c =
+    laid_none c.args.self.now.version _ _ _
+    (ap (λ (d : Seen). d.version) c.self.view_is) c.requires.free
 
 pub returns-in-Whole-clause-laid : goal.returns-in-Whole-clause-laid
-returns-in-Whole-clause-laid g c = laid_from c.args.self.now.version _ _ _ _ _ (ap (λ (d : Seen). d.version) c.self.view_is) c.complete_fetch.ensures.laid
+returns-in-Whole-clause-laid g c =
+    laid_from c.args.self.now.version _ _ _ _ _
+    (ap (λ (d : Seen). d.version) c.self.view_is) c.complete_fetch.ensures.laid
 
 pub complete_fetch-requires-clause-told : goal.complete_fetch-requires-clause-told
 complete_fetch-requires-clause-told g c = subst (λ (d : Seen). AreToldOf d.version (g.B.Board.told c.args.board.now)) (sym c.self.view_is) c.requires.told
