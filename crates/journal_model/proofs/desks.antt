@@ -2,4 +2,5 @@ pub mod TouchedExchanges
 pub mod AdmissionsInOrder
 pub mod OpenAdmissions
 pub mod CommitsOnce
+pub mod OpenForOthers
 pub mod MachineJournals

@@ -23,9 +23,10 @@ datagrams_shown o = map (datagram_at o.octets.items) o.spans.items
 abbrev pub LiesWithin : ℕ → Span → Type 0
 LiesWithin size s = (s.start ≤ s.end) × (s.end ≤ size)
 
--- each datagram lies within the octets, and there is room for all that one step sends
+-- each datagram lies within the octets, they are no more than one step sends, and there is room for all of these
 pub record IsOutbox (o : Inside) : Type 0 where
   pub room : 1_474_560 ≤ vec_capacity o.octets
   pub places : most_datagrams ≤ vec_capacity o.spans
+  pub few : length o.spans.items ≤ most_datagrams
   pub short : length o.octets.items ≤ longest_datagram * length o.spans.items
   pub within : AllByRecursion (LiesWithin (length o.octets.items)) o.spans.items

@@ -243,4 +243,16 @@ impl<B: Board> Desk<B> {
     {
         &mut self.board
     }
+
+    /// Ends the desk. The board comes back.
+    pub fn into_board(self) -> B
+        ensures { result ≡ self.board }
+    {
+        let Desk {
+            alloc: _alloc,
+            tables: _tables,
+            board,
+        } = self;
+        board
+    }
 }

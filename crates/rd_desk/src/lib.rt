@@ -52,7 +52,7 @@ pub use admissions::Admitted;
 pub use desk::{Desk, Unmade};
 pub use jobs::Job;
 pub use keep_jobs::KeepJob;
-pub use looks::{Looked, look};
+pub use looks::{Looked, look, look_starved};
 pub use mids::Mids;
 pub use outbox::Outbox;
 pub use requests::is_look;

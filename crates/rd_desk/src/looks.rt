@@ -1,5 +1,5 @@
 //! Lookups and discovery that are answered from one version of the directory (RFC 9176 sections 4.1 and 6, RFC 7252 section 5.10.6.2).
-ghost use Rattle.std.specs.Prelude.{◌≡◌, ◌≤◌, ◌<◌, true, false, List, length, Ok, Some, IfOk};
+ghost use Rattle.std.specs.Prelude.{◌≡◌, ◌≤◌, ◌<◌, ℕ, true, false, List, length, Ok, Some, IfOk};
 ghost use Rattle.message_model.specs.Message.{longest_token};
 ghost use Rattle.message_model.specs.Reading.{reading};
 ghost use Rattle.message_model.specs.Request.{path_in};
@@ -295,4 +295,14 @@ pub fn look(
         return Looked::Starved;
     };
     give(alloc, mids, peer, datagram, &meaning, found, out)
+}
+
+/// A request that only looks, for which no version is at hand, is answered 5.00 (RFC 7252 section 5.9.3.1). `out` has room for one datagram more.
+pub fn look_starved(mids: &mut Mids, peer: Peer, datagram: &[u8], out: &mut Outbox)
+    requires looks { is_look_datagram datagram.now ≡ true }
+    requires room { length out.old < most_datagrams }
+    ensures sends { (s : Step) (history : List Entry) (moment : ℕ) → IsStepOf s peer mids.old → Sends (looks_of.looked true history moment s (reading datagram.now)) out.old out.new mids.old mids.new }
+{
+    let meaning = look_meaning(datagram);
+    answer_starved(mids, peer, &meaning.view, out);
 }

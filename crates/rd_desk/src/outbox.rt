@@ -82,9 +82,10 @@ impl Outbox {
         }
     }
 
-    /// How many datagrams there are.
+    /// How many datagrams there are: no more than one step sends.
     pub fn len(&self) -> usize
-        ensures { result ≡ length self.now }
+        ensures count { result ≡ length self.now }
+        ensures few { result ≤ most_datagrams }
     {
         self.spans.len()
     }

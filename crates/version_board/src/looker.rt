@@ -1,5 +1,5 @@
 //! A looker: it reads what is shown, and waits for nobody.
-ghost use Rattle.std.specs.Prelude.{◌≡◌, ◌≤◌, List, [], true, IfOk, IfErr};
+ghost use Rattle.std.specs.Prelude.{◌≡◌, ◌⊎◌, ◌≤◌, List, [], true, IfOk, IfErr};
 ghost use Rattle.std.specs.Arc.{arc_value};
 ghost use mathlib.Core.List.{IsPrefix};
 ghost use Rattle.left_right.specs.Sides.{view};
@@ -94,6 +94,7 @@ impl Looker {
         ensures name { self.new.name ≡ self.old.name }
         ensures seen { IsPrefix self.old.seen self.new.seen }
         ensures met { IsPrefix publisher.old.told self.new.seen }
+        ensures only { (self.new.seen ≡ self.old.seen) ⊎ (self.new.seen ≡ publisher.old.told) }
         ensures order { (entries : List Entry) → IsPrefix entries self.old.seen → InOrder entries publisher.old.told }
     {
         let (told, entries) = publisher.front();

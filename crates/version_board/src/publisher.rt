@@ -1,5 +1,5 @@
 //! A publisher: it shows one version after another, each with one entry more.
-ghost use Rattle.std.specs.Prelude.{◌≡◌, ◌∷◌, ◌++◌, [], None, Some, IsSome, IfSome, drop, length};
+ghost use Rattle.std.specs.Prelude.{◌≡◌, ◌∷◌, ◌++◌, [], None, Some, IsSome, IfSome, is_some, drop, length};
 ghost use Rattle.std.specs.Arc.{arc_value};
 ghost use Rattle.left_right.specs.Sides.{view};
 ghost use Rattle.history_model.specs.Versions.{VersionStandsFor};
@@ -78,6 +78,24 @@ impl Publisher {
         ensures count { result.1 ≡ length self.now.told }
     {
         (&self.front, self.entries)
+    }
+
+    /// Whether a version is staged.
+    pub fn is_staged(&self) -> bool
+        ensures { result ≡ is_some self.now.staged }
+    {
+        self.staged.is_some()
+    }
+
+    /// The version that is published. It stands for the entries that the publisher tells.
+    pub fn published(&self) -> &Arc<Directory>
+        ensures shown { self.now.published ≡ Some (arc_value result.now) }
+        ensures stands { VersionStandsFor 0 self.now.told (arc_value result.now) }
+    {
+        let Some(writer) = &self.writer else {
+            unreachable!()
+        };
+        &writer.published().version
     }
 
     /// Publishes the version that is staged, which has one entry more. It waits for lookers that read the version before the last one, and cannot be refused.
