@@ -114,3 +114,11 @@ impl<K: Ord + Shared, V: Shared> ChunkMap<K, V> {
         self.change(key, Take)
     }
 }
+
+#[cfg(test)]
+impl<K: Ord + Shared, V: Shared> ChunkMap<K, V> {
+    /// The pairs in their levels.
+    pub(crate) fn levels(&self) -> &Levels<K, V> {
+        &self.levels
+    }
+}
