@@ -1,0 +1,12 @@
+-- The desk behind the turn, from one turn to the next.
+pub mod TurnLaws
+-- What a seat shows after its steps.
+pub mod SeatLaws
+-- One turn of a seat, from its beginning to its end.
+pub mod OneTurnLaws
+-- The jobs of a seat.
+pub mod JobLaws
+-- The seats of a new hall, and what a hall keeps between turns.
+pub mod HallLaws
+-- What a seat shows after any calls.
+pub mod RunLaws

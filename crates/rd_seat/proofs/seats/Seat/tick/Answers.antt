@@ -1,0 +1,16 @@
+use Rattle.std.proofs.Common.{subst}
+use Rattle.history_model.specs.Live.{IsFront}
+use Rattle.rd_desk.specs.Stepping.{is_starved_step}
+use Rattle.rd_seat.specs.Seats.{SeatSeen, MakesStep}
+use Rattle.rd_seat.specs.Shares.{share_shown}
+use Rattle.rd_seat.specs.Steps.{tick_step}
+use Rattle.rd_seat.proofs.seats.Seat.tick.Goals as goal
+
+-- what it had met it has met still
+pub returns-clause-met : goal.returns-clause-met
+returns-clause-met g c = subst (λ (v : SeatSeen). IsFront v.met c.tick.new.self.looker.seen) c.self.view_is c.tick.ensures.goes_on.met
+
+-- its share made the row
+pub returns-clause-made : goal.returns-clause-made
+returns-clause-made g c =
+    subst (λ (v : SeatSeen). MakesStep v (tick_step v.worker c.args.now c.args.word v.drawn) (is_starved_step c.tick.result) c.tick.new.out (share_shown c.tick.new.self)) c.self.view_is c.tick.ensures.made

@@ -1,0 +1,13 @@
+use Rattle.std.proofs.Common.{Some}
+use Rattle.journal_model.specs.Rows.{row}
+use Rattle.rd_desk.specs.Stepping.{is_starved_step}
+use Rattle.turn_lock.specs.Shown.{seen_of, number_of}
+use Rattle.rd_seat.specs.Steps.{tick_step, no_entry}
+use Rattle.rd_seat.proofs.shares.Share.tick.Given as goal
+
+abbrev pub ghosts-end-S-Added : goal.ghosts-end-S-Added
+ghosts-end-S-Added g a =
+    record { added = Some (row (seen_of a.pass.now) (tick_step (number_of a.pass.now) a._parts.now.now a._parts.now.word a._parts.now.mids.value.drawn) (is_starved_step a._parts.now.stepped)) }
+
+abbrev pub ghosts-end-E-Entering : goal.ghosts-end-E-Entering
+ghosts-end-E-Entering g a = record { entered = no_entry }

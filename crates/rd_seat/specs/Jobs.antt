@@ -1,0 +1,47 @@
+-- The jobs of a seat.
+use Rattle.std.specs.Prelude.{◌≡◌, ℕ, List, [], ◌∷◌, length, Some, None}
+use Rattle.journal_model.specs.declared.rows.Row.{Row}
+use Rattle.journal_model.specs.declared.steps.StepKind.TheVariants as step
+use Rattle.journal_model.specs.DeskJournal.{IsOpenFor}
+use Rattle.journal_model.specs.Seats.{job_left}
+use Rattle.rd_desk.specs.WriteJobs.{Write}
+use Rattle.rd_desk.specs.declared.admissions.Admitted.{Admitted}
+use Rattle.rd_desk.specs.declared.admissions.Admitted.TheVariants as admitted
+use Rattle.rd_seat.specs.Seats.{SeatSeen}
+use Rattle.rd_seat.specs.Steps.{commit_step}
+
+-- the write of a job was admitted at a place of the journal that the seat has seen, by the seat
+-- itself, and nothing there ended that
+pub record IsOpenJob (place : ℕ) (seat : SeatSeen) (j : Write) : Type 0 where
+  pub opened : IsOpenFor (commit_step seat.worker place (record { 0 = 0 }) j.peer j.datagram 0)
+      place seat.seen
+  pub admitted_at : opened.admission.moment.0 ≡ j.admitted
+
+-- a row leaves its worker with the job of the write that it admitted
+pub record IsLeft (j : Write) (r : Row) (before : List Row) : Type 0 where
+  pub left : job_left r before ≡ Some (record {
+    kind = step.Commit (length before);
+    peer = r.step.peer;
+    datagram = r.step.datagram;
+  })
+  pub is : j ≡ record {
+    peer = r.step.peer;
+    datagram = r.step.datagram;
+    admitted = r.moment.0;
+  }
+
+-- the last row of a journal leaves its worker with this, or with no job
+abbrev pub LeavesJob : Admitted → List Row → Type 0
+LeavesJob _ [] = ⊥
+LeavesJob (admitted.Held j) (r ∷ before) = IsLeft j r before
+LeavesJob _ (r ∷ before) = job_left r before ≡ None
+
+-- the place of the last row
+abbrev pub last_place : List Row → ℕ
+last_place [] = 0
+last_place (r ∷ before) = length before
+
+-- and the write, where one is admitted, stands open at the place of that row
+abbrev pub OpensJob : Admitted → SeatSeen → Type 0
+OpensJob (admitted.Held j) seat = IsOpenJob (last_place seat.seen) seat j
+OpensJob _ seat = Unit {0}

@@ -1,0 +1,11 @@
+pub mod Turns
+pub mod OneTurn
+pub mod Seats
+pub mod Steps
+pub mod Looks
+pub mod Insides
+pub mod Jobs
+pub mod Shares
+pub mod Heard
+pub mod Halls
+pub mod Runs

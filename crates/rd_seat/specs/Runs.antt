@@ -1,0 +1,70 @@
+-- The calls of a seat, one after another.
+use Rattle.std.specs.Prelude.{◌≡◌, ℕ, Bool, List, [], ◌∷◌, Option}
+use Rattle.std.specs.List.{AllByRecursion}
+use Rattle.rd_base.specs.declared.peers.Peer.{Peer}
+use Rattle.atomic_table.specs.Seated.{TableId}
+use Rattle.event_model.specs.KeptAnswers.{Answer}
+use Rattle.history_model.specs.declared.entries.Entry.{Entry}
+use Rattle.history_model.specs.Live.{IsFront}
+use Rattle.journal_model.specs.declared.rows.Row.{Row}
+use Rattle.journal_model.specs.declared.steps.Step.{Step}
+use Rattle.journal_model.specs.Journal.{entries}
+use Rattle.journal_model.specs.Seats.{IsSeat}
+use Rattle.rd_seat.specs.Seats.{SeatSeen, seat_of, new_seat, MakesStep, LooksAtMet}
+
+-- what one call of a seat did: a step at its turn, which made a row; or a look, by a seat that
+-- had seen a journal, from a front
+pub data Call : Type 0 where
+  turn : Row → Call
+  look : List Row → List Entry → Call
+
+-- A seat after calls, the latest first, of each of which its contract holds: it began as a new
+-- seat, a step left its row as the last one that is seen, and a look was from what is met after
+-- it.
+pub data HasCalled (hall : TableId) (worker : ℕ) : List Call → SeatSeen → Type 0 where
+  begun : HasCalled hall worker [] (new_seat hall worker)
+  turned : {calls : List Call} {before : SeatSeen} → (r : Row) (found : List Row) (s : Step)
+      (starved : Bool) (sent : List (Peer × List ℕ)) (after : SeatSeen)
+      → HasCalled hall worker calls before → IsFront before.met after.met
+      → MakesStep before s starved sent after → after.seen ≡ r ∷ found
+      → HasCalled hall worker (turn r ∷ calls) after
+  looked : {calls : List Call} {before : SeatSeen} → (s : Step) (starved : Bool)
+      (sent : List (Peer × List ℕ)) (held : Option Answer) (after : SeatSeen)
+      → HasCalled hall worker calls before → IsFront before.met after.met
+      → LooksAtMet before s starved sent held after
+      → HasCalled hall worker (look before.seen after.met ∷ calls) after
+
+-- the rows that calls made, the latest first
+abbrev pub rows_made : List Call → List Row
+rows_made [] = []
+rows_made (turn r ∷ calls) = r ∷ rows_made calls
+rows_made (look seen front ∷ calls) = rows_made calls
+
+-- the fronts from which looks were answered, the latest first
+abbrev pub fronts_shown : List Call → List (List Entry)
+fronts_shown [] = []
+fronts_shown (turn r ∷ calls) = fronts_shown calls
+fronts_shown (look seen front ∷ calls) = front ∷ fronts_shown calls
+
+-- each look's front begins with the entries that the seat had seen, and with the front of each
+-- look before it
+abbrev pub FrontsGoOn : List Call → Type 0
+FrontsGoOn [] = Unit {0}
+FrontsGoOn (turn r ∷ calls) = FrontsGoOn calls
+FrontsGoOn (look seen front ∷ calls) = IsFront (entries seen) front
+    × AllByRecursion (λ earlier. IsFront earlier front) (fronts_shown calls) × FrontsGoOn calls
+
+-- After any calls a seat is a seat of the journal: its own rows are those of its worker in what it
+-- has seen, each once and in their order, and they are exactly the rows that its calls made; and
+-- the fronts of its looks go on from what it had seen, and from each other.
+pub record IsSeatAfter (calls : List Call) (seat : SeatSeen) : Type 0 where
+  pub shown : List (List Entry)
+  pub front : List Entry
+  pub is_seat : IsSeat (seat_of seat shown front)
+  pub rows : seat.mine ≡ rows_made calls
+  pub fronts : FrontsGoOn calls
+
+-- of each seat, whatever its calls
+abbrev pub SeatsAreSeats : Type 0
+SeatsAreSeats = (hall : TableId) (worker : ℕ) (calls : List Call) (seat : SeatSeen)
+    → HasCalled hall worker calls seat → IsSeatAfter calls seat

@@ -1,0 +1,80 @@
+-- What contracts see of a seat.
+use Rattle.std.specs.Prelude.{ℕ, zero, suc, Bool, List, [], ◌∷◌, ◌++◌, Option}
+use Rattle.std.specs.List.{All}
+use Rattle.atomic_table.specs.Seated.{TableId}
+use Rattle.history_model.specs.declared.entries.Entry.{Entry}
+use Rattle.history_model.specs.Live.{IsFront}
+use Rattle.rd_base.specs.declared.peers.Peer.{Peer}
+use Rattle.event_model.specs.KeptAnswers.{Answer}
+use Rattle.journal_model.specs.declared.rows.Row.{Row}
+use Rattle.journal_model.specs.declared.steps.Step.{Step}
+use Rattle.journal_model.specs.Seats.{Seat, MakesRow, LooksFrom}
+
+-- what a seat shows
+pub record SeatSeen : Type 0 where
+  -- its hall
+  pub hall : TableId
+  -- its number, which is that of its worker
+  pub worker : ℕ
+  -- the journal that it has seen, up to its own last row
+  pub seen : List Row
+  -- the rows of it that the seat made
+  pub mine : List Row
+  -- the history that it has met: each front that it showed is a front of it
+  pub met : List Entry
+  -- the greatest moment of its rows and looks, 0 where there is none
+  pub last : ℕ
+  -- how many Message IDs its rows and looks drew, as 64 bits count
+  pub drawn : ℕ
+
+-- the seat with the fronts that it showed since its last turn, and the front of its last look,
+-- which no code keeps
+abbrev pub seat_of : SeatSeen → List (List Entry) → List Entry → Seat
+seat_of s shown front = record {
+  worker = s.worker;
+  seen = s.seen;
+  mine = s.mine;
+  shown = shown;
+  front = front;
+  last = s.last;
+  drawn = s.drawn;
+}
+
+-- it may have shown them: it has met all of them
+pub record MayHaveShown (s : SeatSeen) (shown : List (List Entry)) (front : List Entry)
+    : Type 0 where
+  pub all_met : All (λ f. IsFront f s.met) shown
+  pub front_met : IsFront front s.met
+
+-- Whatever fronts a seat showed since its last turn, it made the row of a step at its turn; since
+-- then it showed none.
+abbrev pub MakesStep : SeatSeen → Step → Bool → List (Peer × List ℕ) → SeatSeen → Type 0
+MakesStep before s starved sent after = (shown : List (List Entry)) (front : List Entry)
+    → MayHaveShown before shown front
+    → MakesRow (seat_of before shown front) s starved sent (seat_of after [] front)
+
+-- Whatever fronts a seat showed since its last turn, it looked from the history that it has met
+-- now, and showed that.
+abbrev pub LooksAtMet : SeatSeen → Step → Bool → List (Peer × List ℕ) → Option Answer → SeatSeen
+    → Type 0
+LooksAtMet before s starved sent held after = (shown : List (List Entry)) (front : List Entry)
+    → MayHaveShown before shown front
+    → LooksFrom (seat_of before shown front) s starved sent held
+    (seat_of after (after.met ∷ shown) after.met)
+
+-- a seat that made no step
+abbrev pub new_seat : TableId → ℕ → SeatSeen
+new_seat hall worker = record {
+  hall = hall;
+  worker = worker;
+  seen = [];
+  mine = [];
+  met = [];
+  last = 0;
+  drawn = 0;
+}
+
+-- so many such seats, numbered from 0
+abbrev pub new_seats : TableId → ℕ → List SeatSeen
+new_seats hall zero = []
+new_seats hall (suc n) = new_seats hall n ++ new_seat hall n ∷ []

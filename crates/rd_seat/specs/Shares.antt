@@ -1,0 +1,46 @@
+-- What the steps and looks of a worker leave of its share in a hall.
+use Rattle.std.specs.Prelude.{◌≡◌, ℕ, Bool, List, Option}
+use Rattle.rd_base.specs.declared.peers.Peer.{Peer}
+use Rattle.event_model.specs.KeptAnswers.{Answer}
+use Rattle.history_model.specs.Live.{IsFront}
+use Rattle.journal_model.specs.declared.steps.Step.{Step}
+use Rattle.turn_lock.specs.Shown.{lock_of, seen_of}
+use Rattle.rd_desk.specs.declared.admissions.Admitted.{Admitted}
+use Rattle.rd_seat.specs.declared.shares.Share.{Share}
+use Rattle.rd_seat.specs.Insides.{IsAtRest, seat_shown}
+use Rattle.rd_seat.specs.Jobs.{LeavesJob, OpensJob}
+use Rattle.rd_seat.specs.Seats.{SeatSeen, MakesStep, LooksAtMet}
+
+-- what the seat of a share shows
+abbrev pub share_shown : Share → SeatSeen
+share_shown share = seat_shown share.pass share.looker share.mids share.last
+
+-- it is as it is between two calls
+abbrev pub Rests : Share → Type 0
+Rests share = IsAtRest share.pass share.looker share.mids share.last
+
+-- it is of the same hall, is at rest again, and has met all that it had met
+pub record GoesOnAs (before after : Share) : Type 0 where
+  pub hall : lock_of after.pass ≡ lock_of before.pass
+  pub rest : Rests after
+  pub met : IsFront before.looker.seen after.looker.seen
+
+-- it had a turn, at which it made the row of a step
+pub record HasTurned (before : Share) (s : Step) (starved : Bool) (sent : List (Peer × List ℕ))
+    (after : Share) : Type 0 where
+  pub goes_on : GoesOnAs before after
+  pub made : MakesStep (share_shown before) s starved sent (share_shown after)
+
+-- the row is that of a datagram that was heard, and leaves its worker with the job of the write
+-- that it admits
+pub record HasAdmitted (before : Share) (s : Step) (starved : Bool) (sent : List (Peer × List ℕ))
+    (result : Admitted) (after : Share) : Type 0 where
+  pub turned : HasTurned before s starved sent after
+  pub left : LeavesJob result (seen_of after.pass)
+  pub opens : OpensJob result (share_shown after)
+
+-- it looked, from what it has met then
+pub record HasLooked (before : Share) (s : Step) (starved : Bool) (sent : List (Peer × List ℕ))
+    (held : Option Answer) (after : Share) : Type 0 where
+  pub goes_on : GoesOnAs before after
+  pub looks : LooksAtMet (share_shown before) s starved sent held (share_shown after)

@@ -1,0 +1,137 @@
+//! A hall: a desk and a board that many workers share.
+ghost use Rattle.std.specs.Prelude.{◌≡◌, ◌≤◌, [], length, IfOk, All, replicate};
+ghost use Rattle.std.specs.Vec.{vec_capacity};
+ghost use Rattle.atomic_table.specs.Seated.{TableId};
+ghost use Rattle.turn_lock.specs.Shown.{id_of, lock_of, label_of, list_of, IsNew};
+ghost use Rattle.version_board.specs.Ends.{new_looker};
+ghost use Rattle.rd_seat.specs.Seats.{new_seats};
+ghost use Rattle.rd_seat.specs.Insides.{AreNewFrom};
+ghost use Rattle.rd_seat.specs.Turns.{StandsAtTurn};
+
+use crate::seat_lists::Seats;
+use crate::seats::Seat;
+use crate::shared_desk::SharedDesk;
+use directory_core::Directory;
+use rd_base::{Moment, Starved};
+use rd_desk::{Desk, Mids};
+use std::alloc::Global;
+use std::marker::Model;
+use std::sync::{Arc, Wait};
+use turn_lock::{Ended, Passes, TurnLock};
+use version_board::{Lookers, board};
+
+/// A directory that workers share, each by a seat of its own. Contracts see which hall it is. It
+/// cannot be dropped: `end` ends it.
+pub struct Hall {
+    lock: TurnLock<SharedDesk>,
+}
+
+impl Model for Hall {
+    ghost use Rattle.atomic_table.specs.Seated.{TableId};
+    ghost use Rattle.turn_lock.specs.Shown.{id_of};
+
+    ghost Value = { TableId };
+
+    ghost view = { λ h. id_of h.lock };
+}
+
+/// A desk that nobody shares any more ends with its board.
+fn end_shared<R: Wait>(rt: &R, shared: SharedDesk) {
+    shared.into_desk().into_board().end(rt);
+}
+
+/// The desk of a new hall, and a looker for each worker.
+fn shared_desk<R: Wait>(
+    alloc: Global,
+    rt: &R,
+    workers: u32,
+) -> Result<(SharedDesk, Lookers), Starved>
+    requires workers { (1 ≤ workers) × (workers ≤ 16) }
+    ensures stands { IfOk result (λ made. StandsAtTurn [] made.0.desk) }
+    ensures lookers { IfOk result (λ made.
+        made.1 ≡ replicate workers (new_looker made.0.desk.board.name)) }
+{
+    let first = Arc::new(alloc, Directory::empty(alloc, 0)?)?;
+    let (publisher, lookers) = board(alloc, rt, workers, first)?;
+    match Desk::make_or_return(alloc, publisher) {
+        Ok(desk) => Ok((SharedDesk { desk }, lookers)),
+        Err(unmade) => {
+            unmade.board.end(rt);
+            Err(Starved)
+        }
+    }
+}
+
+/// A seat for each pass, with a looker.
+fn seats_of(
+    alloc: Global,
+    lock: &TurnLock<SharedDesk>,
+    room: Vec<Seat>,
+    passes: Passes<SharedDesk>,
+    lookers: Lookers,
+    workers: u32,
+) -> Vec<Seat>
+    requires none { room.items ≡ [] }
+    requires room { workers ≤ vec_capacity room }
+    requires workers { workers ≤ 16 }
+    requires count { length (list_of passes) ≡ workers }
+    requires new { AreNewFrom (id_of lock.now) 0 (list_of passes) lookers }
+    ensures { result.items ≡ new_seats (id_of lock.now) workers }
+{
+    let mut seats = room;
+    let mut passes = passes;
+    let mut lookers = lookers;
+    'workers: for worker in 0..workers {
+        let Some(pass) = passes.take_first() else {
+            unreachable!()
+        };
+        let Some(looker) = lookers.take_first() else {
+            unreachable!()
+        };
+        seats.push_reserved(Seat::new(alloc, pass, looker, worker as u8));
+    }
+    seats
+}
+
+impl Hall {
+    /// A hall for so many workers, 1 to 16, with a seat for each, numbered from 0. Nothing is
+    /// registered. It waits while the first version is shown. `Starved`: out of memory.
+    pub fn make<R: Wait>(alloc: Global, rt: &R, workers: u32) -> Result<(Hall, Seats), Starved>
+        requires workers { (1 ≤ workers) × (workers ≤ 16) }
+        ensures seats { IfOk result (λ made. made.1 ≡ new_seats made.0 workers) }
+        ensures hall { IfOk result (λ made. All (λ seat. seat.hall ≡ made.0) made.1) }
+    {
+        let room = Vec::with_capacity(alloc, workers as usize)?;
+        let (shared, lookers) = shared_desk(alloc, rt, workers)?;
+        match TurnLock::make_or_return(alloc, workers, shared) {
+            Ok((lock, passes)) => {
+                let seats = seats_of(alloc, &lock, room, passes, lookers, workers);
+                Ok((Hall { lock }, Seats::of(seats)))
+            }
+            Err(unmade) => {
+                end_shared(rt, unmade.value);
+                Err(Starved)
+            }
+        }
+    }
+
+    /// Its lock.
+    pub(crate) fn lock(&self) -> &TurnLock<SharedDesk>
+        ensures { id_of result.now ≡ self.now }
+    {
+        &self.lock
+    }
+
+    /// Ends the hall, and its board with it. The seats stay with their owners. It waits for looks
+    /// that are under way; a look that comes later finds nothing, and answers Starved.
+    pub fn end<R: Wait>(self, rt: &R) {
+        let Hall { lock } = self;
+        let found = match lock.end_alone() {
+            Ended::Free(shared) => Some(shared),
+            Ended::Held(found) => found,
+        };
+        if let Some(shared) = found {
+            end_shared(rt, shared);
+        }
+    }
+}

@@ -1,0 +1,49 @@
+//! Looks: they take no turn, and wait for nobody.
+ghost use Rattle.std.specs.Prelude.{◌≡◌, ◌≤◌, ◌^◌, [], true};
+ghost use Rattle.journal_model.specs.Machine.{is_look_datagram};
+ghost use Rattle.rd_desk.specs.Looking.{is_starved_look};
+ghost use Rattle.rd_seat.specs.Looks.{answer_held, IsJobOf};
+ghost use Rattle.rd_seat.specs.Shares.{Rests, HasLooked};
+ghost use Rattle.rd_seat.specs.Steps.{look_step};
+
+use crate::shares::Share;
+use rd_base::{Moment, Peer};
+use rd_desk::{Looked, Outbox, look, look_starved};
+
+impl Share {
+    /// A request that only looks is answered from the version that was published last. Where no
+    /// version could be had, memory has run out.
+    pub(crate) fn look(
+        &mut self,
+        now: Moment,
+        peer: Peer,
+        datagram: &[u8],
+        out: &mut Outbox,
+    ) -> Looked
+        requires rest { Rests self.old }
+        requires look { is_look_datagram datagram.now ≡ true }
+        requires moment { now.0 ≤ 10 ^ 15 }
+        requires empty { out.old ≡ [] }
+        ensures looked { HasLooked self.old
+            (look_step self.old.mids.worker now 0 peer datagram.now self.old.mids.drawn)
+            (is_starved_look result) out.new (answer_held result) self.new }
+        ensures job { IsJobOf peer datagram.now result }
+    {
+        let Ok(version) = self.looker.look() else {
+            self.last = now.later(self.last);
+            look_starved(&mut self.mids, peer, datagram, out);
+            return Looked::Starved;
+        };
+        let moment = now.later(self.last).later(version.at());
+        self.last = moment;
+        look(
+            self.alloc,
+            &version,
+            moment,
+            &mut self.mids,
+            peer,
+            datagram,
+            out,
+        )
+    }
+}

@@ -1,0 +1,120 @@
+//! A seat: what one worker has of a hall, as it is between two calls.
+ghost use Rattle.std.specs.Prelude.{◌≡◌, ◌<◌, ◌≤◌, ◌^◌, [], false, true};
+ghost use Rattle.history_model.specs.Live.{IsFront};
+ghost use Rattle.journal_model.specs.DeskJournal.{max_workers};
+ghost use Rattle.journal_model.specs.Machine.{is_look_datagram};
+ghost use Rattle.rd_desk.specs.Looking.{is_starved_look};
+ghost use Rattle.rd_desk.specs.Stepping.{is_starved_step};
+ghost use Rattle.turn_lock.specs.Shown.{lock_of, number_of, label_of, is_holding, seen_of, mine_of};
+ghost use Rattle.version_board.specs.Ends.{new_looker};
+ghost use Rattle.rd_seat.specs.Looks.{answer_held, IsJobOf};
+ghost use Rattle.rd_seat.specs.Seats.{new_seat, MakesStep, LooksAtMet};
+ghost use Rattle.rd_seat.specs.Steps.{look_step, tick_step};
+
+use crate::gates::Gate;
+use crate::halls::Hall;
+use crate::shared_desk::SharedDesk;
+use crate::shares::Share;
+use rd_base::{Moment, Peer};
+use rd_desk::{Looked, Mids, Outbox, Stepped};
+use std::alloc::Global;
+use std::marker::Model;
+use std::sync::Wait;
+use turn_lock::Pass;
+use version_board::Looker;
+
+/// The seat of one worker in a hall. Contracts see the journal that it has seen, its own rows of
+/// it, and the history that it has met.
+#[derive(Drop)]
+pub struct Seat {
+    /// What it has of the hall.
+    pub(crate) share: Share,
+}
+
+impl Model for Seat {
+    ghost use Rattle.rd_seat.specs.Seats.{SeatSeen};
+    ghost use Rattle.rd_seat.specs.Shares.{Rests, share_shown};
+
+    ghost Value = { SeatSeen };
+
+    ghost view = { λ s. share_shown s.share };
+
+    ghost invariant = { λ s. Rests s.share };
+}
+
+impl Seat {
+    /// A seat that made no step.
+    pub(crate) fn new(alloc: Global, pass: Pass<SharedDesk>, looker: Looker, worker: u8) -> Seat
+        requires worker { worker < max_workers }
+        requires number { number_of pass ≡ worker }
+        requires idle { is_holding pass ≡ false }
+        requires seen { seen_of pass ≡ [] }
+        requires mine { mine_of pass ≡ [] }
+        requires looker { looker ≡ new_looker (label_of pass) }
+        ensures { result ≡ new_seat (lock_of pass) worker }
+    {
+        let share = Share {
+            alloc,
+            pass,
+            looker,
+            mids: Mids::of(worker),
+            last: Moment(0),
+        };
+        Seat { share }
+    }
+
+    /// The step in which time passes, at a turn of the seat: what has waited long enough is sent
+    /// again, observers that are due are told, and what is old or has lapsed is dropped (RFC 7252
+    /// section 4.2, RFC 7641 sections 4.2 and 4.5). The moment, in milliseconds, is at most
+    /// 10^15; one below that of the directory is lifted to it. Waits of messages that go out are
+    /// made from the word. `out` is empty, and gets what is sent. `Starved`: out of memory; then
+    /// nobody is told anew, and the rest is done. It waits for the turn.
+    pub fn tick<R: Wait, G: Gate>(
+        &mut self,
+        rt: &R,
+        hall: &Hall,
+        gate: &G,
+        now: Moment,
+        word: u32,
+        out: &mut Outbox,
+    ) -> Stepped
+        requires hall { self.old.hall ≡ hall.now }
+        requires moment { now.0 ≤ 10 ^ 15 }
+        requires empty { out.old ≡ [] }
+        ensures hall { self.new.hall ≡ self.old.hall }
+        ensures met { IsFront self.old.met self.new.met }
+        ensures made { MakesStep self.old (tick_step self.old.worker now word self.old.drawn)
+            (is_starved_step result) out.new self.new }
+    {
+        self.share.tick(rt, hall.lock(), gate, now, word, out)
+    }
+
+    /// A request that only looks ([`rd_desk::is_look`]) is answered from the version that was
+    /// published last, at a moment in milliseconds that is at most 10^15; one below that of the
+    /// seat's last row or look, or of the version's last entry, is lifted. `out` is empty, and
+    /// gets the answer (RFC 9176 section 6). `Held`: the listing is longer than the block that
+    /// was asked for, and the worker has the job to keep it. `Starved`: out of memory; it is
+    /// answered 5.00. It waits for nobody.
+    ///
+    /// The version has all entries that the seat has seen, and all of those that its looks before
+    /// were answered from.
+    pub fn lookup(
+        &mut self,
+        now: Moment,
+        peer: Peer,
+        datagram: &[u8],
+        out: &mut Outbox,
+    ) -> Looked
+        requires look { is_look_datagram datagram.now ≡ true }
+        requires moment { now.0 ≤ 10 ^ 15 }
+        requires empty { out.old ≡ [] }
+        ensures hall { self.new.hall ≡ self.old.hall }
+        ensures met { IsFront self.old.met self.new.met }
+        ensures looks { LooksAtMet self.old
+            (look_step self.old.worker now 0 peer datagram.now self.old.drawn)
+            (is_starved_look result) out.new (answer_held result) self.new }
+        ensures job { IsJobOf peer datagram.now result }
+    {
+        self.share.look(now, peer, datagram, out)
+    }
+}

@@ -1,0 +1,92 @@
+//! Calls of a seat, and what they are answered.
+ghost use Rattle.std.specs.Prelude.{◌≡◌, IfOk};
+
+use rd_base::{Host, Moment, Peer, Starved};
+use rd_desk::{Looked, Outbox, Stepped, is_look};
+use rd_seat::{Gate, Hall, OpenGate, Seat, SeatHeard};
+use std::alloc::Global;
+use std::sync::Wait;
+
+/// Where the endpoint is.
+pub(crate) const ENDPOINT: Peer = Peer {
+    host: Host::V4([192, 0, 2, 10]),
+    port: 5683,
+};
+
+/// Who looks.
+pub(crate) const CLIENT: Peer = Peer {
+    host: Host::V4([192, 0, 2, 30]),
+    port: 40000,
+};
+
+/// The registration of `node1` with two links (RFC 9176 section 5).
+pub(crate) const REGISTRATION: &[u8] = b"\x41\x02\x00\x01\xa1\xb2rd\x11\x28\x38ep=node1\x06lt=600\xff</temp>;rt=\"temperature\";ct=0,</light>;rt=\"light-lux\";if=\"sensor\"";
+
+/// It is answered 2.01, with its location.
+pub(crate) const CREATED: &[u8] = b"\x61\x41\x00\x01\xa1\x82rd\x011";
+
+/// A lookup of the second link (RFC 9176 section 6).
+pub(crate) const LOOKUP: &[u8] = b"\x41\x01\x00\x02\xb2\xb9rd-lookup\x03res\x4crt=light-lux";
+
+/// Its answer where nothing is registered.
+pub(crate) const NOTHING: &[u8] = b"\x61\x45\x00\x02\xb2\x48\0\0\0\0\0\0\0\0\x81\x28";
+
+/// Its answer after one registration.
+pub(crate) const LISTED: &[u8] = b"\x61\x45\x00\x02\xb2\x48\0\0\0\0\0\x01\0\0\x81\x28\xff<coap://192.0.2.10/light>;rt=\"light-lux\";if=\"sensor\"";
+
+/// Whether one datagram is sent, which begins so.
+pub(crate) fn answers(out: &Outbox, beginning: &[u8]) -> bool {
+    match out.at(0) {
+        Some((_, octets)) => out.len() == 1 && octets.starts_with(beginning),
+        None => false,
+    }
+}
+
+/// A seat registers an endpoint: whether it is answered by a location, and nothing else is sent.
+pub(crate) fn register<R: Wait, G: Gate>(
+    rt: &R,
+    hall: &Hall,
+    gate: &G,
+    seat: &mut Seat,
+    peer: Peer,
+    datagram: &[u8],
+    out: &mut Outbox,
+) -> bool
+    requires hall { seat.old.hall ≡ hall.now }
+    ensures hall { seat.new.hall ≡ seat.old.hall }
+{
+    out.clear();
+    let heard = seat.hear(rt, hall, &OpenGate, Moment(1000), 0, peer, datagram, out);
+    let SeatHeard::Held(job) = heard else {
+        return false;
+    };
+    out.clear();
+    seat.go(rt, hall, gate, Moment(1000), job, out) == Stepped::Done && answers(out, b"\x61\x41")
+}
+
+/// A seat looks, by a clock that is behind: whether the answer begins so.
+pub(crate) fn looks(seat: &mut Seat, datagram: &[u8], beginning: &[u8], out: &mut Outbox) -> bool
+    ensures hall { seat.new.hall ≡ seat.old.hall }
+{
+    out.clear();
+    if !is_look(datagram) {
+        return false;
+    }
+    let looked = seat.lookup(Moment(1), CLIENT, datagram, out);
+    matches!(looked, Looked::Done) && answers(out, beginning)
+}
+
+/// The two seats of a new hall.
+pub(crate) fn two_seats<R: Wait>(alloc: Global, rt: &R) -> Result<(Hall, Seat, Seat), Starved>
+    ensures first { IfOk result (λ made. made.1.hall ≡ made.0) }
+    ensures second { IfOk result (λ made. made.2.hall ≡ made.0) }
+{
+    let (hall, mut seats) = Hall::make(alloc, rt, 2)?;
+    let Some(first) = seats.take_first() else {
+        unreachable!()
+    };
+    let Some(second) = seats.take_first() else {
+        unreachable!()
+    };
+    Ok((hall, first, second))
+}

@@ -1,0 +1,121 @@
+//! A hall and its seat where one allocation is refused, as by `rt try --test --fail-alloc N`: what
+//! finds no memory is answered 5.00, and the seat goes on. With ample memory nothing is refused.
+ghost use Rattle.std.specs.Prelude.{◌≡◌, IfOk};
+
+use crate::calls::{CLIENT, ENDPOINT, LISTED, LOOKUP, answers, looks};
+use rd_base::{Moment, Starved};
+use rd_desk::{Outbox, Stepped};
+use rd_seat::{Hall, OpenGate, Seat, SeatHeard};
+use std::alloc::Global;
+use std::sync::Wait;
+use std::test::Fail;
+
+/// A request to observe the links, and the registration of the one that comes, each with room for
+/// its Message ID (RFC 7641 section 3, RFC 9176 section 5).
+const OBSERVE: &[u8; 32] = b"\x41\x01\x00\x00\xc0\x60\x59rd-lookup\x03res\x4crt=light-lux";
+const REGISTER: &[u8; 45] =
+    b"\x41\x02\x00\x00\xa1\xb2rd\x48ep=node1\xff</light>;rt=\"light-lux\";if=\"sensor\"";
+
+/// Whether the one answer is 5.00 (RFC 7252 section 5.9.3.1).
+fn is_excused(out: &Outbox) -> bool {
+    answers(out, b"\x61\xa0")
+}
+
+/// A hall with one seat, at the second try where the first finds no memory.
+fn hall_of_one<R: Wait>(alloc: Global, rt: &R) -> Result<(Hall, Seat), Starved>
+    ensures hall { IfOk result (λ made. made.1.hall ≡ made.0) }
+{
+    let made = match Hall::make(alloc, rt, 1) {
+        Ok(made) => Ok(made),
+        Err(Starved) => Hall::make(alloc, rt, 1),
+    };
+    let (hall, mut seats) = made?;
+    let Some(seat) = seats.take_first() else {
+        unreachable!()
+    };
+    Ok((hall, seat))
+}
+
+/// The client observes: whether it is answered, at the second try where the first finds no memory.
+fn observes<R: Wait>(rt: &R, hall: &Hall, seat: &mut Seat, out: &mut Outbox) -> bool
+    requires hall { seat.old.hall ≡ hall.now }
+    ensures hall { seat.new.hall ≡ seat.old.hall }
+{
+    let mut request = *OBSERVE;
+    'tries: for number in 1..3 {
+        out.clear();
+        request[3] = number;
+        let heard = seat.hear(rt, hall, &OpenGate, Moment(1), 0, CLIENT, &request, out);
+        if let SeatHeard::Done = heard {
+            return answers(out, b"\x61\x45");
+        }
+        if !is_excused(out) {
+            return false;
+        }
+    }
+    false
+}
+
+/// The endpoint registers: whether it is answered, at a later try where one finds no memory.
+fn registers<R: Wait>(rt: &R, hall: &Hall, seat: &mut Seat, out: &mut Outbox) -> bool
+    requires hall { seat.old.hall ≡ hall.now }
+    ensures hall { seat.new.hall ≡ seat.old.hall }
+{
+    let mut request = *REGISTER;
+    'tries: for number in 1..4 {
+        out.clear();
+        request[3] = number;
+        let heard = seat.hear(rt, hall, &OpenGate, Moment(2), 0, ENDPOINT, &request, out);
+        if let SeatHeard::Held(job) = heard {
+            out.clear();
+            if seat.go(rt, hall, &OpenGate, Moment(2), job, out) == Stepped::Done {
+                return answers(out, b"\x61\x41");
+            }
+        }
+        if !is_excused(out) {
+            return false;
+        }
+    }
+    false
+}
+
+/// The observer is told as time passes, at the second try where the first finds no memory.
+fn tells<R: Wait>(rt: &R, hall: &Hall, seat: &mut Seat, out: &mut Outbox) -> bool
+    requires hall { seat.old.hall ≡ hall.now }
+    ensures hall { seat.new.hall ≡ seat.old.hall }
+{
+    out.clear();
+    if seat.tick(rt, hall, &OpenGate, Moment(3), 0, out) == Stepped::Starved {
+        if !out.is_empty() {
+            return false;
+        }
+        seat.tick(rt, hall, &OpenGate, Moment(3), 0, out);
+    }
+    answers(out, b"\x41\x45")
+}
+
+/// All of this, one after another, and a look.
+fn goes_on<R: Wait>(rt: &R, hall: &Hall, seat: &mut Seat, out: &mut Outbox) -> bool
+    requires hall { seat.old.hall ≡ hall.now }
+{
+    if !observes(rt, hall, seat, out) || !registers(rt, hall, seat, out) {
+        return false;
+    }
+    if !tells(rt, hall, seat, out) {
+        return false;
+    }
+    looks(seat, LOOKUP, LISTED, out) || (is_excused(out) && looks(seat, LOOKUP, LISTED, out))
+}
+
+#[test]
+fn goes_on_without_memory(rt: HostRuntime) -> Result<(), Fail> {
+    let mut out = match Outbox::make(rt.alloc()) {
+        Ok(out) => out,
+        Err(Starved) => Outbox::make(rt.alloc())?,
+    };
+    let (hall, mut seat) = hall_of_one(rt.alloc(), &rt)?;
+    let goes = goes_on(&rt, &hall, &mut seat, &mut out);
+    hall.end(&rt);
+    assert!(rt; goes);
+    Ok(())
+}
