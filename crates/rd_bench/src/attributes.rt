@@ -1,7 +1,7 @@
 //! The index of attributes: a put and a take, where so many records carry each value.
 
-use crate::rows::{Sample, Trouble};
 use attribute_index::AttributeIndex;
+use bench_rows::{Sample, Trouble};
 use rd_base::{Pair, Text};
 use std::alloc::Global;
 

@@ -1,7 +1,7 @@
 //! The table of transfers: uploads in blocks of two sizes, and kept answers with bodies of two
 //! sizes.
 
-use crate::rows::{Sample, Trouble};
+use bench_rows::{Sample, Trouble};
 use message_model::Block;
 use rd_base::{Bytes, Host, Key, Moment, Peer, Tag};
 use std::alloc::Global;

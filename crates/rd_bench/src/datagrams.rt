@@ -1,6 +1,6 @@
 //! A link over UDP: a send and a receive over loopback.
 
-use crate::rows::{Row, Trouble};
+use bench_rows::{Row, Trouble};
 use rd_base::{Host, Peer};
 use std::net::{Net, UdpSocket};
 use std::sync::Arc;

@@ -1,7 +1,7 @@
 //! The table of exchanges: a repeat of the oldest write, and settling it.
 ghost use Rattle.std.specs.Prelude.{◌≤◌, IfOk};
 
-use crate::rows::{Sample, Trouble};
+use bench_rows::{Sample, Trouble};
 use exchange_core::{Exchanges, Keyed, Reply};
 use rd_base::{Host, Moment, Peer, Starved};
 use std::alloc::Global;

@@ -1,7 +1,7 @@
 //! Lines of one registration: whether a change matters to a query, and the lines that it lists.
 
 use crate::registrations::{body_of, draft_of};
-use crate::rows::{Sample, Trouble};
+use bench_rows::{Sample, Trouble};
 use listing::{lines, same_part};
 use rd_base::{Bytes, Criteria, Criterion, Kind, Moment, Query, Record, Text};
 use std::alloc::Global;

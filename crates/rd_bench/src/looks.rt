@@ -1,7 +1,7 @@
 //! The board of versions: a look while one worker publishes, and publishing.
 
-use crate::rows::{Row, Trouble};
 use crate::sample_boards::SampleBoard;
+use bench_rows::{Row, Trouble};
 use rd_base::Starved;
 use std::alloc::Global;
 use std::sync::Wait;

@@ -14,17 +14,16 @@ mod listings;
 mod looks;
 mod maps;
 mod registrations;
-mod rows;
 mod sample_boards;
 mod turns;
 
 use attributes::Carried;
+use bench_rows::{Trouble, measure};
 use blocks::{KeptBodies, Uploads};
 use exchanges::{Repeats, Settles};
 use listings::{Listed, Unchanged};
 use maps::{Puts, Takes};
 use registrations::Body;
-use rows::{Trouble, measure};
 use std::net::Net;
 use std::sync::Wait;
 use std::thread::Threads;

@@ -1,6 +1,6 @@
 //! Maps of shared chunks: a put and a take.
 
-use crate::rows::{Sample, Trouble};
+use bench_rows::{Sample, Trouble};
 use chunk_map::ChunkMap;
 use rd_base::Starved;
 use std::alloc::Global;

@@ -2,7 +2,7 @@
 ghost use Rattle.std.specs.Prelude.{◌≡◌, IfOk};
 ghost use Rattle.version_board.specs.Samples.{sample_params};
 
-use crate::rows::{Sample, Trouble};
+use bench_rows::{Sample, Trouble};
 use rd_base::{Host, Name, Pairs, Peer, RegParams, Starved, Text};
 use registration::{Draft, DraftFault, build};
 use std::alloc::Global;

@@ -2,7 +2,7 @@
 ghost use Rattle.std.specs.Prelude.{◌≡◌, ℕ, ◌+◌, ◌%◌, ◌^◌, true, false, length, All};
 ghost use Rattle.turn_lock.specs.Shown.{id_of, lock_of, is_holding, seen_of};
 
-use crate::rows::{Row, Trouble};
+use bench_rows::{Row, Trouble};
 use std::marker::Brand;
 use std::sync::Wait;
 use std::thread;

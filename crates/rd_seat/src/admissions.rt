@@ -77,14 +77,7 @@ impl Share {
             datagram,
             is_starved: is_starved(&admitted),
         };
-        end::<Brand, Brand, R, Parts>(
-            rt,
-            lock,
-            &mut self.pass,
-            &mut self.looker,
-            shared,
-            &parts,
-        );
+        end::<Brand, Brand, R, Parts>(rt, lock, &mut self.pass, &mut self.looker, shared, &parts);
         gate.pass(rt, Place::AfterGive);
         admitted
     }

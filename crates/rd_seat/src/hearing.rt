@@ -95,11 +95,7 @@ impl Seat {
             gate.pass(rt, Place::BeforeLook);
             return of_look(self.lookup(now, peer, datagram, out));
         }
-        let lock = hall.lock();
-        of_admission(
-            self.share
-                .admit(rt, lock, gate, now, word, peer, datagram, out),
-        )
+        of_admission(self.admit(rt, hall, gate, now, word, peer, datagram, out))
     }
 
     /// The step that does a job, at a turn of the seat, for which it waits. The admission of a
@@ -127,8 +123,8 @@ impl Seat {
             (is_starved_step result) out.new self.new }
     {
         match job {
-            Job::Write(job) => self.share.commit(rt, hall.lock(), gate, now, job, out),
-            Job::Keep(job) => self.share.keep(rt, hall.lock(), gate, now, job, out),
+            Job::Write(job) => self.commit(rt, hall, gate, now, job, out),
+            Job::Keep(job) => self.keep(rt, hall, gate, now, job, out),
         }
     }
 }

@@ -56,14 +56,7 @@ impl Share {
             job: kept,
             stepped,
         };
-        end::<Brand, Brand, R, Parts>(
-            rt,
-            lock,
-            &mut self.pass,
-            &mut self.looker,
-            shared,
-            &parts,
-        );
+        end::<Brand, Brand, R, Parts>(rt, lock, &mut self.pass, &mut self.looker, shared, &parts);
         gate.pass(rt, Place::AfterGive);
         stepped
     }

@@ -10,8 +10,7 @@ ghost use Rattle.rd_seat.specs.Runs.{SeatsAreSeats};
 /// published stands for the same entries (RFC 9176 sections 5 and 6, RFC 7641).
 pub fn halls_hold_history()
     ensures { HallsHoldHistory }
-{
-}
+{}
 
 /// A law: whatever calls a seat has made, its own rows are those of its worker in the journal that
 /// it has seen, each once and in their order, and exactly the rows that its calls made; and each
@@ -19,5 +18,4 @@ pub fn halls_hold_history()
 /// its looks before.
 pub fn seats_are_seats()
     ensures { SeatsAreSeats }
-{
-}
+{}

@@ -1,22 +1,24 @@
 //! A seat: what one worker has of a hall, as it is between two calls.
-ghost use Rattle.std.specs.Prelude.{◌≡◌, ◌<◌, ◌≤◌, ◌^◌, [], false, true};
+ghost use Rattle.std.specs.Prelude.{◌≡◌, ◌<◌, ◌≤◌, ◌^◌, ℕ, [], false, true};
 ghost use Rattle.history_model.specs.Live.{IsFront};
 ghost use Rattle.journal_model.specs.DeskJournal.{max_workers};
 ghost use Rattle.journal_model.specs.Machine.{is_look_datagram};
+ghost use Rattle.rd_desk.specs.Admitting.{is_starved_admission};
 ghost use Rattle.rd_desk.specs.Looking.{is_starved_look};
 ghost use Rattle.rd_desk.specs.Stepping.{is_starved_step};
 ghost use Rattle.turn_lock.specs.Shown.{lock_of, number_of, label_of, is_holding, seen_of, mine_of};
 ghost use Rattle.version_board.specs.Ends.{new_looker};
+ghost use Rattle.rd_seat.specs.Jobs.{IsOpenJob, LeavesJob, OpensJob};
 ghost use Rattle.rd_seat.specs.Looks.{answer_held, IsJobOf};
 ghost use Rattle.rd_seat.specs.Seats.{new_seat, MakesStep, LooksAtMet};
-ghost use Rattle.rd_seat.specs.Steps.{look_step, tick_step};
+ghost use Rattle.rd_seat.specs.Steps.{tick_step, admit_step, commit_step, keep_step, look_step};
 
 use crate::gates::Gate;
 use crate::halls::Hall;
 use crate::shared_desk::SharedDesk;
 use crate::shares::Share;
 use rd_base::{Moment, Peer};
-use rd_desk::{Looked, Mids, Outbox, Stepped};
+use rd_desk::{Admitted, KeepJob, Looked, Mids, Outbox, Stepped, WriteJob};
 use std::alloc::Global;
 use std::marker::Model;
 use std::sync::Wait;
@@ -89,6 +91,80 @@ impl Seat {
         self.share.tick(rt, hall.lock(), gate, now, word, out)
     }
 
+    /// The step that hears a datagram which is no look, at a turn of the seat.
+    pub(crate) fn admit<R: Wait, G: Gate>(
+        &mut self,
+        rt: &R,
+        hall: &Hall,
+        gate: &G,
+        now: Moment,
+        word: u32,
+        peer: Peer,
+        datagram: &[u8],
+        out: &mut Outbox,
+    ) -> Admitted
+        requires hall { self.old.hall ≡ hall.now }
+        requires moment { now.0 ≤ 10 ^ 15 }
+        requires other { is_look_datagram datagram.now ≡ false }
+        requires empty { out.old ≡ [] }
+        ensures hall { self.new.hall ≡ self.old.hall }
+        ensures met { IsFront self.old.met self.new.met }
+        ensures made { MakesStep self.old
+            (admit_step self.old.worker now word peer datagram.now self.old.drawn)
+            (is_starved_admission result) out.new self.new }
+        ensures left { LeavesJob result self.new.seen }
+        ensures opens { OpensJob result self.new }
+    {
+        let lock = hall.lock();
+        self.share
+            .admit(rt, lock, gate, now, word, peer, datagram, out)
+    }
+
+    /// The step that does a write, at a turn of the seat.
+    pub(crate) fn commit<R: Wait, G: Gate>(
+        &mut self,
+        rt: &R,
+        hall: &Hall,
+        gate: &G,
+        now: Moment,
+        job: WriteJob,
+        out: &mut Outbox,
+    ) -> Stepped
+        ghost place: { ℕ }
+        requires hall { self.old.hall ≡ hall.now }
+        requires moment { now.0 ≤ 10 ^ 15 }
+        requires empty { out.old ≡ [] }
+        requires opened { IsOpenJob place self.old job }
+        ensures hall { self.new.hall ≡ self.old.hall }
+        ensures met { IsFront self.old.met self.new.met }
+        ensures made { MakesStep self.old
+            (commit_step self.old.worker place now job.peer job.datagram self.old.drawn)
+            (is_starved_step result) out.new self.new }
+    {
+        self.share.commit(rt, hall.lock(), gate, now, job, out)
+    }
+
+    /// The step that keeps a listing, at a turn of the seat.
+    pub(crate) fn keep<R: Wait, G: Gate>(
+        &mut self,
+        rt: &R,
+        hall: &Hall,
+        gate: &G,
+        now: Moment,
+        job: KeepJob,
+        out: &mut Outbox,
+    ) -> Stepped
+        requires hall { self.old.hall ≡ hall.now }
+        requires moment { now.0 ≤ 10 ^ 15 }
+        requires empty { out.old ≡ [] }
+        ensures hall { self.new.hall ≡ self.old.hall }
+        ensures met { IsFront self.old.met self.new.met }
+        ensures made { MakesStep self.old (keep_step self.old.worker now job self.old.drawn)
+            (is_starved_step result) out.new self.new }
+    {
+        self.share.keep(rt, hall.lock(), gate, now, job, out)
+    }
+
     /// A request that only looks ([`rd_desk::is_look`]) is answered from the version that was
     /// published last, at a moment in milliseconds that is at most 10^15; one below that of the
     /// seat's last row or look, or of the version's last entry, is lifted. `out` is empty, and
@@ -98,13 +174,7 @@ impl Seat {
     ///
     /// The version has all entries that the seat has seen, and all of those that its looks before
     /// were answered from.
-    pub fn lookup(
-        &mut self,
-        now: Moment,
-        peer: Peer,
-        datagram: &[u8],
-        out: &mut Outbox,
-    ) -> Looked
+    pub fn lookup(&mut self, now: Moment, peer: Peer, datagram: &[u8], out: &mut Outbox) -> Looked
         requires look { is_look_datagram datagram.now ≡ true }
         requires moment { now.0 ≤ 10 ^ 15 }
         requires empty { out.old ≡ [] }

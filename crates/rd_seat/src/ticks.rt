@@ -55,14 +55,7 @@ impl Share {
             word,
             stepped,
         };
-        end::<Brand, Brand, R, Parts>(
-            rt,
-            lock,
-            &mut self.pass,
-            &mut self.looker,
-            shared,
-            &parts,
-        );
+        end::<Brand, Brand, R, Parts>(rt, lock, &mut self.pass, &mut self.looker, shared, &parts);
         gate.pass(rt, Place::AfterGive);
         stepped
     }

@@ -23,10 +23,12 @@ const FOUND: &[u8] = b"\x61\x45";
 
 /// Where a registration's answer has its location's number, and a listing of one endpoint has it.
 const LOCATION_AT: usize = 9;
+
 const LISTED_AT: usize = 22;
 
 /// A lookup of the 400th endpoint, and how its answer begins after 800 entries.
 const LAST: &[u8] = b"\x41\x01\x00\x03\xb2\xb9rd-lookup\x02ep\x48page=399\x07count=1";
+
 const LISTED_LAST: &[u8] = b"\x61\x45\x00\x03\xb2\x48\0\0\0\0\x03\x20\0\0\x81\x28\xff</rd/";
 
 /// A registration of a name, and a lookup of the endpoint that has it (RFC 9176 sections 5 and 6.3).
@@ -80,7 +82,13 @@ struct Worker<'a> {
 
 impl<'a> Worker<'a> {
     /// One round: the location of the name, where all was answered.
-    fn round<R: Wait>(&mut self, alloc: Global, rt: &R, round: u8, out: &mut Outbox) -> Result<Vec<u8>, Starved> {
+    fn round<R: Wait>(
+        &mut self,
+        alloc: Global,
+        rt: &R,
+        round: u8,
+        out: &mut Outbox,
+    ) -> Result<Vec<u8>, Starved> {
         let requests = requests(self.number, round);
         let peer = Peer {
             host: ENDPOINT.host,

@@ -1,8 +1,9 @@
 //! One seat sees what another did, and is answered while another holds the turn.
 ghost use Rattle.std.specs.Prelude.{◌≡◌};
 
-use crate::calls::{CREATED, ENDPOINT, LISTED, LOOKUP, NOTHING, REGISTRATION};
-use crate::calls::{answers, looks, register, two_seats};
+use crate::calls::{
+    CREATED, ENDPOINT, LISTED, LOOKUP, NOTHING, REGISTRATION, answers, looks, register, two_seats,
+};
 use rd_base::{Moment, Starved};
 use rd_desk::{Looked, Outbox};
 use rd_seat::{Gate, Hall, OpenGate, Place, Seat};
@@ -92,12 +93,7 @@ impl<'a, C: Clock> Gate for UntilAnswered<'a, C> {
 }
 
 /// Looks while the turn is held: whether it is, and nothing is registered then.
-fn look_meanwhile<C: Clock>(
-    clock: &C,
-    seat: &mut Seat,
-    out: &mut Outbox,
-    signs: &Signs,
-) -> bool {
+fn look_meanwhile<C: Clock>(clock: &C, seat: &mut Seat, out: &mut Outbox, signs: &Signs) -> bool {
     let is_held = await_one(clock, &signs.is_held);
     let is_none = looks(seat, LOOKUP, NOTHING, out);
     signs.is_answered.store(1, Ordering::SeqCst);
