@@ -37,7 +37,8 @@ impl Model for Hall {
 
 /// A desk that nobody shares any more ends with its board.
 fn end_shared<R: Wait>(rt: &R, shared: SharedDesk) {
-    shared.into_desk().into_board().end(rt);
+    let SharedDesk { desk } = shared;
+    desk.into_board().end(rt);
 }
 
 /// The desk of a new hall, and a looker for each worker.
@@ -126,7 +127,7 @@ impl Hall {
     /// that are under way; a look that comes later finds nothing, and answers Starved.
     pub fn end<R: Wait>(self, rt: &R) {
         let Hall { lock } = self;
-        let found = match lock.end_alone() {
+        let found = match lock.into_inner() {
             Ended::Free(shared) => Some(shared),
             Ended::Held(found) => found,
         };

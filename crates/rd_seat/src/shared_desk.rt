@@ -3,34 +3,13 @@ ghost use Rattle.std.specs.Prelude.{◌≡◌};
 
 use rd_desk::Desk;
 use std::collections::LinkedList;
-use std::mem::ManuallyDrop;
 use turn_lock::Replays;
 use version_board::Publisher;
 
-/// A desk over the board of its hall. It lies behind the turn.
+/// A desk over the board of its hall. It lies behind the turn, and cannot be dropped: a hall ends it.
 pub struct SharedDesk {
     /// The desk.
     pub(crate) desk: Desk<Publisher>,
-}
-
-impl SharedDesk {
-    /// The desk.
-    pub(crate) fn into_desk(self) -> Desk<Publisher>
-        ensures { result ≡ self.desk }
-    {
-        let SharedDesk { desk } = self;
-        desk
-    }
-}
-
-// A pass of the lock is let go, and so the compiler asks how what lies behind the lock would be,
-// although no pass has it. It would stay behind, with its memory: nobody is to let one go,
-// `Hall::end` ends it.
-impl Drop for SharedDesk {
-    fn drop(self) {
-        let SharedDesk { desk } = self;
-        let _left = unsafe { ManuallyDrop::new_unchecked(desk) };
-    }
 }
 
 impl Replays for SharedDesk {
