@@ -112,3 +112,30 @@ fn ends_with_its_value(rt: HostRuntime) -> Result<(), Fail> {
     assert!(rt; matches!(lock.end(pass), Ended::Free(Counter { count: 1 })));
     Ok(())
 }
+
+/// A lock ends after all of its passes are let go, and gives its value back.
+#[test]
+fn ends_without_its_passes(rt: HostRuntime) -> Result<(), Fail> {
+    let (lock, mut passes) = TurnLock::make(rt.alloc(), 2, Counter { count: 0 })?;
+    let Some(mut pass) = passes.take_first() else {
+        return Err("there is no pass".into());
+    };
+    steps(&rt, &lock, &mut pass, 1);
+    drop(pass);
+    drop(passes);
+    assert!(rt; matches!(lock.into_inner(), Ended::Free(Counter { count: 1 })));
+    Ok(())
+}
+
+/// A lock that ends while its turn is held has no value: the holder has it.
+#[test]
+fn ends_while_held(rt: HostRuntime) -> Result<(), Fail> {
+    let (lock, mut passes) = TurnLock::make(rt.alloc(), 1, Counter { count: 0 })?;
+    let Some(mut pass) = passes.take_first() else {
+        return Err("there is no pass".into());
+    };
+    let counter = lock.take(&rt, &mut pass);
+    assert!(rt; matches!(lock.into_inner(), Ended::Held(None)));
+    assert_eq!(rt; counter.count, 0);
+    Ok(())
+}

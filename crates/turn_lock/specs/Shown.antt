@@ -1,10 +1,13 @@
 -- What contracts read of a pass and of a lock.
-use Rattle.std.specs.Prelude.{ℕ, Bool, List}
+use Rattle.std.specs.Prelude.{ℕ, Bool, List, Option}
+use Rattle.std.specs.Mem.{manually_drop_value}
 use Rattle.atomic_table.specs.Seated.{TableId}
+use Rattle.atomic_table.specs.declared.shared.Seat.{Seat}
 use Rattle.turn_lock.specs.declared.rows.Replays.{Ghosts}
 use Rattle.turn_lock.specs.declared.seats.Pass.{Pass}
 use Rattle.turn_lock.specs.declared.seats.Passes.{Passes}
 use Rattle.turn_lock.specs.declared.lock.TurnLock.{TurnLock}
+use Rattle.turn_lock.specs.declared.views.View.{View}
 use Rattle.turn_lock.specs.Passes.{IsFresh}
 
 -- which lock it is
@@ -12,33 +15,37 @@ abbrev pub id_of : {T R L : Type 0} → TurnLock T R L → TableId
 id_of lock = lock.table.shared.table_id
 
 module _ {T R L : Type 0} {g : Ghosts T R L} where
+  -- its seat at the lock's table
+  abbrev pub seat_of : Pass T R L g → Seat (Option T) (View R L)
+  seat_of pass = manually_drop_value pass.seat
+
   -- the lock that the pass is of
   abbrev pub lock_of : Pass T R L g → TableId
-  lock_of pass = pass.seat.table_id
+  lock_of pass = (seat_of pass).table_id
 
   -- the number of the pass
   abbrev pub number_of : Pass T R L g → ℕ
-  number_of pass = pass.seat.me.0.number
+  number_of pass = (seat_of pass).me.0.number
 
   -- the label of its lock
   abbrev pub label_of : Pass T R L g → L
-  label_of pass = pass.seat.me.0.label
+  label_of pass = (seat_of pass).me.0.label
 
   -- whether it holds the turn
   abbrev pub is_holding : Pass T R L g → Bool
-  is_holding pass = pass.seat.me.0.holding
+  is_holding pass = (seat_of pass).me.0.holding
 
   -- the history as far as it has seen it, the newest row first
   abbrev pub seen_of : Pass T R L g → List R
-  seen_of pass = pass.seat.me.0.seen
+  seen_of pass = (seat_of pass).me.0.seen
 
   -- the rows of it that the pass has made
   abbrev pub mine_of : Pass T R L g → List R
-  mine_of pass = pass.seat.me.0.mine
+  mine_of pass = (seat_of pass).me.0.mine
 
   -- the pass has seen nothing, and its lock has the label
   abbrev pub IsNew : L → ℕ → Pass T R L g → Type 0
-  IsNew label number pass = IsFresh label number pass.seat.me
+  IsNew label number pass = IsFresh label number (seat_of pass).me
 
   -- the passes, in the order of their numbers
   abbrev pub list_of : Passes T R L g → List (Pass T R L g)

@@ -1,18 +1,21 @@
 //! The lock: a value behind one word and one slot.
 ghost use Rattle.std.specs.Prelude.{◌≡◌, ℕ, ◌+◌, false, [], ◌∷◌, Some};
+ghost use Rattle.std.specs.Mem.{manually_drop_value};
 ghost use Rattle.turn_lock.specs.Rule.{word_of, SeenInOrder};
 
 use crate::rows::{Added, Replays};
 use crate::seats::{Pass, Passes};
 use crate::views::{Give, Next, Take, Turn, View};
-use atomic_table::{Refused, Seat, Table};
+use atomic_table::{Closed, Refused, Seat, Table};
 use rd_base::Starved;
 use std::alloc::Global;
+use std::mem::ManuallyDrop;
 use std::snapshot::Snapshot;
 use std::sync::Wait;
 use std::sync::atomic::{AtomicU64, Ordering};
 
-/// A value that many workers change, each at its turn.
+/// A value that many workers change, each at its turn. A lock may be let go where its value may.
+/// Any other is taken apart, by `end` or `into_inner`.
 #[derive(Drop)]
 pub struct TurnLock<T: Replays> {
     table: Table<Option<T>, View<T::Row, T::Label>, Snapshot<T>, Turn<T>, Global>,
@@ -66,8 +69,9 @@ fn new_pass<T: Replays>(seat: Seat<Option<T>, View<T::Row, T::Label>>) -> Pass<T
     requires idle { seat.me.0.holding ≡ false }
     requires seen { seat.me.0.seen ≡ [] }
     requires slot { seat.me.1 ≡ [] }
-    ensures { result.seat ≡ seat }
+    ensures { manually_drop_value result.seat ≡ seat }
 {
+    let seat = ManuallyDrop::new(seat);
     Pass { seat, word: 0 }
 }
 
@@ -76,7 +80,8 @@ impl<T: Replays> TurnLock<T> {
     ghost use Rattle.std.specs.Bool.{MatchBool};
     ghost use Rattle.std.specs.Vec.{vec_capacity};
     ghost use Rattle.turn_lock.specs.Histories.{Extends, rows_of};
-    ghost use Rattle.turn_lock.specs.Endings.{IfFree};
+    ghost use Rattle.std.specs.Mem.Slots.{slots_len, IsFull};
+    ghost use Rattle.turn_lock.specs.Endings.{IfFree, HasValueWhereFree, IsFreeWith};
     ghost use Rattle.turn_lock.specs.Steps.{Took, DidNotTake, CameOut, WentIn, IsReady, Gave, WasSplit};
     ghost use Rattle.turn_lock.specs.Passes.{IsFresh};
     ghost use Rattle.turn_lock.specs.Shown.{id_of, lock_of, number_of, label_of, is_holding, seen_of, mine_of, list_of, IsNew};
@@ -232,7 +237,9 @@ impl<T: Replays> TurnLock<T> {
         requires fresh { IsFresh (T.label self.now.table.shared.key.value) 0 first.me }
         requires last { first.me.0.last ≡ true }
         ensures count { length result.items ≡ seats }
-        ensures passes { (i : ℕ) (pass : _) → slice_get result.items i ≡ Some pass → IsFresh (T.label self.now.table.shared.key.value) i pass.seat.me × (pass.seat.table_id ≡ self.now.table.shared.table_id) }
+        ensures passes { (i : ℕ) (pass : _) → slice_get result.items i ≡ Some pass
+            → IsNew (T.label self.now.table.shared.key.value) i pass
+            × (lock_of pass ≡ id_of self.now) }
     {
         let mut last = first;
         for _ in 1..seats {
@@ -279,15 +286,13 @@ impl<T: Replays> TurnLock<T> {
         Ok((lock, Passes::of(passes)))
     }
 
-    /// Takes the lock apart, with one of its passes. The value comes back where the turn is free, and stands for a history that goes on from what this pass has seen.
-    pub fn end(self, pass: Pass<T>) -> Ended<T>
-        requires lock { lock_of pass ≡ id_of self }
-        ensures value { IfFree result (λ value. (history : List T.Row) × Extends (seen_of pass) history × (mine_of pass ≡ rows_of T.number (number_of pass) history) × T.stands history value) }
-        ensures value_label { IfFree result (λ value. T.label value ≡ label_of pass) }
+    /// What a closed table leaves.
+    fn left(mut closed: Closed<Option<T>, Global>) -> Ended<T>
+        requires counts { (slots_len closed.words ≡ 1) × (slots_len closed.slots ≡ 1) }
+        requires full { IsFull closed.words × IsFull closed.slots }
+        requires value { HasValueWhereFree closed }
+        ensures free { IfFree result (IsFreeWith closed) }
     {
-        let TurnLock { table, sleepers: _ } = self;
-        let Pass { seat, word: _ } = pass;
-        let mut closed = table.close_with(seat);
         let word = closed.word(0);
         let found = closed.take(0);
         closed.free();
@@ -296,6 +301,28 @@ impl<T: Replays> TurnLock<T> {
         }
         let Some(value) = found else { unreachable!() };
         Ended::Free(value)
+    }
+
+    /// Takes the lock apart, with one of its passes. The value comes back where the turn is free,
+    /// and stands for a history that goes on from what this pass has seen.
+    pub fn end(self, pass: Pass<T>) -> Ended<T>
+        requires lock { lock_of pass ≡ id_of self }
+        ensures value { IfFree result (λ value. (history : List T.Row) × Extends (seen_of pass) history × (mine_of pass ≡ rows_of T.number (number_of pass) history) × T.stands history value) }
+        ensures value_label { IfFree result (λ value. T.label value ≡ label_of pass) }
+    {
+        let TurnLock { table, sleepers: _ } = self;
+        let Pass { seat, word: _ } = pass;
+        let seat = ManuallyDrop::into_inner(seat);
+        TurnLock::left(table.close_with(seat))
+    }
+
+    /// Takes the lock apart, with none of its passes. The value comes back where the turn is free,
+    /// and stands for some history.
+    pub fn into_inner(self) -> Ended<T>
+        ensures value { IfFree result (λ value. (history : List T.Row) × T.stands history value) }
+    {
+        let TurnLock { table, sleepers: _ } = self;
+        TurnLock::left(table.close())
     }
 }
 

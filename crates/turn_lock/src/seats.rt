@@ -1,5 +1,6 @@
 //! The passes of a lock, one for each worker.
 ghost use Rattle.std.specs.Prelude.{◌≡◌, length};
+ghost use Rattle.std.specs.Mem.{manually_drop_value};
 ghost use Rattle.turn_lock.specs.Rule.{word_of};
 ghost use Rattle.turn_lock.specs.Passes.{slots_of};
 ghost use Rattle.std.specs.Prelude.{false};
@@ -7,16 +8,20 @@ ghost use Rattle.std.specs.Prelude.{false};
 use crate::rows::Replays;
 use crate::views::View;
 use atomic_table::Seat;
+use std::mem::ManuallyDrop;
 
-/// The right of one worker to take the turn of one lock.
+/// The right of one worker to take the turn of one lock. It may be let go, whatever is behind the
+/// lock.
 #[derive(Drop)]
 pub struct Pass<T: Replays> {
-    /// What the pass knows. It has no bytes.
-    pub(crate) seat: Seat<Option<T>, View<T::Row, T::Label>>,
+    /// What the pass knows. It has no bytes, so nothing is lost although it is never let go. That
+    /// would ask for a destructor of the value behind the lock, which may have none.
+    pub(crate) seat: ManuallyDrop<Seat<Option<T>, View<T::Row, T::Label>>>,
     /// The lock's word as it is while the turn is free and the history is what the pass has seen.
     pub(crate) word: u64,
-    ghost slot_fits: { seat.me.1 ≡ slots_of seat.me.0.holding },
-    ghost word_fits: { word ≡ word_of (length seat.me.0.seen) false },
+    ghost slot_fits: { (manually_drop_value seat).me.1
+        ≡ slots_of (manually_drop_value seat).me.0.holding },
+    ghost word_fits: { word ≡ word_of (length (manually_drop_value seat).me.0.seen) false },
 }
 
 /// The passes of one lock in the order of their numbers.

@@ -2,6 +2,7 @@ use Rattle.std.proofs.Common.{◌∷◌, ◌++◌, [], Some, ap, sym, ◌∙◌,
 use Rattle.std.proofs.lemmas.Option.{slice_get-get_or}
 use Rattle.turn_lock.specs.Rule.{Kept, first_view}
 use Rattle.turn_lock.specs.Passes.{IsFresh}
+use Rattle.turn_lock.specs.Shown.{seat_of}
 use Rattle.atomic_table.specs.Table.{opening}
 use Rattle.turn_lock.proofs.SplitMoves.{opens}
 use Rattle.turn_lock.proofs.lock.TurnLock.make_or_return.Goals as goal
@@ -18,7 +19,8 @@ returns-clause-fresh g c i d e =
     let made = c.in-Ok-new.ensures.ok in
     let items = c.of.result.passes.items in
     let p = get_or items i d in
-    subst (λ l. IsFresh l i p.seat.me) (ap g.T.Replays.label (ap (λ k. k.value) made.5 ∙ c.of-about.ensures))
+    subst (λ l. IsFresh l i (seat_of p).me)
+    (ap g.T.Replays.label (ap (λ k. k.value) made.5 ∙ c.of-about.ensures))
     (c.cut-passes.ensures.passes i p (ap (λ xs. slice_get xs i) (sym c.of.ensures) ∙ slice_get-get_or items i d e)).0
 
 pub returns-clause-lock : goal.returns-clause-lock
