@@ -32,7 +32,7 @@ still_met : (met later : List Entry) → IsFront met later → (fronts : List (L
 still_met met later grows fronts all = each_weaker (λ f. IsFront f met) (λ f. IsFront f later) (λ f begins. IsFront-trans f met later begins grows) fronts all
 
 -- the first of some rows
-first_of : Row → List Row → Row
+abbrev first_of : Row → List Row → Row
 first_of none [] = none
 first_of none (r ∷ rows) = r
 
@@ -49,6 +49,7 @@ after_begun hall worker = record {
 
 after_turn : (calls : List Call) (before after : SeatSeen) (r : Row) (found : List Row) (s : Step) (starved : Bool) (sent : List (Peer × List ℕ))
     → After calls before → IsFront before.met after.met → MakesStep before s starved sent after → after.seen ≡ r ∷ found → After (turn r ∷ calls) after
+unfolding row
 after_turn calls before after r found s starved sent b grows makes seen =
     let made : MakesRow (seat_of before b.shown b.front) s starved sent (seat_of after [] b.front) = makes b.shown b.front b.may in
     let is : row made.found s starved ≡ r = ap (first_of r) (sym (ap (λ (seat : Seat). seat.seen) made.seat) ∙ seen) in
@@ -80,16 +81,17 @@ after_look calls before after s starved sent held b grows looks =
       rows = ap (λ (seat : Seat). seat.mine) it.seat ∙ b.rows;
       fronts = (
         subst (λ (f : List Entry). IsFront (entries before.seen) f) from it.holds_seen,
-        (still_met before.met after.met grows (fronts_shown calls) b.all, b.fronts),
+        still_met before.met after.met grows (fronts_shown calls) b.all,
+        b.fronts,
       );
       all = (IsFront-refl after.met, still_met before.met after.met grows (fronts_shown calls) b.all);
     }
 
 after_calls : (hall : TableId) (worker : ℕ) (calls : List Call) (seat : SeatSeen) → HasCalled hall worker calls seat → After calls seat
 after_calls hall worker [] seat begun = after_begun hall worker
-after_calls hall worker (c ∷ calls) seat (turned {earlier} {before} r found s starved sent later run grows makes seen) =
+after_calls hall worker (c ∷ earlier) seat (turned {calls} {before} r found s starved sent later run grows makes seen) =
     after_turn calls before seat r found s starved sent (after_calls hall worker calls before run) grows makes seen
-after_calls hall worker (c ∷ calls) seat (looked {earlier} {before} s starved sent held later run grows looks) =
+after_calls hall worker (c ∷ earlier) seat (looked {calls} {before} s starved sent held later run grows looks) =
     after_look calls before seat s starved sent held (after_calls hall worker calls before run) grows looks
 
 -- each seat is one of the journal, whatever its calls

@@ -1,5 +1,5 @@
 -- One turn of a seat: what its beginning finds, and what its end leaves.
-use Rattle.std.specs.Prelude.{◌≡◌, ◌⊎◌, true, false, List, ◌∷◌}
+use Rattle.std.specs.Prelude.{◌≡◌, ◌⊎◌, ℕ, true, false, List, ◌∷◌}
 use Rattle.history_model.specs.declared.entries.Entry.{Entry}
 use Rattle.history_model.specs.Live.{IsFront}
 use Rattle.journal_model.specs.declared.rows.Row.{Row}

@@ -52,7 +52,8 @@ fn shared_desk<R: Wait>(
     ensures lookers { IfOk result (λ made.
         made.1 ≡ replicate workers (new_looker made.0.desk.board.name)) }
 {
-    let first = Arc::new(alloc, Directory::empty(alloc, 0)?)?;
+    let empty = Directory::empty(alloc, 0)?;
+    let first = Arc::new(alloc, empty)?;
     let (publisher, lookers) = board(alloc, rt, workers, first)?;
     match Desk::make_or_return(alloc, publisher) {
         Ok(desk) => Ok((SharedDesk { desk }, lookers)),

@@ -1,4 +1,4 @@
-use Rattle.std.proofs.Common.{List, ap, sym, subst, ◌∙◌}
+use Rattle.std.proofs.Common.{List, [], ap, sym, subst, ◌∙◌}
 use Rattle.std.specs.Arc.{arc_value}
 use Rattle.history_model.specs.declared.entries.Entry.{Entry}
 use Rattle.history_model.specs.Versions.{VersionStandsFor}
@@ -13,9 +13,10 @@ returns-in-Ok-clause-stands g c = record {
   tables = c.in-Ok.ensures.stands;
   told = ap (λ (p : PublisherSeen). p.told) c.in-Ok.ensures.board ∙ (c.in_ok-publisher.ensures.told ∙ no-entries);
   published = record {
-    version = arc_value c.in_ok-first.result;
+    version = arc_value c.in_ok-first.first;
     is = ap (λ (p : PublisherSeen). p.published) c.in-Ok.ensures.board ∙ c.in_ok-publisher.ensures.published;
-    stands = subst (λ (h : List Entry). VersionStandsFor 0 h (arc_value c.in_ok-first.result)) no-entries c.board.requires.first;
+    stands = subst (λ (h : List Entry). VersionStandsFor 0 h (arc_value c.in_ok-first.first)) no-entries
+        (subst (VersionStandsFor 0 []) (sym c.in_ok-first.ensures.ok) c.in_ok-empty.ensures.stands);
   };
   staged = ap (λ (p : PublisherSeen). p.staged) c.in-Ok.ensures.board ∙ c.in_ok-publisher.ensures.staged;
 }

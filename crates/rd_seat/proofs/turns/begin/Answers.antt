@@ -10,7 +10,7 @@ use Rattle.rd_seat.proofs.turns.begin.Goals as goal
 -- the rows that name the pass are its own, and those did not change; the publisher tells the entries of the journal
 pub returns : goal.returns
 unfolding rows_of
-returns c = record {
+returns g c = record {
   lock = c.take-shared.ensures.lock;
   holding = c.take-shared.ensures.holding;
   number = c.take-shared.ensures.number;

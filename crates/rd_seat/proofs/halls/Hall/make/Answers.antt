@@ -20,4 +20,4 @@ seats_of-seats-requires-clause-new g c =
 -- all seats are of the hall
 pub returns-in-Ok-clause-hall : goal.returns-in-Ok-clause-hall
 returns-in-Ok-clause-hall g c =
-    subst (λ (seats : List SeatSeen). All (λ (s : SeatSeen). s.hall ≡ id_of c.in-Ok.lock) seats) (sym c.seats_of-seats.ensures) (new_seats-halls (id_of c.in-Ok.lock) c.args.workers)
+    subst (λ (seats : List SeatSeen). All (λ (s : SeatSeen). s.hall ≡ id_of c.in-Ok.lock) seats) (sym (c.of.ensures ∙ c.seats_of-seats.ensures)) (new_seats-halls (id_of c.in-Ok.lock) c.args.workers)

@@ -48,7 +48,7 @@ returns g c =
     let called : IsCalled found s c.args.now c.args.self.now.mids c.begin-shared.result.desk.tables = step-IsCalled found s c.args.self.now.mids c.begin-shared.result.desk c.begin-shared.ensures.stands refl own drew in
     let may : MayFollow found s = record { commits = tt; handed = record { in_time = turns-NoLaterLook found c.args.now.0 c.begin-shared.ensures.stands.turns; worker = few; word = λ h. absurd (false≢true h) } } in
     let made : Made found (row found s (is_starved_admission c.admit-admitted.result)) c.admit-admitted.new.self.tables c.admit-admitted.new.out c.args.self.now.mids c.admit-admitted.new.mids = c.admit-admitted.ensures.made found s refl refl refl refl called in
-    let turn : Turn c.args.self.now.pass c.begin-shared.new.pass c.end.new.pass c.args.self.now.looker c.begin-shared.new.looker c.end.new.looker c.args.self.now.mids c.admit-admitted.new.mids c.args.self.now.last c.later.result s (is_starved_admission c.admit-admitted.result) c.begin-shared.result.desk c.admit-admitted.new.self c.admit-admitted.new.out = record {
+    let turn : Turn c.args.self.now.pass c.begin-shared.new.pass c.end.new.pass c.args.self.now.looker c.begin-shared.new.looker c.end.new.looker c.args.self.now.mids c.admit-admitted.new.mids c.args.self.now.last c.later-self.result s (is_starved_admission c.admit-admitted.result) c.begin-shared.result.desk c.admit-admitted.new.self c.admit-admitted.new.out = record {
       rest = c.requires.rest;
       has_begun = c.begin-shared.ensures;
       desk_step = refl;
@@ -57,7 +57,7 @@ returns g c =
       may = may;
       made = made;
       has_ended = subst (λ (b : Bool). HasEnded (row found s b) c.begin-shared.new.pass c.end.new.pass c.begin-shared.new.looker c.end.new.looker) c.is_starved.ensures c.end.ensures;
-      later_is = let m : c.moment.result.0 ≡ c.admit-admitted.new.self.tables.moment = c.moment.ensures.value in let l : c.later.result.0 ≡ max c.moment.result.0 c.args.self.now.last.0 = c.later.ensures in omega (arith, m, l);
+      later_is = let m : c.moment.result.0 ≡ c.admit-admitted.new.self.tables.moment = c.moment.ensures.value in let l : c.later-self.result.0 ≡ max c.moment.result.0 c.args.self.now.last.0 = c.later-self.ensures in omega (arith, m, l);
     } in
     let is : row found s c.is_starved.result ≡ row found s (is_starved_admission c.admit-admitted.result) = ap (row found s) c.is_starved.ensures in
     let held : IsHeldFor c.admit-admitted.result (row found s (is_starved_admission c.admit-admitted.result)).notes s (row_moment found s) = c.admit-admitted.ensures.held found s refl refl refl called in
@@ -65,10 +65,10 @@ returns g c =
     record {
       turned = record {
         goes_on = record { hall = c.end.ensures.lock ∙ c.begin-shared.ensures.lock; rest = turn-rests turn; met = turn-met turn };
-        made = subst (λ (x : Step). MakesStep (share_shown c.args.self.now) x (is_starved_admission c.admit-admitted.result) c.admit-admitted.new.out (share_shown (record { alloc = c.args.self.now.alloc; pass = c.end.new.pass; looker = c.end.new.looker; mids = c.admit-admitted.new.mids; last = c.later.result })))
+        made = subst (λ (x : Step). MakesStep (share_shown c.args.self.now) x (is_starved_admission c.admit-admitted.result) c.admit-admitted.new.out (share_shown (record { alloc = c.args.self.now.alloc; pass = c.end.new.pass; looker = c.end.new.looker; mids = c.admit-admitted.new.mids; last = c.later-self.result })))
             (λ i. admit_step (own i) c.args.now c.args.word c.args.peer c.args.datagram.now (drew i)) (turn-MakesStep turn);
       };
       left = subst (LeavesJob c.admit-admitted.result) (sym seen) (held-LeavesJob found s (is_starved_admission c.admit-admitted.result) c.admit-admitted.result refl held);
-      opens = held-OpensJob found s (is_starved_admission c.admit-admitted.result) c.admit-admitted.result (share_shown (record { alloc = c.args.self.now.alloc; pass = c.end.new.pass; looker = c.end.new.looker; mids = c.admit-admitted.new.mids; last = c.later.result }))
+      opens = held-OpensJob found s (is_starved_admission c.admit-admitted.result) c.admit-admitted.result (share_shown (record { alloc = c.args.self.now.alloc; pass = c.end.new.pass; looker = c.end.new.looker; mids = c.admit-admitted.new.mids; last = c.later-self.result }))
           c.begin-shared.ensures.stands.turns.journal (own ∙ sym made.worker) held seen;
     }

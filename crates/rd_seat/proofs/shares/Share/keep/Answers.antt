@@ -41,7 +41,7 @@ returns g c =
     let called : IsCalled found s c.args.now c.args.self.now.mids c.begin-shared.result.desk.tables = step-IsCalled found s c.args.self.now.mids c.begin-shared.result.desk c.begin-shared.ensures.stands refl own drew in
     let may : MayFollow found s = record { commits = tt; handed = record { in_time = turns-NoLaterLook found c.args.now.0 c.begin-shared.ensures.stands.turns; worker = few; word = λ h. refl } } in
     let made : Made found (row found s (is_starved_step c.keep-stepped.result)) c.keep-stepped.new.self.tables c.keep-stepped.new.out c.args.self.now.mids c.keep-stepped.new.mids = c.keep-stepped.ensures.made found s (ap (λ (k : Keep). step.Keep k.answer.body k.answer.tag) c.of-kept.ensures) (ap (λ (k : Keep). k.peer) c.of-kept.ensures) (ap (λ (k : Keep). k.datagram) c.of-kept.ensures) called in
-    let turn : Turn c.args.self.now.pass c.begin-shared.new.pass c.end.new.pass c.args.self.now.looker c.begin-shared.new.looker c.end.new.looker c.args.self.now.mids c.keep-stepped.new.mids c.args.self.now.last c.later.result s (is_starved_step c.keep-stepped.result) c.begin-shared.result.desk c.keep-stepped.new.self c.keep-stepped.new.out = record {
+    let turn : Turn c.args.self.now.pass c.begin-shared.new.pass c.end.new.pass c.args.self.now.looker c.begin-shared.new.looker c.end.new.looker c.args.self.now.mids c.keep-stepped.new.mids c.args.self.now.last c.later-self.result s (is_starved_step c.keep-stepped.result) c.begin-shared.result.desk c.keep-stepped.new.self c.keep-stepped.new.out = record {
       rest = c.requires.rest;
       has_begun = c.begin-shared.ensures;
       desk_step = refl;
@@ -50,10 +50,10 @@ returns g c =
       may = may;
       made = made;
       has_ended = c.end.ensures;
-      later_is = let m : c.moment.result.0 ≡ c.keep-stepped.new.self.tables.moment = c.moment.ensures.value in let l : c.later.result.0 ≡ max c.moment.result.0 c.args.self.now.last.0 = c.later.ensures in omega (arith, m, l);
+      later_is = let m : c.moment.result.0 ≡ c.keep-stepped.new.self.tables.moment = c.moment.ensures.value in let l : c.later-self.result.0 ≡ max c.moment.result.0 c.args.self.now.last.0 = c.later-self.ensures in omega (arith, m, l);
     } in
     record {
       goes_on = record { hall = c.end.ensures.lock ∙ c.begin-shared.ensures.lock; rest = turn-rests turn; met = turn-met turn };
-      made = subst (λ (x : Step). MakesStep (share_shown c.args.self.now) x (is_starved_step c.keep-stepped.result) c.keep-stepped.new.out (share_shown (record { alloc = c.args.self.now.alloc; pass = c.end.new.pass; looker = c.end.new.looker; mids = c.keep-stepped.new.mids; last = c.later.result })))
+      made = subst (λ (x : Step). MakesStep (share_shown c.args.self.now) x (is_starved_step c.keep-stepped.result) c.keep-stepped.new.out (share_shown (record { alloc = c.args.self.now.alloc; pass = c.end.new.pass; looker = c.end.new.looker; mids = c.keep-stepped.new.mids; last = c.later-self.result })))
           (λ i. keep_step (own i) c.args.now (c.of-kept.ensures i) (drew i)) (turn-MakesStep turn);
     }

@@ -23,24 +23,24 @@ returns-in_default-clause-looked c =
     let s : Step = look_step c.args.self.now.mids.worker c.args.now 0 c.args.peer c.args.datagram.now c.args.self.now.mids.drawn in
     let same : c.look.new.self.seen ≡ c.args.self.now.looker.seen = c.in_default.ensures.starved in
     let before : last_moment c.look.new.self.seen ≤ c.args.self.now.last.0 = subst (λ h. last_moment h ≤ c.args.self.now.last.0) (sym same) c.requires.rest.in_time in
-    let later : c.later.result.0 ≡ max c.args.self.now.last.0 c.args.now.0 = c.later.ensures in
-    let done : Effects = looked true c.look.new.self.seen c.later.result.0 s (reading c.args.datagram.now) in
-    let after : SeatSeen = share_shown (record { alloc = c.args.self.now.alloc; pass = c.args.self.now.pass; looker = c.look.new.self; mids = c.look_starved.new.mids; last = c.later.result }) in
+    let later : c.later-self.result.0 ≡ max c.args.self.now.last.0 c.args.now.0 = c.later-self.ensures in
+    let done : Effects = looked true c.look.new.self.seen c.later-self.result.0 s (reading c.args.datagram.now) in
+    let after : SeatSeen = share_shown (record { alloc = c.args.self.now.alloc; pass = c.args.self.now.pass; looker = c.look.new.self; mids = c.look_starved.new.mids; last = c.later-self.result }) in
     let sends : Sends done c.args.out.now c.look_starved.new.out c.args.self.now.mids c.look_starved.new.mids =
-    c.look_starved.ensures.sends s c.look.new.self.seen c.later.result.0 (record { peer_is = refl; worker = refl; drawn = refl }) in
+    c.look_starved.ensures.sends s c.look.new.self.seen c.later-self.result.0 (record { peer_is = refl; worker = refl; drawn = refl }) in
     record {
       goes_on = record {
         hall = refl;
-        rest = look-IsAtRest c.args.self.now.pass c.args.self.now.looker c.look.new.self c.args.self.now.mids c.look_starved.new.mids c.args.self.now.last c.later.result c.requires.rest
+        rest = look-IsAtRest c.args.self.now.pass c.args.self.now.looker c.look.new.self c.args.self.now.mids c.look_starved.new.mids c.args.self.now.last c.later-self.result c.requires.rest
             c.look.ensures.name c.look.ensures.seen sends.worker (omega (arith, before, later))
             (subst (λ (n : ℕ). n < 2 ^ 64) (sym sends.drawn) (drawing-small done.drew c.args.self.now.mids.drawn c.requires.rest.drawn));
         met = c.look.ensures.seen;
       };
       looks = λ shown front may.
-          looked-LooksFrom (share_shown c.args.self.now) after shown front s true c.look_starved.new.out None c.later.result.0 may c.requires.rest.met c.look.ensures.seen refl refl refl
+          looked-LooksFrom (share_shown c.args.self.now) after shown front s true c.look_starved.new.out None c.later-self.result.0 may c.requires.rest.met c.look.ensures.seen refl refl refl
           (omega (arith, before, later))
           (sends.sent ∙ ap (λ (b : List (Peer × List ℕ)). b ++ done.sent) c.requires.empty)
-          (held_starved c.look.new.self.seen c.later.result.0 (reading c.args.datagram.now))
+          (held_starved c.look.new.self.seen c.later-self.result.0 (reading c.args.datagram.now))
           sends.worker refl refl refl
           (sends.drawn ∙ drawing-drawn_more done.drew c.args.self.now.mids.drawn c.requires.rest.drawn);
     }
