@@ -1,8 +1,7 @@
 -- One turn of a seat: from what its beginning finds, the desk's step and its end, what the seat shows and keeps afterwards.
-use Rattle.std.proofs.Common.{◌≡◌, ℕ, ◌^◌, ◌<◌, max, Bool, false, List, [], ◌∷◌, refl, sym, ap, subst, ◌∙◌, arith}
+use Rattle.std.proofs.Common.{◌≡◌, ℕ, ◌^◌, ◌<◌, max, Bool, false, List, ◌∷◌, sym, ap, subst, ◌∙◌}
 use Rattle.rd_base.specs.declared.moments.Moment.{Moment}
 use Rattle.rd_base.specs.declared.peers.Peer.{Peer}
-use Rattle.history_model.specs.declared.entries.Entry.{Entry}
 use Rattle.history_model.specs.Live.{IsFront}
 use Rattle.journal_model.specs.declared.rows.Row.{Row}
 use Rattle.journal_model.specs.declared.steps.Step.{Step}
@@ -13,14 +12,14 @@ use Rattle.journal_model.specs.Seats.{rows_of}
 use Rattle.journal_model.proofs.SeatLaws.{IsFront-trans}
 use Rattle.turn_lock.specs.declared.rows.Replays.{Ghosts}
 use Rattle.turn_lock.specs.declared.seats.Pass.{Pass}
-use Rattle.turn_lock.specs.Shown.{number_of, seen_of}
+use Rattle.turn_lock.specs.Shown.{seen_of}
 use Rattle.rd_desk.specs.declared.mids.Mids.{Mids}
 use Rattle.rd_desk.specs.Shown.{Shown}
 use Rattle.rd_desk.specs.UnderWay.{Made}
 use Rattle.version_board.specs.Ends.{PublisherSeen, LookerSeen}
 use Rattle.rd_seat.specs.Insides.{IsAtRest, seat_shown}
 use Rattle.rd_seat.specs.OneTurn.{HasBegun, HasEnded}
-use Rattle.rd_seat.specs.Seats.{SeatSeen, seat_of, MayHaveShown, MakesStep}
+use Rattle.rd_seat.specs.Seats.{MakesStep}
 use Rattle.rd_seat.specs.Turns.{AreTurns}
 use Rattle.rd_seat.proofs.TurnLaws.{now-row, AreTurns-row}
 use Rattle.rd_seat.proofs.SeatLaws.{made-MakesRow, drawing-drawn_more, drawing-small, turn-IsAtRest}

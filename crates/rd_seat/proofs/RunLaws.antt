@@ -1,6 +1,6 @@
 -- What a seat shows after any calls.
 use Rattle.std.proofs.Common.{◌≡◌, ℕ, Bool, List, [], ◌∷◌, Option, refl, sym, ap, subst, ◌∙◌}
-use Rattle.std.specs.List.{All, AllByRecursion}
+use Rattle.std.specs.List.{AllByRecursion}
 use Rattle.std.proofs.lemmas.List.Elements.{All-nil, All-from_recursion, recursion_from_All}
 use Rattle.rd_base.proofs.lemmas.Each.{each_weaker}
 use Rattle.rd_base.specs.declared.peers.Peer.{Peer}
@@ -15,7 +15,7 @@ use Rattle.journal_model.specs.Rows.{row}
 use Rattle.journal_model.specs.Seats.{Seat, IsSeat, MakesRow, LooksFrom}
 use Rattle.journal_model.proofs.SeatLaws.{IsFront-refl, IsFront-trans, new_seat-IsSeat, makes_row-IsSeat, looks_from-IsSeat}
 use Rattle.rd_seat.specs.Seats.{SeatSeen, seat_of, new_seat, MayHaveShown, MakesStep, LooksAtMet}
-use Rattle.rd_seat.specs.Runs.{Call, turn, look, HasCalled, begun, turned, looked, rows_made, fronts_shown, FrontsGoOn, IsSeatAfter, SeatsAreSeats}
+use Rattle.rd_seat.specs.Runs.{Call, turn, look, HasCalled, begun, turned, looked, rows_made, fronts_shown, FrontsGoOn, SeatsAreSeats}
 
 -- the same, with the fronts that it may have shown, and that all of its looks were from fronts of what it has met
 record After (calls : List Call) (seat : SeatSeen) : Type 0 where

@@ -32,6 +32,7 @@ const LAST: &[u8] = b"\x41\x01\x00\x03\xb2\xb9rd-lookup\x02ep\x48page=399\x07cou
 const LISTED_LAST: &[u8] = b"\x61\x45\x00\x03\xb2\x48\0\0\0\0\x03\x20\0\0\x81\x28\xff</rd/";
 
 /// A registration of a name, and a lookup of the endpoint that has it (RFC 9176 sections 5 and 6.3).
+#[derive(Drop)]
 struct Requests {
     registration: [u8; 23],
     lookup: [u8; 28],
@@ -43,7 +44,7 @@ fn digit(number: u8) -> u8 {
 }
 
 /// Those of one round of a worker.
-fn requests(worker: u8, round: u8) -> Requests {
+fn requests_of(worker: u8, round: u8) -> Requests {
     let mut registration = *b"\x41\x02\x00\x00\xa1\xb2rd\x49ep=w00n00\xff</t>";
     let mut lookup = *b"\x41\x01\x00\x00\xb2\xb9rd-lookup\x02ep\x49ep=w00n00";
     let name = round % NAMES;
@@ -73,6 +74,7 @@ fn answer_from(out: &Outbox, offset: usize) -> &[u8] {
 }
 
 /// A worker with its seat.
+#[derive(Drop)]
 struct Worker<'a> {
     hall: &'a Hall,
     seat: Seat,
@@ -89,7 +91,7 @@ impl<'a> Worker<'a> {
         round: u8,
         out: &mut Outbox,
     ) -> Result<Vec<u8>, Starved> {
-        let requests = requests(self.number, round);
+        let requests = requests_of(self.number, round);
         let peer = Peer {
             host: ENDPOINT.host,
             port: u16::from(self.number),

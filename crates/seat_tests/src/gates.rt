@@ -58,6 +58,7 @@ fn other_seat_sees(rt: HostRuntime) -> Result<(), Fail> {
 }
 
 /// What two workers tell each other: 1 once it is so.
+#[derive(Drop)]
 struct Signs {
     is_held: AtomicU64,
     is_answered: AtomicU64,
@@ -65,6 +66,7 @@ struct Signs {
 }
 
 /// A gate that holds a worker who holds the turn, until another worker was answered.
+#[derive(Drop)]
 struct UntilAnswered<'a, C: Clock> {
     clock: &'a C,
     signs: &'a Signs,

@@ -12,9 +12,9 @@ use std::test::Fail;
 
 /// A request to observe the links, and the registration of the one that comes, each with room for
 /// its Message ID (RFC 7641 section 3, RFC 9176 section 5).
-const OBSERVE: &[u8; 32] = b"\x41\x01\x00\x00\xc0\x60\x59rd-lookup\x03res\x4crt=light-lux";
+const OBSERVE: &[u8; 33] = b"\x41\x01\x00\x00\xc0\x60\x59rd-lookup\x03res\x4crt=light-lux";
 
-const REGISTER: &[u8; 45] =
+const REGISTER: &[u8; 53] =
     b"\x41\x02\x00\x00\xa1\xb2rd\x48ep=node1\xff</light>;rt=\"light-lux\";if=\"sensor\"";
 
 /// Whether the one answer is 5.00 (RFC 7252 section 5.9.3.1).

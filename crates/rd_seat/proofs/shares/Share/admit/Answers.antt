@@ -7,8 +7,6 @@ use Rattle.journal_model.specs.Rows.{row, row_moment}
 use Rattle.rd_desk.specs.declared.mids.Mids.{Mids}
 use Rattle.rd_desk.specs.UnderWay.{IsCalled, Made}
 use Rattle.rd_desk.specs.Admitting.{is_starved_admission, IsHeldFor}
-use Rattle.rd_desk.specs.Shown.{Shown}
-use Rattle.version_board.specs.Ends.{PublisherSeen}
 use Rattle.turn_lock.specs.Shown.{seen_of, number_of}
 use Rattle.rd_seat.specs.Seats.{MakesStep}
 use Rattle.rd_seat.specs.Shares.{share_shown}

@@ -1,8 +1,7 @@
-use Rattle.std.proofs.Common.{◌≡◌, ◌∷◌, ◌++◌, ℕ, ◌≤◌, ◌<◌, ◌^◌, Bool, true, max, List, [], None, refl, sym, ap, subst, ◌∙◌, arith}
+use Rattle.std.proofs.Common.{◌≡◌, ◌++◌, ℕ, ◌≤◌, ◌<◌, ◌^◌, Bool, true, max, List, None, refl, sym, ap, subst, ◌∙◌, arith}
 use Rattle.std.specs.Arc.{arc_value}
 use Rattle.rd_base.specs.declared.peers.Peer.{Peer}
 use Rattle.message_model.specs.Reading.{reading}
-use Rattle.history_model.specs.declared.entries.Entry.{Entry}
 use Rattle.history_model.specs.Live.{last_moment}
 use Rattle.history_model.specs.Versions.{Version, VersionStandsFor}
 use Rattle.journal_model.specs.declared.steps.Step.{Step}
@@ -14,7 +13,7 @@ use Rattle.rd_seat.specs.Looks.{answer_held}
 use Rattle.rd_seat.specs.Seats.{SeatSeen}
 use Rattle.rd_seat.specs.Shares.{share_shown}
 use Rattle.rd_seat.specs.Steps.{look_step}
-use Rattle.rd_seat.proofs.SeatLaws.{looked-LooksFrom, look-IsAtRest, held_answer, held_starved, held-IsJobOf, drawing-drawn_more, drawing-small}
+use Rattle.rd_seat.proofs.SeatLaws.{looked-LooksFrom, look-IsAtRest, held_answer, held_starved, drawing-drawn_more, drawing-small}
 use Rattle.rd_seat.proofs.shares.Share.look.Goals as goal
 
 -- no version could be had: the seat is as before, but for the answer and the moment
