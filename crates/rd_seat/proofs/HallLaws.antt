@@ -1,7 +1,7 @@
 -- The seats of a new hall, and what a hall keeps between two turns.
 use Rattle.std.proofs.Common.{◌≡◌, ℕ, ◌+◌, ◌<◌, zero, suc, List, [], ◌∷◌, length, replicate, slice_index_or, refl, sym, ap, subst, ◌∙◌, arith}
 use Rattle.std.specs.List.{All, AllByRecursion}
-use Rattle.std.proofs.lemmas.List.Elements.{All-from_recursion, All-nil, All-append}
+use Rattle.std.proofs.lemmas.List.Elements.{All-from_recursion, recursion_from_All, All-nil, All-append}
 use Rattle.atomic_table.specs.Seated.{TableId}
 use Rattle.journal_model.specs.declared.rows.Row.{Row}
 use Rattle.headline_law.proofs.HeadlineLaw.{desk-DeskHeadline}
@@ -42,6 +42,13 @@ new_seats-halls hall zero = All-nil (λ (s : SeatSeen). s.hall ≡ hall)
 new_seats-halls hall (suc n) =
     All-append (λ (s : SeatSeen). s.hall ≡ hall) (new_seats hall n) (new_seat hall n ∷ []) (new_seats-halls hall n)
     (All-from_recursion (λ (s : SeatSeen). s.hall ≡ hall) (new_seat hall n ∷ []) (refl, tt))
+
+-- where the first and the others are of one hall, so is each
+pub first-of_hall : (hall : TableId) (s : SeatSeen) (seats : List SeatSeen) → All (λ (x : SeatSeen). x.hall ≡ hall) (s ∷ seats) → s.hall ≡ hall
+first-of_hall hall s seats all = (recursion_from_All (λ (x : SeatSeen). x.hall ≡ hall) (s ∷ seats) all).0
+
+pub others-of_hall : (hall : TableId) (s : SeatSeen) (seats : List SeatSeen) → All (λ (x : SeatSeen). x.hall ≡ hall) (s ∷ seats) → All (λ (x : SeatSeen). x.hall ≡ hall) seats
+others-of_hall hall s seats all = All-from_recursion (λ (x : SeatSeen). x.hall ≡ hall) seats (recursion_from_All (λ (x : SeatSeen). x.hall ≡ hall) (s ∷ seats) all).1
 
 -- ---- between two turns
 

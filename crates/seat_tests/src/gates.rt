@@ -110,24 +110,17 @@ fn held_meanwhile<R: Threads + Wait + Clock + Sync>(
     hall: &Hall,
     first: &mut Seat,
     second: &mut Seat,
+    signs: &Signs,
 ) -> Result<bool, Starved>
     requires first { first.old.hall ≡ hall.now }
 {
     let mut out = Outbox::make(alloc)?;
     let mut other = Outbox::make(alloc)?;
-    let signs = Signs {
-        is_held: AtomicU64::new(0),
-        is_answered: AtomicU64::new(0),
-        is_seen: AtomicU64::new(0),
-    };
-    let gate = UntilAnswered {
-        clock: rt,
-        signs: &signs,
-    };
+    let gate = UntilAnswered { clock: rt, signs };
     let (is_made, is_none) = join_mut(
         rt,
         &mut || register(rt, hall, &gate, first, ENDPOINT, REGISTRATION, &mut out),
-        &mut || look_meanwhile(rt, second, &mut other, &signs),
+        &mut || look_meanwhile(rt, second, &mut other, signs),
     );
     let was_seen = signs.is_seen.load(Ordering::SeqCst) == 1;
     let is_listed = looks(second, LOOKUP, LISTED, &mut other);
@@ -137,7 +130,12 @@ fn held_meanwhile<R: Threads + Wait + Clock + Sync>(
 #[test]
 fn two_gates(rt: HostRuntime) -> Result<(), Fail> {
     let (hall, mut first, mut second) = two_seats(rt.alloc(), &rt)?;
-    let held = held_meanwhile(rt.alloc(), &rt, &hall, &mut first, &mut second);
+    let signs = Signs {
+        is_held: AtomicU64::new(0),
+        is_answered: AtomicU64::new(0),
+        is_seen: AtomicU64::new(0),
+    };
+    let held = held_meanwhile(rt.alloc(), &rt, &hall, &mut first, &mut second, &signs);
     hall.end(&rt);
     assert!(rt; held?);
     Ok(())
