@@ -18,3 +18,6 @@ pub use looker::Looker;
 pub use lookers::Lookers;
 pub use opening::board;
 pub use publisher::Publisher;
+
+#[cfg(test)]
+mod tests;
