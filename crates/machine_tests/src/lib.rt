@@ -1,12 +1,10 @@
-//! Tests of what neither the output of a trace nor the answer of a call shows: ends that fail, how
-//! observers stand, what is laid on a board, and steps that run out of memory.
+//! Tests of what neither the output of a trace nor the answer of a call shows: ends that fail,
+//! Message IDs that come again, and versions at their limits.
 #![tactic(auto)]
 
 #[cfg(test)]
-mod desks;
-#[cfg(test)]
 mod ends;
 #[cfg(test)]
-mod station;
+mod message_ids;
 #[cfg(test)]
 mod versions;

@@ -1,0 +1,12 @@
+//! The Message IDs that a worker draws.
+
+use rd_desk::Mids;
+
+/// A worker has 4,096 of them, and draws each again and again.
+#[test]
+fn message_ids_come_again(rt: HostRuntime) {
+    let mut mids = Mids::of(15);
+    for drawn in 0..8192 {
+        assert_eq!(rt; mids.next(), 61_440 + drawn % 4096);
+    }
+}
