@@ -1,4 +1,4 @@
-//! A version to which the last entry came, and what it tells of its one registration.
+//! Versions at their limits: of entries, of registrations and of what these weigh.
 
 ghost use Rattle.std.specs.Prelude.{◌≡◌, IfOk, IfSome};
 ghost use Rattle.record_model.specs.AllowedParameters.{IsAllowedChange};
@@ -8,7 +8,7 @@ use coap_message::view;
 use coap_options::{queries, request};
 use directory_core::{Directory, Refusal};
 use query_text::reg_params;
-use rd_base::{Host, Moment, Name, Pairs, Peer, Text, UpdateParams};
+use rd_base::{Host, Moment, Name, Pairs, Peer, Starved, Text, UpdateParams};
 use registration::{Draft, build};
 use std::alloc::Global;
 use std::test::Fail;
@@ -22,21 +22,29 @@ const PEER: Peer = Peer {
     port: 5683,
 };
 
-/// A registration of `node` for 60 seconds.
-const POST: &[u8] = b"A\x02\x00\x01\xa1\xb2rd\x47ep=node\x05lt=60";
+/// A registration, up to its query.
+const POST: &[u8] = b"A\x02\x00\x01\xa1\xb2rd";
 
-/// The draft of that registration.
-fn draft(alloc: Global) -> Option<Draft>
+/// A registration of a name of four digits for so many seconds.
+fn post(alloc: Global, name: u16, lt: u16) -> Result<Vec<u8>, Starved> {
+    let mut post = Vec::from_slice(alloc, POST)?;
+    let query = format!(in alloc; "\x47ep={name:04}\x06lt={lt:03}")?;
+    post.extend_from_slice(query.as_bytes())?;
+    Ok(post)
+}
+
+/// The draft of a registration with a body.
+fn draft(alloc: Global, post: &[u8], body: &[u8]) -> Option<Draft>
     ensures { IfSome result IsDraft }
 {
-    let view = view(POST).ok()?;
+    let view = view(post).ok()?;
     let Ok(meaning) = request(&view) else {
         return None;
     };
     let Ok(params) = reg_params(alloc, queries(&meaning), false) else {
         return None;
     };
-    build(alloc, params, PEER, b"").ok()
+    build(alloc, params, PEER, body).ok()
 }
 
 /// An update that only renews the lease.
@@ -50,14 +58,21 @@ fn renewal(alloc: Global) -> UpdateParams
     }
 }
 
-/// The version after the registration at the moment 0.
-fn registered(alloc: Global, version: &Directory) -> Result<Directory, Refusal>
+/// The version after a registration at the moment 0.
+fn registered(
+    alloc: Global,
+    version: &Directory,
+    name: u16,
+    lt: u16,
+    body: &[u8],
+) -> Result<Directory, Refusal>
     requires at { version.now.at ≡ 0 }
     requires swept { version.now.swept ≡ 0 }
     ensures at { IfOk result (λ made. made.at ≡ 0) }
     ensures swept { IfOk result (λ made. made.swept ≡ 0) }
 {
-    let Some(draft) = draft(alloc) else {
+    let post = post(alloc, name, lt)?;
+    let Some(draft) = draft(alloc, post.as_slice(), body) else {
         return Err(Refusal::Starved);
     };
     match version.register(Moment(0), draft) {
@@ -72,7 +87,7 @@ fn full(alloc: Global) -> Result<Directory, Refusal>
     ensures swept { IfOk result (λ made. made.swept ≡ 0) }
 {
     let empty = Directory::empty(alloc, LAST_BUT_ONE)?;
-    registered(alloc, &empty)
+    registered(alloc, &empty, 1, 60, b"")
 }
 
 /// Why an update and a removal of a registration are refused at the moment 0.
@@ -92,12 +107,12 @@ fn told(version: &Directory, name: &Name, now: u64) -> (u64, Option<u64>, Option
     requires swept { version.now.swept ≡ 0 }
 {
     let now = Moment(now);
-    let lifetime = version.record_of(1, now).map(|record| record.lt);
-    (
-        version.live_count(now),
-        version.by_name(name, now),
-        lifetime,
-    )
+    let lifetime = match version.record_of(1, now) {
+        Some(record) => Some(record.lt),
+        None => None,
+    };
+    let live = version.live_count(now);
+    (live, version.by_name(name, now), lifetime)
 }
 
 #[test]
@@ -107,18 +122,57 @@ fn the_last_entry_is_counted(rt: HostRuntime) -> Result<(), Fail> {
         return Err("the last entry did not come".into());
     };
     assert_eq!(rt; full.entries(), LAST_BUT_ONE + 1);
-    let again = registered(alloc, &full).err();
+    let again = registered(alloc, &full, 1, 60, b"").err();
     assert_eq!(rt; again, Some(Refusal::FullEntries));
     let last = (Refusal::FullEntries, Refusal::FullEntries);
     assert_eq!(rt; refusals(alloc, &full, 1), Some(last));
     let gone = (Refusal::Gone(2), Refusal::Gone(2));
     assert_eq!(rt; refusals(alloc, &full, 2), Some(gone));
     let name = Name {
-        ep: Text::copy_of(alloc, "node")?,
+        ep: Text::copy_of(alloc, "0001")?,
         sector: None,
     };
     assert_eq!(rt; told(&full, &name, 59_999), (1, Some(1), Some(60)));
     assert_eq!(rt; told(&full, &name, 60_000), (0, None, None));
+    Ok(())
+}
+
+/// A version of 4,096 registrations: the second for 60 seconds, the third for 120, others for 300.
+fn crowded(alloc: Global) -> Result<Directory, Refusal>
+    ensures at { IfOk result (λ made. made.at ≡ 0) }
+    ensures swept { IfOk result (λ made. made.swept ≡ 0) }
+{
+    let mut version = Directory::empty(alloc, 0)?;
+    'names: for name in 1..=4_096 {
+        let lt = match name {
+            2 => 60,
+            3 => 120,
+            _ => 300,
+        };
+        version = registered(alloc, &version, name, lt, b"")?;
+    }
+    Ok(version)
+}
+
+/// Each registration weighs 58 octets and the digits of its number, which are 15,277 in all, and
+/// the link 1,048,577, which are its octets and a comma.
+#[test]
+fn a_crowd_lapses_in_order_and_is_full(rt: HostRuntime) -> Result<(), Fail> {
+    let alloc = rt.alloc();
+    let crowd = crowded(alloc)?;
+    for (from, to, next) in [(0, 300_000, [2, 3, 1]), (60_000, 299_999, [3, 0, 0])] {
+        let mut lapsing = crowd.lapsing(Moment(from), Moment(to));
+        for number in next {
+            let record = lapsing.step();
+            assert_eq!(rt; record.map_or(0, |record| record.number), number);
+        }
+    }
+    let new = registered(alloc, &crowd, 4_097, 60, b"").err();
+    assert_eq!(rt; new, Some(Refusal::FullCount(4_096)));
+    let mut link = vec![in alloc; b'x'; 1_048_576]?;
+    (link[0], link[2], link[1_048_575]) = (b'<', b':', b'>');
+    let long = registered(alloc, &crowd, 1, 300, link.as_slice()).err();
+    assert_eq!(rt; long, Some(Refusal::FullText(1_301_422)));
     Ok(())
 }
 

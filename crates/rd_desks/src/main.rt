@@ -8,51 +8,32 @@
 mod station;
 mod tables;
 
-use crate::tables::{Table, Tables};
+use crate::tables::{Tables, Tally};
+use rd_base::Starved;
 use std::io;
 use std::process::ExitCode;
 
-/// How many tables were run, and how many of them differ.
-#[derive(Drop)]
-struct Tally {
-    /// How many were run.
-    tables: u64,
-    /// How many of these differ.
-    differ: u64,
-}
-
-/// Prints how a table came out, where one has ended, and counts it.
-fn tell(rt: &HostRuntime, tally: &mut Tally, ended: Option<Table>) -> io::Result<()> {
-    let Some(table) = ended else {
-        return Ok(());
-    };
-    println!(rt; "{table}")?;
-    tally.tables = tally.tables.saturating_add(1);
-    if !table.is_as_written() {
-        tally.differ = tally.differ.saturating_add(1);
+/// Prints how a table came out, where one has ended.
+fn tell(rt: &HostRuntime, ended: Result<Option<String>, Starved>) -> io::Result<()> {
+    match ended {
+        Ok(Some(outcome)) => rt.println(outcome),
+        Ok(None) => Ok(()),
+        Err(Starved) => Err(io::Error::from(io::ErrorKind::OutOfMemory)),
     }
-    Ok(())
 }
 
 /// Runs all tables of standard input.
-fn tell_all(rt: &HostRuntime) -> io::Result<Tally> {
-    let mut tally = Tally {
-        tables: 0,
-        differ: 0,
-    };
-    let mut tables = Tables::new(rt.alloc());
+fn tell_all(rt: &HostRuntime, tables: &mut Tables) -> io::Result<()> {
     'lines: for line in rt.lines(rt.alloc()) {
-        let Ok(ended) = tables.take(line?.as_str()) else {
-            return Err(io::Error::from(io::ErrorKind::OutOfMemory));
-        };
-        tell(rt, &mut tally, ended)?;
+        tell(rt, tables.take(line?.as_str()))?;
     }
-    tell(rt, &mut tally, tables.end())?;
-    Ok(tally)
+    tell(rt, tables.end())
 }
 
 fn main(rt: HostRuntime) -> io::Result<ExitCode> {
-    let Tally { tables, differ } = tell_all(&rt)?;
+    let mut tables = Tables::new(rt.alloc());
+    tell_all(&rt, &mut tables)?;
+    let Tally { tables, differ } = tables.tally();
     println!(rt; "{tables} tables, {differ} differ")?;
     if differ > 0 {
         return Ok(ExitCode::FAILURE);

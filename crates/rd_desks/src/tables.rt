@@ -3,7 +3,6 @@
 use crate::station::Station;
 use rd_base::Starved;
 use std::alloc::Global;
-use std::{fmt, mem};
 
 /// The name of a table whose lines stand before each `desk`.
 const NAMELESS: &str = "a table without a name";
@@ -19,7 +18,7 @@ struct Failing {
 
 /// A table, as far as it was told.
 #[derive(Drop)]
-pub struct Table {
+struct Table {
     /// Its name.
     name: String,
     /// The desk.
@@ -38,11 +37,6 @@ impl Table {
         })
     }
 
-    /// Whether each line held, and all was told that the last step sent.
-    pub fn is_as_written(&self) -> bool {
-        self.failing.is_none() && self.station.is_told()
-    }
-
     /// The next line is told, where those before it held.
     fn take(&mut self, alloc: Global, number: u64, line: &str) -> Result<(), Starved> {
         if self.failing.is_some() || self.station.holds(line)? {
@@ -52,17 +46,27 @@ impl Table {
         self.failing = Some(Failing { number, line });
         Ok(())
     }
+
+    /// What is not as written: a line, or that the end comes before all was told.
+    fn difference(&self, alloc: Global) -> Result<Option<String>, Starved> {
+        let name = self.name.as_str();
+        if let Some(Failing { number, line }) = &self.failing {
+            return Ok(Some(format!(in alloc; "{name}: line {number}: {line}")?));
+        }
+        if self.station.is_told() {
+            return Ok(None);
+        }
+        Ok(Some(format!(in alloc; "{name}: the end")?))
+    }
 }
 
-impl fmt::Display for Table {
-    fn fmt<W: fmt::Write>(&self, f: &mut fmt::Formatter<W>) -> fmt::Result {
-        let name = self.name.as_str();
-        match &self.failing {
-            Some(Failing { number, line }) => write!(f, "{name}: line {number}: {line}"),
-            None if self.station.is_told() => write!(f, "{name}: as written"),
-            None => write!(f, "{name}: the end"),
-        }
-    }
+/// How many tables have ended, and how many of them differ.
+#[derive(Clone, Copy)]
+pub struct Tally {
+    /// How many have ended.
+    pub tables: u64,
+    /// How many of these differ.
+    pub differ: u64,
 }
 
 /// Tables whose lines come one after another.
@@ -74,6 +78,8 @@ pub struct Tables {
     table: Option<Table>,
     /// How many lines came.
     lines: u64,
+    /// What is counted of the tables.
+    tally: Tally,
 }
 
 impl Tables {
@@ -83,36 +89,59 @@ impl Tables {
             alloc,
             table: None,
             lines: 0,
+            tally: Tally {
+                tables: 0,
+                differ: 0,
+            },
         }
     }
 
-    /// The next table begins. Answers the one that has ended.
-    fn begin(&mut self, name: &str) -> Result<Option<Table>, Starved> {
-        let table = Table::new(self.alloc, name)?;
-        Ok(mem::replace(&mut self.table, Some(table)))
+    /// What is counted of the tables so far.
+    pub fn tally(&self) -> Tally {
+        self.tally
     }
 
-    /// The next line comes. Answers the table that has ended where it begins another one.
-    pub fn take(&mut self, line: &str) -> Result<Option<Table>, Starved> {
-        self.lines = self.lines.saturating_add(1);
-        if line.is_empty() || line.starts_with('#') {
+    /// The table ends, if there is one. Answers how it came out.
+    pub fn end(&mut self) -> Result<Option<String>, Starved> {
+        let Some(table) = &self.table else {
             return Ok(None);
+        };
+        self.tally.tables = self.tally.tables.saturating_add(1);
+        if let Some(difference) = table.difference(self.alloc)? {
+            self.tally.differ = self.tally.differ.saturating_add(1);
+            return Ok(Some(difference));
         }
+        let name = table.name.as_str();
+        Ok(Some(format!(in self.alloc; "{name}: as written")?))
+    }
+
+    /// The next table begins. Answers how the one before it came out.
+    fn begin(&mut self, name: &str) -> Result<Option<String>, Starved> {
+        let ended = self.end()?;
+        self.table = Some(Table::new(self.alloc, name)?);
+        Ok(ended)
+    }
+
+    /// A line of a table comes.
+    fn go_on(&mut self, line: &str) -> Result<(), Starved> {
+        if self.table.is_none() {
+            self.table = Some(Table::new(self.alloc, NAMELESS)?);
+        }
+        match &mut self.table {
+            Some(table) => table.take(self.alloc, self.lines, line),
+            None => Ok(()),
+        }
+    }
+
+    /// The next line comes. Where it begins a table, answers how the one before it came out.
+    pub fn take(&mut self, line: &str) -> Result<Option<String>, Starved> {
+        self.lines = self.lines.saturating_add(1);
         if let Some(name) = line.strip_prefix("desk ") {
             return self.begin(name);
         }
-        if self.table.is_none() {
-            self.begin(NAMELESS)?;
-        }
-        if let Some(table) = &mut self.table {
-            table.take(self.alloc, self.lines, line)?;
+        if !line.is_empty() && !line.starts_with('#') {
+            self.go_on(line)?;
         }
         Ok(None)
-    }
-
-    /// No line is left. Answers the last table.
-    pub fn end(self) -> Option<Table> {
-        let Tables { table, .. } = self;
-        table
     }
 }
