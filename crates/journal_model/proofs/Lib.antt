@@ -9,7 +9,8 @@
 -- Datagrams: what rows send can be read and fits (FittingReplies, OwnSends, TickedSends, NotedSends, SentRows, DatagramRows).
 -- Journals of a desk (desks): TouchedExchanges (what a row notes of exchanges), AdmissionsInOrder (what a table of exchanges asks of events, of each such journal),
 --   OpenAdmissions (an admission from its row on, until it is ended; what is admitted is the row's own), CommitsOnce (each is committed at most once),
---   OpenForOthers (it stays open while other workers make rows), MachineJournals (a journal of the machine is one).
+--   OpenForOthers (it stays open while other workers make rows), MachineJournals (a journal of
+--   the machine is one).
 -- OnLiterals unfolds the definitions, so that examples compute.
 pub mod OnLiterals
 pub mod EntriesNoted

@@ -23,7 +23,8 @@ datagrams_shown o = map (datagram_at o.octets.items) o.spans.items
 abbrev pub LiesWithin : ℕ → Span → Type 0
 LiesWithin size s = (s.start ≤ s.end) × (s.end ≤ size)
 
--- each datagram lies within the octets, they are no more than one step sends, and there is room for all of these
+-- each datagram lies within the octets, they are no more than one step sends, and there is room
+-- for all of these
 pub record IsOutbox (o : Inside) : Type 0 where
   pub room : 1_474_560 ≤ vec_capacity o.octets
   pub places : most_datagrams ≤ vec_capacity o.spans

@@ -297,11 +297,14 @@ pub fn look(
     give(alloc, mids, peer, datagram, &meaning, found, out)
 }
 
-/// A request that only looks, for which no version is at hand, is answered 5.00 (RFC 7252 section 5.9.3.1). `out` has room for one datagram more.
+/// A request that only looks, for which no version is at hand, is answered 5.00 (RFC 7252 section
+/// 5.9.3.1). `out` has room for one datagram more.
 pub fn look_starved(mids: &mut Mids, peer: Peer, datagram: &[u8], out: &mut Outbox)
     requires looks { is_look_datagram datagram.now ≡ true }
     requires room { length out.old < most_datagrams }
-    ensures sends { (s : Step) (history : List Entry) (moment : ℕ) → IsStepOf s peer mids.old → Sends (looks_of.looked true history moment s (reading datagram.now)) out.old out.new mids.old mids.new }
+    ensures sends { (s : Step) (history : List Entry) (moment : ℕ) → IsStepOf s peer mids.old →
+        Sends (looks_of.looked true history moment s (reading datagram.now))
+        out.old out.new mids.old mids.new }
 {
     let meaning = look_meaning(datagram);
     answer_starved(mids, peer, &meaning.view, out);

@@ -1,5 +1,41 @@
 -- The desk behind the turn, from one turn to the next.
-use Rattle.std.proofs.Common.{◌≡◌, ◌⊎◌, inl, inr, ℕ, ◌<◌, ◌≤◌, Bool, true, false, not, cond, max, List, [], ◌∷◌, ◌++◌, length, filter_map, Option, Some, None, Result, Ok, Err, IsSome, IfSome, is_some, refl, sym, ap, subst, ◌∙◌, append-nil, arith}
+use Rattle.std.proofs.Common.{
+  ◌≡◌,
+  ◌⊎◌,
+  inl,
+  inr,
+  ℕ,
+  ◌<◌,
+  ◌≤◌,
+  Bool,
+  true,
+  false,
+  not,
+  cond,
+  max,
+  List,
+  [],
+  ◌∷◌,
+  ◌++◌,
+  length,
+  filter_map,
+  Option,
+  Some,
+  None,
+  Result,
+  Ok,
+  Err,
+  IsSome,
+  IfSome,
+  is_some,
+  refl,
+  sym,
+  ap,
+  subst,
+  ◌∙◌,
+  append-nil,
+  arith,
+}
 use Rattle.std.proofs.lemmas.Bool.{false≢true}
 use Rattle.rd_base.specs.declared.moments.Moment.{Moment}
 use Rattle.history_model.specs.declared.entries.Entry.{Entry}
@@ -15,7 +51,10 @@ use Rattle.journal_model.specs.DeskJournal.{MayFollow, begun, made, NoLaterLook,
 use Rattle.journal_model.specs.Effects.{answering}
 use Rattle.journal_model.specs.Rows.{kept_body, effects, row, row_moment}
 use Rattle.journal_model.proofs.entries.RowLaws.{row-single}
-use Rattle.journal_model.proofs.entries.QuietSteps.{keep_effects-entries_in, tick_effects-entries_in}
+use Rattle.journal_model.proofs.entries.QuietSteps.{
+  keep_effects-entries_in,
+  tick_effects-entries_in,
+}
 use Rattle.journal_model.proofs.EntriesNoted.{entries_in}
 use Rattle.rd_desk.specs.declared.mids.Mids.{Mids}
 use Rattle.rd_desk.specs.Desks.{StandsFor}
@@ -25,7 +64,16 @@ use Rattle.rd_desk.specs.Shown.{Shown, AreToldOf}
 use Rattle.rd_desk.specs.Staging.{staged_after, LeavesStaged}
 use Rattle.version_board.specs.Ends.{PublisherSeen}
 use Rattle.rd_seat.specs.Steps.{first_entry, keep_step, no_entry, tick_step}
-use Rattle.rd_seat.specs.Turns.{IsDeskRow, AreTurns, IsPublished, StandsAtTurn, MakesAtMost, HasStepped, published_with, board_published}
+use Rattle.rd_seat.specs.Turns.{
+  IsDeskRow,
+  AreTurns,
+  IsPublished,
+  StandsAtTurn,
+  MakesAtMost,
+  HasStepped,
+  published_with,
+  board_published,
+}
 
 -- ---- rows of turns
 
@@ -40,12 +88,14 @@ unfolding latest now
 AreTurns-none = record { journal = begun; no_look = tt; in_time = let h : 0 ≤ 0 = omega arith in h }
 
 -- one more row
-pub AreTurns-row : (rows : List Row) (s : Step) (starved : Bool) → AreTurns rows → MayFollow rows s → is_look s.kind ≡ false → AreTurns (row rows s starved ∷ rows)
+pub AreTurns-row : (rows : List Row) (s : Step) (starved : Bool) → AreTurns rows
+    → MayFollow rows s → is_look s.kind ≡ false → AreTurns (row rows s starved ∷ rows)
 unfolding row row_moment latest
 AreTurns-row rows s starved turns may e = record {
   journal = made s starved turns.journal may;
   no_look = (e, turns.no_look);
-  in_time = let m : now (row rows s starved ∷ rows) ≡ max s.handed.0 (latest rows) = now-row (row rows s starved) rows e in omega (arith, m);
+  in_time = let m : now (row rows s starved ∷ rows) ≡ max s.handed.0 (latest rows) =
+      now-row (row rows s starved) rows e in omega (arith, m);
 }
 
 -- no look is later than a moment that is handed in
@@ -60,8 +110,10 @@ single-first [] h = inl refl
 single-first (e ∷ []) h = inr refl
 single-first (e ∷ (f ∷ es)) h = absurd (omega (arith, h))
 
-pub row-MakesAtMost : (rows : List Row) (s : Step) (starved : Bool) → MakesAtMost (first_entry (entries_of (row rows s starved))) (row rows s starved)
-row-MakesAtMost rows s starved = single-first (entries_of (row rows s starved)) (row-single rows s starved)
+pub row-MakesAtMost : (rows : List Row) (s : Step) (starved : Bool)
+    → MakesAtMost (first_entry (entries_of (row rows s starved))) (row rows s starved)
+row-MakesAtMost rows s starved = single-first (entries_of (row rows s starved))
+    (row-single rows s starved)
 
 -- no rows made none
 pub no-entries : [] ≡ entries []
@@ -76,9 +128,12 @@ entries-row r rows = refl
 -- ---- a step
 
 -- what the desk's step leaves
-pub HasStepped-by : (rows : List Row) (s : Step) (starved : Bool) (entry : Entry) (desk after : Shown PublisherSeen) → StandsAtTurn rows desk → MayFollow rows s → is_look s.kind ≡ false
+pub HasStepped-by : (rows : List Row) (s : Step) (starved : Bool) (entry : Entry)
+    (desk after : Shown PublisherSeen) → StandsAtTurn rows desk → MayFollow rows s
+    → is_look s.kind ≡ false
     → StandsFor (row rows s starved ∷ rows) after.tables → after.board.told ≡ desk.board.told
-    → after.board.staged ≡ staged_after (entries_of (row rows s starved)) after.tables.version None → MakesAtMost entry (row rows s starved)
+    → after.board.staged ≡ staged_after (entries_of (row rows s starved)) after.tables.version
+    None → MakesAtMost entry (row rows s starved)
     → HasStepped entry (row rows s starved) s.worker rows after
 unfolding row
 HasStepped-by rows s starved entry desk after was may e stands told staged most = record {
@@ -93,47 +148,69 @@ HasStepped-by rows s starved entry desk after was may e stands told staged most 
 -- ---- publishing
 
 -- what is staged stands for the told entries with that of the row
-pub stepped-staged : (entry : Entry) (r : Row) (worker : ℕ) (rows : List Row) (desk : Shown PublisherSeen) → HasStepped entry r worker rows desk
+pub stepped-staged : (entry : Entry) (r : Row) (worker : ℕ) (rows : List Row)
+    (desk : Shown PublisherSeen) → HasStepped entry r worker rows desk
     → IfSome desk.board.staged (VersionStandsFor 0 (desk.board.told ++ entry ∷ []))
 stepped-staged entry r worker rows desk it = by it.most
   where
-    by : MakesAtMost entry r → IfSome desk.board.staged (VersionStandsFor 0 (desk.board.told ++ entry ∷ []))
+    by : MakesAtMost entry r → IfSome desk.board.staged
+        (VersionStandsFor 0 (desk.board.told ++ entry ∷ []))
     by (inl none) =
-        subst (λ (v : Option Version). IfSome v (VersionStandsFor 0 (desk.board.told ++ entry ∷ []))) (sym (it.staged ∙ ap (λ es. staged_after es desk.tables.version None) none)) tt
+        subst (λ (v : Option Version). IfSome v
+        (VersionStandsFor 0 (desk.board.told ++ entry ∷ [])))
+        (sym (it.staged ∙ ap (λ es. staged_after es desk.tables.version None) none)) tt
     by (inr one) =
-        subst (λ (v : Option Version). IfSome v (VersionStandsFor 0 (desk.board.told ++ entry ∷ []))) (sym (it.staged ∙ ap (λ es. staged_after es desk.tables.version None) one))
-        (subst (λ h. VersionStandsFor 0 h desk.tables.version) (entries-row r rows ∙ (ap (λ es. entries rows ++ es) one ∙ ap (λ h. h ++ entry ∷ []) (sym it.told))) it.tables.directory.history)
+        subst (λ (v : Option Version). IfSome v
+        (VersionStandsFor 0 (desk.board.told ++ entry ∷ [])))
+        (sym (it.staged ∙ ap (λ es. staged_after es desk.tables.version None) one))
+        (subst (λ h. VersionStandsFor 0 h desk.tables.version)
+        (entries-row r rows ∙ (ap (λ es. entries rows ++ es) one
+        ∙ ap (λ h. h ++ entry ∷ []) (sym it.told))) it.tables.directory.history)
 
 -- once it is published, the desk stands for the journal with the row
-pub stepped-StandsAtTurn : (entry : Entry) (r : Row) (worker : ℕ) (rows : List Row) (desk : Shown PublisherSeen) → HasStepped entry r worker rows desk
-    → IsPublished (board_published entry desk).board.told (board_published entry desk).board → StandsAtTurn (r ∷ rows) (board_published entry desk)
+pub stepped-StandsAtTurn : (entry : Entry) (r : Row) (worker : ℕ) (rows : List Row)
+    (desk : Shown PublisherSeen) → HasStepped entry r worker rows desk
+    → IsPublished (board_published entry desk).board.told (board_published entry desk).board
+    → StandsAtTurn (r ∷ rows) (board_published entry desk)
 stepped-StandsAtTurn entry r worker rows desk it published = by it.most
   where
     -- by what was staged
-    with_staged : (staged : Option Version) → desk.board.staged ≡ staged → (published_with staged entry desk.board).told ≡ entries (r ∷ rows) → (published_with staged entry desk.board).staged ≡ None
+    with_staged : (staged : Option Version) → desk.board.staged ≡ staged
+        → (published_with staged entry desk.board).told ≡ entries (r ∷ rows)
+        → (published_with staged entry desk.board).staged ≡ None
         → StandsAtTurn (r ∷ rows) (board_published entry desk)
-    with_staged staged e told none = let tells : (board_published entry desk).board.told ≡ entries (r ∷ rows) = ap (λ v. (published_with v entry desk.board).told) e ∙ told in record {
-      turns = it.turns;
-      tables = it.tables;
-      told = tells;
-      published = subst (λ (h : List Entry). IsPublished h (board_published entry desk).board) tells published;
-      staged = ap (λ v. (published_with v entry desk.board).staged) e ∙ none;
-    }
+    with_staged staged e told none = let tells : (board_published entry desk).board.told
+        ≡ entries (r ∷ rows) = ap (λ v. (published_with v entry desk.board).told) e ∙ told in
+        record {
+          turns = it.turns;
+          tables = it.tables;
+          told = tells;
+          published = subst (λ (h : List Entry). IsPublished h (board_published entry desk).board)
+              tells published;
+          staged = ap (λ v. (published_with v entry desk.board).staged) e ∙ none;
+        }
 
     by : MakesAtMost entry r → StandsAtTurn (r ∷ rows) (board_published entry desk)
     by (inl none) =
-        let e : desk.board.staged ≡ None = it.staged ∙ ap (λ es. staged_after es desk.tables.version None) none in
-        with_staged None e (it.told ∙ sym (entries-row r rows ∙ (ap (λ es. entries rows ++ es) none ∙ append-nil (entries rows)))) e
+        let e : desk.board.staged ≡ None = it.staged
+        ∙ ap (λ es. staged_after es desk.tables.version None) none in
+        with_staged None e (it.told ∙ sym (entries-row r rows
+        ∙ (ap (λ es. entries rows ++ es) none ∙ append-nil (entries rows)))) e
     by (inr one) =
-        with_staged (Some desk.tables.version) (it.staged ∙ ap (λ es. staged_after es desk.tables.version None) one)
-        (ap (λ h. h ++ entry ∷ []) it.told ∙ sym (entries-row r rows ∙ ap (λ es. entries rows ++ es) one)) refl
+        with_staged (Some desk.tables.version)
+        (it.staged ∙ ap (λ es. staged_after es desk.tables.version None) one)
+        (ap (λ h. h ++ entry ∷ []) it.told ∙ sym
+        (entries-row r rows ∙ ap (λ es. entries rows ++ es) one)) refl
 
 -- what the board tells is what the version stands for
-pub stands-AreToldOf : (rows : List Row) (desk : Shown PublisherSeen) → StandsAtTurn rows desk → AreToldOf desk.tables.version (Some desk.board.told)
-stands-AreToldOf rows desk it = subst (λ h. VersionStandsFor 0 h desk.tables.version) (sym it.told) it.tables.directory.history
+pub stands-AreToldOf : (rows : List Row) (desk : Shown PublisherSeen) → StandsAtTurn rows desk
+    → AreToldOf desk.tables.version (Some desk.board.told)
+stands-AreToldOf rows desk it = subst (λ h. VersionStandsFor 0 h desk.tables.version)
+    (sym it.told) it.tables.directory.history
 
 -- the board keeps its name
-pub board_published-name : (entry : Entry) (desk : Shown PublisherSeen) → (board_published entry desk).board.name ≡ desk.board.name
+pub board_published-name : (entry : Entry) (desk : Shown PublisherSeen)
+    → (board_published entry desk).board.name ≡ desk.board.name
 board_published-name entry desk = by desk.board.staged
   where
     by : (staged : Option Version) → (published_with staged entry desk.board).name ≡ desk.board.name
@@ -143,24 +220,29 @@ board_published-name entry desk = by desk.board.staged
 -- ---- a row that is picked
 
 -- what holds of it where another thing does
-pub picked : {A : Type 0} (o : Option A) (P Q : A → Type 0) → ((x : A) → P x → Q x) → IfSome o P → IfSome o Q
+pub picked : {A : Type 0} (o : Option A) (P Q : A → Type 0) → ((x : A) → P x → Q x) → IfSome o P
+    → IfSome o Q
 picked None P Q f h = tt
 picked (Some x) P Q f h = f x h
 
 -- there is one, and two things hold of it
-pub both : {A R : Type 0} (o : Option A) (P Q : A → Type 0) → IsSome o → IfSome o P → IfSome o Q → ((x : A) → P x → Q x → R) → R
+pub both : {A R : Type 0} (o : Option A) (P Q : A → Type 0) → IsSome o → IfSome o P → IfSome o Q
+    → ((x : A) → P x → Q x → R) → R
 both None P Q some h k f = absurd (false≢true some)
 both (Some x) P Q some h k f = f x h k
 
 -- of what three things hold, a fourth does
-pub three : {A : Type 0} (o : Option A) (P Q R S : A → Type 0) → IfSome o P → IfSome o Q → IfSome o R → ((x : A) → P x → Q x → R x → S x) → IfSome o S
+pub three : {A : Type 0} (o : Option A) (P Q R S : A → Type 0) → IfSome o P → IfSome o Q
+    → IfSome o R → ((x : A) → P x → Q x → R x → S x) → IfSome o S
 three None P Q R S h k l f = tt
 three (Some x) P Q R S h k l f = f x h k l
 
 -- ---- a tick
 
 -- the call is that of its step
-pub tick-IsCalled : (found : List Row) (worker : ℕ) (moment : Moment) (word drawn : ℕ) (mids : Mids) (desk : Shown PublisherSeen) → StandsAtTurn found desk → worker ≡ mids.worker → drawn ≡ mids.drawn
+pub tick-IsCalled : (found : List Row) (worker : ℕ) (moment : Moment) (word drawn : ℕ)
+    (mids : Mids) (desk : Shown PublisherSeen) → StandsAtTurn found desk → worker ≡ mids.worker
+    → drawn ≡ mids.drawn
     → IsCalled found (tick_step worker moment word drawn) moment mids desk.tables
 tick-IsCalled found worker moment word drawn mids desk stands own drew = record {
   journal = stands.turns.journal;
@@ -173,20 +255,37 @@ tick-IsCalled found worker moment word drawn mids desk stands own drew = record 
 }
 
 -- it notes no entry
-tick-entries_of : (found : List Row) (worker : ℕ) (moment : Moment) (word drawn : ℕ) (starved : Bool) → entries_of (row found (tick_step worker moment word drawn) starved) ≡ []
+tick-entries_of : (found : List Row) (worker : ℕ) (moment : Moment) (word drawn : ℕ)
+    (starved : Bool) → entries_of (row found (tick_step worker moment word drawn) starved) ≡ []
 unfolding row effects
 tick-entries_of found worker moment word drawn starved =
-    tick_effects-entries_in starved found (row_moment found (tick_step worker moment word drawn)) (tick_step worker moment word drawn)
+    tick_effects-entries_in starved found (row_moment found (tick_step worker moment word drawn))
+    (tick_step worker moment word drawn)
 
 -- the desk after it
-pub tick-HasStepped : (found : List Row) (worker : ℕ) (moment : Moment) (word drawn : ℕ) (starved : Bool) (desk after : Shown PublisherSeen) → StandsAtTurn found desk → worker < max_workers
-    → StandsFor (row found (tick_step worker moment word drawn) starved ∷ found) after.tables → after.board ≡ desk.board
-    → HasStepped no_entry (row found (tick_step worker moment word drawn) starved) worker found after
+pub tick-HasStepped : (found : List Row) (worker : ℕ) (moment : Moment) (word drawn : ℕ)
+    (starved : Bool) (desk after : Shown PublisherSeen) → StandsAtTurn found desk
+    → worker < max_workers
+    → StandsFor (row found (tick_step worker moment word drawn) starved ∷ found) after.tables
+    → after.board ≡ desk.board
+    → HasStepped no_entry (row found (tick_step worker moment word drawn) starved) worker found
+    after
 tick-HasStepped found worker moment word drawn starved desk after was few stands board =
     HasStepped-by found (tick_step worker moment word drawn) starved no_entry desk after was
-    (record { commits = tt; handed = record { in_time = turns-NoLaterLook found moment.0 was.turns; worker = few; word = λ h. absurd (false≢true h) } })
+    (record {
+      commits = tt;
+      handed = record {
+        in_time =
+            turns-NoLaterLook found moment.0 was.turns;
+        worker = few;
+        word =
+            λ h. absurd (false≢true h);
+      };
+    })
     refl stands (ap (λ (p : PublisherSeen). p.told) board)
-    (ap (λ (p : PublisherSeen). p.staged) board ∙ (was.staged ∙ sym (ap (λ es. staged_after es after.tables.version None) (tick-entries_of found worker moment word drawn starved))))
+    (ap (λ (p : PublisherSeen). p.staged) board
+    ∙ (was.staged ∙ sym (ap (λ es. staged_after es after.tables.version None)
+    (tick-entries_of found worker moment word drawn starved))))
     (inl (tick-entries_of found worker moment word drawn starved))
 
 -- ---- a step that may make an entry
@@ -200,24 +299,36 @@ of_some d None = d
 of_some d (Some x) = x
 
 -- what is staged then, where nothing was
-pub leaves_staged : (notes : List Note) (version : Version) (before after : Option Version) (is_staged : Bool)
-    → LeavesStaged notes version (Some before) (Some after) is_staged → before ≡ None → after ≡ staged_after (filter_map entry_noted notes) version None
+pub leaves_staged : (notes : List Note) (version : Version) (before after : Option Version)
+    (is_staged : Bool)
+    → LeavesStaged notes version (Some before) (Some after) is_staged → before ≡ None
+    → after ≡ staged_after (filter_map entry_noted notes) version None
 unfolding inner
-leaves_staged notes version before after is_staged h none = ap inner h.0 ∙ ap (staged_after (filter_map entry_noted notes) version) none
+leaves_staged notes version before after is_staged h none =
+    ap inner h.0 ∙ ap (staged_after (filter_map entry_noted notes) version) none
 
 -- the desk after it
-pub step-HasStepped : (found : List Row) (s : Step) (starved : Bool) (desk after : Shown PublisherSeen) → StandsAtTurn found desk → MayFollow found s → is_look s.kind ≡ false
-    → StandsFor (row found s starved ∷ found) after.tables → Some after.board.told ≡ Some desk.board.told
-    → LeavesStaged (row found s starved).notes after.tables.version (Some desk.board.staged) (Some after.board.staged) (is_some after.board.staged)
-    → HasStepped (first_entry (entries_of (row found s starved))) (row found s starved) s.worker found after
+pub step-HasStepped : (found : List Row) (s : Step) (starved : Bool)
+    (desk after : Shown PublisherSeen) → StandsAtTurn found desk → MayFollow found s
+    → is_look s.kind ≡ false
+    → StandsFor (row found s starved ∷ found) after.tables
+    → Some after.board.told ≡ Some desk.board.told
+    → LeavesStaged (row found s starved).notes after.tables.version (Some desk.board.staged)
+    (Some after.board.staged) (is_some after.board.staged)
+    → HasStepped (first_entry (entries_of (row found s starved)))
+    (row found s starved) s.worker found after
 unfolding of_some
 step-HasStepped found s starved desk after was may e stands told staged =
-    HasStepped-by found s starved (first_entry (entries_of (row found s starved))) desk after was may e stands (ap (of_some desk.board.told) told)
-    (leaves_staged (row found s starved).notes after.tables.version desk.board.staged after.board.staged (is_some after.board.staged) staged was.staged)
+    HasStepped-by found s starved (first_entry (entries_of (row found s starved))) desk after was
+    may e stands (ap (of_some desk.board.told) told)
+    (leaves_staged (row found s starved).notes after.tables.version desk.board.staged
+    after.board.staged (is_some after.board.staged) staged was.staged)
     (row-MakesAtMost found s starved)
 
 -- the call is that of a step
-pub step-IsCalled : (found : List Row) (s : Step) (mids : Mids) (desk : Shown PublisherSeen) → StandsAtTurn found desk → is_look s.kind ≡ false → s.worker ≡ mids.worker → s.drawn ≡ mids.drawn
+pub step-IsCalled : (found : List Row) (s : Step) (mids : Mids) (desk : Shown PublisherSeen)
+    → StandsAtTurn found desk → is_look s.kind ≡ false → s.worker ≡ mids.worker
+    → s.drawn ≡ mids.drawn
     → IsCalled found s s.handed mids desk.tables
 step-IsCalled found s mids desk stands e own drew = record {
   journal = stands.turns.journal;
@@ -232,23 +343,40 @@ step-IsCalled found s mids desk stands e own drew = record {
 -- ---- a body that is kept
 
 -- it notes no entry
-kept-entries_in : (starved : Bool) (s : Step) (read : Result Message Unread) (body current : List ℕ) → entries_in (kept_body starved s read body current).notes ≡ []
+kept-entries_in : (starved : Bool) (s : Step) (read : Result Message Unread)
+    (body current : List ℕ) → entries_in (kept_body starved s read body current).notes ≡ []
 unfolding answering
 kept-entries_in starved s (Err fault) body current = refl
 kept-entries_in true s (Ok m) body current = refl
 kept-entries_in false s (Ok m) body current = keep_effects-entries_in s m body current
 
-pub keep-entries_of : (found : List Row) (worker : ℕ) (moment : Moment) (job : Keep) (drawn : ℕ) (starved : Bool) → entries_of (row found (keep_step worker moment job drawn) starved) ≡ []
+pub keep-entries_of : (found : List Row) (worker : ℕ) (moment : Moment) (job : Keep) (drawn : ℕ)
+    (starved : Bool) → entries_of (row found (keep_step worker moment job drawn) starved) ≡ []
 unfolding row effects
-keep-entries_of found worker moment job drawn starved = kept-entries_in starved (keep_step worker moment job drawn) (reading job.datagram) job.answer.body job.answer.tag
+keep-entries_of found worker moment job drawn starved =
+    kept-entries_in starved (keep_step worker moment job drawn)
+    (reading job.datagram) job.answer.body job.answer.tag
 
 -- the desk after it
-pub keep-HasStepped : (found : List Row) (worker : ℕ) (moment : Moment) (job : Keep) (drawn : ℕ) (starved : Bool) (desk after : Shown PublisherSeen) → StandsAtTurn found desk → worker < max_workers
-    → StandsFor (row found (keep_step worker moment job drawn) starved ∷ found) after.tables → after.board ≡ desk.board
+pub keep-HasStepped : (found : List Row) (worker : ℕ) (moment : Moment) (job : Keep) (drawn : ℕ)
+    (starved : Bool) (desk after : Shown PublisherSeen) → StandsAtTurn found desk
+    → worker < max_workers
+    → StandsFor (row found (keep_step worker moment job drawn) starved ∷ found) after.tables
+    → after.board ≡ desk.board
     → HasStepped no_entry (row found (keep_step worker moment job drawn) starved) worker found after
 keep-HasStepped found worker moment job drawn starved desk after was few stands board =
     HasStepped-by found (keep_step worker moment job drawn) starved no_entry desk after was
-    (record { commits = tt; handed = record { in_time = turns-NoLaterLook found moment.0 was.turns; worker = few; word = λ h. refl } })
+    (record {
+      commits = tt;
+      handed = record {
+        in_time =
+            turns-NoLaterLook found moment.0 was.turns;
+        worker = few;
+        word = λ h. refl;
+      };
+    })
     refl stands (ap (λ (p : PublisherSeen). p.told) board)
-    (ap (λ (p : PublisherSeen). p.staged) board ∙ (was.staged ∙ sym (ap (λ es. staged_after es after.tables.version None) (keep-entries_of found worker moment job drawn starved))))
+    (ap (λ (p : PublisherSeen). p.staged) board
+    ∙ (was.staged ∙ sym (ap (λ es. staged_after es after.tables.version None)
+    (keep-entries_of found worker moment job drawn starved))))
     (inl (keep-entries_of found worker moment job drawn starved))

@@ -14,7 +14,8 @@ use Rattle.version_board.specs.Ends.{LookerSeen, new_looker}
 use Rattle.rd_seat.specs.Seats.{SeatSeen}
 
 -- what a seat of these parts shows
-abbrev pub seat_shown : {T : Type 0} {g : Ghosts T Row (List ℕ)} → Pass T Row (List ℕ) g → LookerSeen
+abbrev pub seat_shown : {T : Type 0} {g : Ghosts T Row (List ℕ)} → Pass T Row (List ℕ) g
+    → LookerSeen
     → Mids → Moment → SeatSeen
 seat_shown pass looker mids last = record {
   hall = lock_of pass;

@@ -8,7 +8,8 @@ ghost use Rattle.rd_desk.specs.Looking.{is_starved_look};
 ghost use Rattle.rd_desk.specs.Stepping.{is_starved_step};
 ghost use Rattle.rd_seat.specs.Jobs.{LeavesJob, OpensJob};
 ghost use Rattle.rd_seat.specs.Looks.{answer_held, IsJobOf};
-ghost use Rattle.rd_seat.specs.Heard.{is_starved_hearing, answer_left, go_step, LeavesWrite, IsKeepOf, IsOpenWrite, MayBeDone};
+ghost use Rattle.rd_seat.specs.Heard.{is_starved_hearing, answer_left, go_step};
+ghost use Rattle.rd_seat.specs.Heard.{LeavesWrite, IsKeepOf, IsOpenWrite, MayBeDone};
 ghost use Rattle.rd_seat.specs.Seats.{SeatSeen, MakesStep, LooksAtMet};
 ghost use Rattle.rd_seat.specs.Steps.{admit_step, look_step};
 

@@ -1,12 +1,12 @@
 //! The desk that the workers of a hall share.
-ghost use Rattle.std.specs.Prelude.{◌≡◌};
 
 use rd_desk::Desk;
 use std::collections::LinkedList;
 use turn_lock::Replays;
 use version_board::Publisher;
 
-/// A desk over the board of its hall. It lies behind the turn, and cannot be dropped: a hall ends it.
+/// A desk over the board of its hall. It lies behind the turn, and cannot be dropped: a hall ends
+/// it.
 pub struct SharedDesk {
     /// The desk.
     pub(crate) desk: Desk<Publisher>,

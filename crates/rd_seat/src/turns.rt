@@ -2,7 +2,8 @@
 ghost use Rattle.std.specs.Prelude.{◌≡◌, false, true, IsSome, IfSome};
 ghost use Rattle.journal_model.specs.declared.rows.Row.{Row};
 ghost use Rattle.journal_model.specs.Seats.{rows_of};
-ghost use Rattle.turn_lock.specs.Shown.{id_of, lock_of, number_of, label_of, is_holding, seen_of, mine_of};
+ghost use Rattle.turn_lock.specs.Shown.{id_of, lock_of, number_of, label_of};
+ghost use Rattle.turn_lock.specs.Shown.{is_holding, seen_of, mine_of};
 ghost use Rattle.rd_seat.specs.OneTurn.{HasBegun, HasEnded};
 ghost use Rattle.rd_seat.specs.Turns.{HasStepped};
 

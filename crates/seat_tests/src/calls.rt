@@ -21,7 +21,8 @@ pub(crate) const CLIENT: Peer = Peer {
 
 /// The registration of `node1` with two links (RFC 9176 section 5).
 pub(crate) const REGISTRATION: &[u8] =
-    b"\x41\x02\x00\x01\xa1\xb2rd\x11\x28\x38ep=node1\x06lt=600\xff</temp>;rt=\"temperature\";ct=0,</light>;rt=\"light-lux\";if=\"sensor\"";
+    b"\x41\x02\x00\x01\xa1\xb2rd\x11\x28\x38ep=node1\x06lt=600\xff\
+      </temp>;rt=\"temperature\";ct=0,</light>;rt=\"light-lux\";if=\"sensor\"";
 
 /// It is answered 2.01, with its location.
 pub(crate) const CREATED: &[u8] = b"\x61\x41\x00\x01\xa1\x82rd\x011";
@@ -33,8 +34,8 @@ pub(crate) const LOOKUP: &[u8] = b"\x41\x01\x00\x02\xb2\xb9rd-lookup\x03res\x4cr
 pub(crate) const NOTHING: &[u8] = b"\x61\x45\x00\x02\xb2\x48\0\0\0\0\0\0\0\0\x81\x28";
 
 /// Its answer after one registration.
-pub(crate) const LISTED: &[u8] =
-    b"\x61\x45\x00\x02\xb2\x48\0\0\0\0\0\x01\0\0\x81\x28\xff<coap://192.0.2.10/light>;rt=\"light-lux\";if=\"sensor\"";
+pub(crate) const LISTED: &[u8] = b"\x61\x45\x00\x02\xb2\x48\0\0\0\0\0\x01\0\0\x81\x28\xff\
+      <coap://192.0.2.10/light>;rt=\"light-lux\";if=\"sensor\"";
 
 /// Whether one datagram is sent, which begins so.
 pub(crate) fn answers(out: &Outbox, beginning: &[u8]) -> bool {

@@ -31,7 +31,8 @@ const LAST: &[u8] = b"\x41\x01\x00\x03\xb2\xb9rd-lookup\x02ep\x48page=399\x07cou
 
 const LISTED_LAST: &[u8] = b"\x61\x45\x00\x03\xb2\x48\0\0\0\0\x03\x20\0\0\x81\x28\xff</rd/";
 
-/// A registration of a name, and a lookup of the endpoint that has it (RFC 9176 sections 5 and 6.3).
+/// A registration of a name, and a lookup of the endpoint that has it (RFC 9176 sections 5 and
+/// 6.3).
 #[derive(Drop)]
 struct Requests {
     registration: [u8; 23],

@@ -1,5 +1,20 @@
 -- What the rule says of a lock that is taken apart.
-use Rattle.std.proofs.Common.{◌≡◌, ℕ, ◌%◌, List, [], ◌∷◌, Option, Some, get_or, sym, ◌∙◌, subst, ap, length}
+use Rattle.std.proofs.Common.{
+  ◌≡◌,
+  ℕ,
+  ◌%◌,
+  List,
+  [],
+  ◌∷◌,
+  Option,
+  Some,
+  get_or,
+  sym,
+  ◌∙◌,
+  subst,
+  ap,
+  length,
+}
 use Rattle.std.specs.Mem.Slots.{slots_items}
 use mathlib.Core.Option.{some, some-injective, some-ne-none}
 use lib.ListN.{get_elem?}

@@ -307,7 +307,10 @@ impl<T: Replays> TurnLock<T> {
     /// and stands for a history that goes on from what this pass has seen.
     pub fn end(self, pass: Pass<T>) -> Ended<T>
         requires lock { lock_of pass ≡ id_of self }
-        ensures value { IfFree result (λ value. (history : List T.Row) × Extends (seen_of pass) history × (mine_of pass ≡ rows_of T.number (number_of pass) history) × T.stands history value) }
+        ensures value { IfFree result (λ value. (history : List T.Row) ×
+            Extends (seen_of pass) history ×
+            (mine_of pass ≡ rows_of T.number (number_of pass) history) ×
+            T.stands history value) }
         ensures value_label { IfFree result (λ value. T.label value ≡ label_of pass) }
     {
         let TurnLock { table, sleepers: _ } = self;

@@ -1,5 +1,6 @@
 //! A publisher: it shows one version after another, each with one entry more.
-ghost use Rattle.std.specs.Prelude.{◌≡◌, ◌∷◌, ◌++◌, [], None, Some, IsSome, IfSome, is_some, drop, length};
+ghost use Rattle.std.specs.Prelude.{◌≡◌, ◌∷◌, ◌++◌, [], None, Some};
+ghost use Rattle.std.specs.Prelude.{IsSome, IfSome, is_some, drop, length};
 ghost use Rattle.std.specs.Arc.{arc_value};
 ghost use Rattle.left_right.specs.Sides.{view};
 ghost use Rattle.history_model.specs.Versions.{VersionStandsFor};

@@ -123,7 +123,8 @@ lookup_outcome rows moment s m small lists = by (is_later_block m) refl
           (
             refl,
             body_bears (answer_kind m.kind)
-                (answer_mid s m m.kind) m.token answer.tag None (asked_block m) answer.body small short
+                (answer_mid s m m.kind) m.token answer.tag None
+                (asked_block m) answer.body small short
                 (request-usable m),
           ),
           tt,

@@ -10,6 +10,9 @@ use Rattle.rd_desk.proofs.looks.look_starved.Goals as goal
 pub returns : goal.returns
 returns c = record {
   sends = λ s history moment of.
-      subst (λ (e : Effects). Sends e c.args.out.now c.answer_starved.new.out c.args.mids.now c.answer_starved.new.mids)
-      (looked_starved history moment s (reading c.args.datagram.now) (message_in c.look_meaning-meaning.result.view) c.look_meaning-meaning.ensures.read) (c.answer_starved.ensures.sends s of);
+      subst (λ (e : Effects). Sends e c.args.out.now c.answer_starved.new.out c.args.mids.now
+      c.answer_starved.new.mids)
+      (looked_starved history moment s (reading c.args.datagram.now)
+      (message_in c.look_meaning-meaning.result.view) c.look_meaning-meaning.ensures.read)
+      (c.answer_starved.ensures.sends s of);
 }

@@ -11,12 +11,16 @@ pub returns-in-Ok-clause-stands : goal.returns-in-Ok-clause-stands
 returns-in-Ok-clause-stands g c = record {
   turns = AreTurns-none;
   tables = c.in-Ok.ensures.stands;
-  told = ap (λ (p : PublisherSeen). p.told) c.in-Ok.ensures.board ∙ (c.in_ok-publisher.ensures.told ∙ no-entries);
+  told = ap (λ (p : PublisherSeen). p.told) c.in-Ok.ensures.board
+      ∙ (c.in_ok-publisher.ensures.told ∙ no-entries);
   published = record {
     version = arc_value c.in_ok-first.first;
-    is = ap (λ (p : PublisherSeen). p.published) c.in-Ok.ensures.board ∙ c.in_ok-publisher.ensures.published;
-    stands = subst (λ (h : List Entry). VersionStandsFor 0 h (arc_value c.in_ok-first.first)) no-entries
+    is = ap (λ (p : PublisherSeen). p.published) c.in-Ok.ensures.board
+        ∙ c.in_ok-publisher.ensures.published;
+    stands = subst (λ (h : List Entry). VersionStandsFor 0 h (arc_value c.in_ok-first.first))
+        no-entries
         (subst (VersionStandsFor 0 []) (sym c.in_ok-first.ensures.ok) c.in_ok-empty.ensures.stands);
   };
-  staged = ap (λ (p : PublisherSeen). p.staged) c.in-Ok.ensures.board ∙ c.in_ok-publisher.ensures.staged;
+  staged = ap (λ (p : PublisherSeen). p.staged) c.in-Ok.ensures.board
+      ∙ c.in_ok-publisher.ensures.staged;
 }

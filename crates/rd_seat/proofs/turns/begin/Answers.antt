@@ -7,7 +7,8 @@ use Rattle.version_board.specs.Ends.{PublisherSeen}
 use Rattle.rd_seat.specs.Turns.{StandsAtTurn}
 use Rattle.rd_seat.proofs.turns.begin.Goals as goal
 
--- the rows that name the pass are its own, and those did not change; the publisher tells the entries of the journal
+-- the rows that name the pass are its own, and those did not change; the publisher tells the
+-- entries of the journal
 pub returns : goal.returns
 unfolding rows_of
 returns g c = record {
@@ -18,11 +19,16 @@ returns g c = record {
   goes_on = record { further = c.take-shared.ensures.seen.0; whole = c.take-shared.ensures.seen.1 };
   mine = c.take-shared.ensures.mine;
   by_others =
-      ap (λ n. rows_of n (seen_of c.take-shared.new.pass)) (sym c.take-shared.ensures.number) ∙ (sym c.take-shared.ensures.own ∙ (c.take-shared.ensures.mine ∙ c.requires.own));
-  stands = subst (λ d. StandsAtTurn (seen_of c.take-shared.new.pass) d) (sym c.meet.ensures.desk) c.take-shared.ensures.value;
-  board = ap (λ (d : Shown PublisherSeen). d.board.name) c.meet.ensures.desk ∙ c.take-shared.ensures.value_label;
+      ap (λ n. rows_of n (seen_of c.take-shared.new.pass)) (sym c.take-shared.ensures.number)
+      ∙ (sym c.take-shared.ensures.own ∙ (c.take-shared.ensures.mine ∙ c.requires.own));
+  stands = subst (λ d. StandsAtTurn (seen_of c.take-shared.new.pass) d)
+      (sym c.meet.ensures.desk) c.take-shared.ensures.value;
+  board = ap (λ (d : Shown PublisherSeen). d.board.name) c.meet.ensures.desk
+      ∙ c.take-shared.ensures.value_label;
   name = c.meet.ensures.name;
   met = c.meet.ensures.seen;
-  only = subst (λ (h : List Entry). (c.meet.new.looker.seen ≡ c.args.looker.now.seen) ⊎ (c.meet.new.looker.seen ≡ h)) c.take-shared.ensures.value.told c.meet.ensures.only;
-  order = λ front h. subst (Agree front) c.take-shared.ensures.value.told (c.meet.ensures.order front h);
+  only = subst (λ (h : List Entry). (c.meet.new.looker.seen ≡ c.args.looker.now.seen) ⊎
+      (c.meet.new.looker.seen ≡ h)) c.take-shared.ensures.value.told c.meet.ensures.only;
+  order = λ front h. subst (Agree front) c.take-shared.ensures.value.told
+      (c.meet.ensures.order front h);
 }

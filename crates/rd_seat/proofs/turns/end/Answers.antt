@@ -9,44 +9,66 @@ use Rattle.rd_desk.specs.Shown.{Shown}
 use Rattle.version_board.specs.Ends.{PublisherSeen}
 use Rattle.rd_seat.specs.OneTurn.{HasEnded}
 use Rattle.rd_seat.specs.Turns.{IsPublished, StandsAtTurn, HasStepped}
-use Rattle.rd_seat.proofs.TurnLaws.{picked, both, three, board_published-name, stepped-staged, stepped-StandsAtTurn}
+use Rattle.rd_seat.proofs.TurnLaws.{
+  picked,
+  both,
+  three,
+  board_published-name,
+  stepped-staged,
+  stepped-StandsAtTurn,
+}
 use Rattle.rd_seat.proofs.turns.end.Goals as goal
 
 -- what is staged stands for the entries with that of the row
 pub publish_made-requires : goal.publish_made-requires
 publish_made-requires g c =
-    both g.S.Added.added (λ (r : Row). HasStepped g.E.Entering.entered r (number_of c.args.pass.now) (seen_of c.args.pass.now) c.args.shared.desk)
-    (λ (r : Row). HasStepped g.E.Entering.entered r (number_of c.args.pass.now) (seen_of c.args.pass.now) c.args.shared.desk)
+    both g.S.Added.added (λ (r : Row). HasStepped g.E.Entering.entered r
+    (number_of c.args.pass.now) (seen_of c.args.pass.now) c.args.shared.desk)
+    (λ (r : Row). HasStepped g.E.Entering.entered r (number_of c.args.pass.now)
+    (seen_of c.args.pass.now) c.args.shared.desk)
     c.requires.added c.requires.stepped c.requires.stepped
-    (λ r h k. stepped-staged g.E.Entering.entered r (number_of c.args.pass.now) (seen_of c.args.pass.now) c.args.shared.desk h)
+    (λ r h k. stepped-staged g.E.Entering.entered r (number_of c.args.pass.now)
+    (seen_of c.args.pass.now) c.args.shared.desk h)
 
 -- what was published stands for the journal with the row
 pub give-requires-clause-value : goal.give-requires-clause-value
 give-requires-clause-value g c =
-    picked g.S.Added.added (λ (r : Row). HasStepped g.E.Entering.entered r (number_of c.args.pass.now) (seen_of c.args.pass.now) c.args.shared.desk) (λ (r : Row). StandsAtTurn (r ∷ seen_of c.args.pass.now) c.meet.new.desk)
-    (λ r h. subst (StandsAtTurn (r ∷ seen_of c.args.pass.now)) (sym c.publish_made.ensures.value ∙ sym c.meet.ensures.desk)
-    (stepped-StandsAtTurn g.E.Entering.entered r (number_of c.args.pass.now) (seen_of c.args.pass.now) c.args.shared.desk h
-    (subst (λ (d : Shown PublisherSeen). IsPublished d.board.told d.board) c.publish_made.ensures.value c.publish_made.ensures.published)))
+    picked g.S.Added.added (λ (r : Row). HasStepped g.E.Entering.entered r
+    (number_of c.args.pass.now) (seen_of c.args.pass.now) c.args.shared.desk)
+    (λ (r : Row). StandsAtTurn (r ∷ seen_of c.args.pass.now) c.meet.new.desk)
+    (λ r h. subst (StandsAtTurn (r ∷ seen_of c.args.pass.now))
+    (sym c.publish_made.ensures.value ∙ sym c.meet.ensures.desk)
+    (stepped-StandsAtTurn g.E.Entering.entered r (number_of c.args.pass.now)
+    (seen_of c.args.pass.now) c.args.shared.desk h
+    (subst (λ (d : Shown PublisherSeen). IsPublished d.board.told d.board)
+    c.publish_made.ensures.value c.publish_made.ensures.published)))
     c.requires.stepped
 
 -- the board has its name still
 pub give-requires-clause-value_label : goal.give-requires-clause-value_label
 give-requires-clause-value_label g c =
-    ap (λ (d : Shown PublisherSeen). d.board.name) (c.meet.ensures.desk ∙ c.publish_made.ensures.value) ∙ (board_published-name g.E.Entering.entered c.args.shared.desk ∙ c.requires.label)
+    ap (λ (d : Shown PublisherSeen). d.board.name)
+    (c.meet.ensures.desk ∙ c.publish_made.ensures.value)
+    ∙ (board_published-name g.E.Entering.entered c.args.shared.desk ∙ c.requires.label)
 
 -- what was met has all entries of the journal, and nothing else was met
 pub returns : goal.returns
 unfolding rows_of
 returns g c =
-    three g.S.Added.added (λ (r : Row). HasStepped g.E.Entering.entered r (number_of c.args.pass.now) (seen_of c.args.pass.now) c.args.shared.desk)
-    (λ (r : Row). seen_of c.give.new.pass ≡ r ∷ seen_of c.args.pass.now) (λ (r : Row). mine_of c.give.new.pass ≡ r ∷ mine_of c.args.pass.now)
+    three g.S.Added.added (λ (r : Row). HasStepped g.E.Entering.entered r
+    (number_of c.args.pass.now) (seen_of c.args.pass.now) c.args.shared.desk)
+    (λ (r : Row). seen_of c.give.new.pass ≡ r ∷ seen_of c.args.pass.now)
+    (λ (r : Row). mine_of c.give.new.pass ≡ r ∷ mine_of c.args.pass.now)
     (λ (r : Row). HasEnded r c.args.pass.now c.give.new.pass c.args.looker.now c.meet.new.looker)
     c.requires.stepped c.give.ensures.seen c.give.ensures.mine
     (λ r h seen mine.
     let told : c.publish_made.new.desk.board.told ≡ entries (seen_of c.give.new.pass) =
     ap (λ (d : Shown PublisherSeen). d.board.told) c.publish_made.ensures.value
-    ∙ ((stepped-StandsAtTurn g.E.Entering.entered r (number_of c.args.pass.now) (seen_of c.args.pass.now) c.args.shared.desk h
-    (subst (λ (d : Shown PublisherSeen). IsPublished d.board.told d.board) c.publish_made.ensures.value c.publish_made.ensures.published)).told ∙ ap entries (sym seen)) in
+    ∙ ((stepped-StandsAtTurn g.E.Entering.entered r (number_of c.args.pass.now)
+    (seen_of c.args.pass.now) c.args.shared.desk h
+    (subst (λ (d : Shown PublisherSeen). IsPublished d.board.told d.board)
+    c.publish_made.ensures.value c.publish_made.ensures.published)).told
+    ∙ ap entries (sym seen)) in
     record {
       lock = c.give.ensures.lock;
       idle = c.give.ensures.idle;
@@ -57,6 +79,8 @@ returns g c =
       own = c.give.ensures.own;
       name = c.meet.ensures.name;
       met = c.meet.ensures.seen;
-      met_own = subst (λ (h : List Entry). IsFront h c.meet.new.looker.seen) told c.meet.ensures.met;
-      only = subst (λ (h : List Entry). (c.meet.new.looker.seen ≡ c.args.looker.now.seen) ⊎ (c.meet.new.looker.seen ≡ h)) told c.meet.ensures.only;
+      met_own = subst (λ (h : List Entry). IsFront h c.meet.new.looker.seen) told
+          c.meet.ensures.met;
+      only = subst (λ (h : List Entry). (c.meet.new.looker.seen ≡ c.args.looker.now.seen) ⊎
+          (c.meet.new.looker.seen ≡ h)) told c.meet.ensures.only;
     })

@@ -8,9 +8,12 @@ use Rattle.rd_seat.proofs.seats.Seat.admit.Goals as goal
 
 -- what it had met it has met still
 pub returns-clause-met : goal.returns-clause-met
-returns-clause-met g c = subst (λ (v : SeatSeen). IsFront v.met c.admit.new.self.looker.seen) c.self.view_is c.admit.ensures.turned.goes_on.met
+returns-clause-met g c = subst (λ (v : SeatSeen). IsFront v.met c.admit.new.self.looker.seen)
+    c.self.view_is c.admit.ensures.turned.goes_on.met
 
 -- its share made the row
 pub returns-clause-made : goal.returns-clause-made
 returns-clause-made g c =
-    subst (λ (v : SeatSeen). MakesStep v (admit_step v.worker c.args.now c.args.word c.args.peer c.args.datagram.now v.drawn) (is_starved_admission c.admit.result) c.admit.new.out (share_shown c.admit.new.self)) c.self.view_is c.admit.ensures.turned.made
+    subst (λ (v : SeatSeen). MakesStep v (admit_step v.worker c.args.now c.args.word c.args.peer
+    c.args.datagram.now v.drawn) (is_starved_admission c.admit.result) c.admit.new.out
+    (share_shown c.admit.new.self)) c.self.view_is c.admit.ensures.turned.made

@@ -8,9 +8,12 @@ use Rattle.rd_seat.proofs.seats.Seat.commit.Goals as goal
 
 -- what it had met it has met still
 pub returns-clause-met : goal.returns-clause-met
-returns-clause-met g c = subst (λ (v : SeatSeen). IsFront v.met c.commit.new.self.looker.seen) c.self.view_is c.commit.ensures.goes_on.met
+returns-clause-met g c = subst (λ (v : SeatSeen). IsFront v.met c.commit.new.self.looker.seen)
+    c.self.view_is c.commit.ensures.goes_on.met
 
 -- its share made the row
 pub returns-clause-made : goal.returns-clause-made
 returns-clause-made g c =
-    subst (λ (v : SeatSeen). MakesStep v (commit_step v.worker g.place c.args.now c.args.job.peer c.args.job.datagram v.drawn) (is_starved_step c.commit.result) c.commit.new.out (share_shown c.commit.new.self)) c.self.view_is c.commit.ensures.made
+    subst (λ (v : SeatSeen). MakesStep v (commit_step v.worker g.place c.args.now c.args.job.peer
+    c.args.job.datagram v.drawn) (is_starved_step c.commit.result) c.commit.new.out
+    (share_shown c.commit.new.self)) c.self.view_is c.commit.ensures.made

@@ -8,9 +8,12 @@ use Rattle.rd_seat.proofs.seats.Seat.keep.Goals as goal
 
 -- what it had met it has met still
 pub returns-clause-met : goal.returns-clause-met
-returns-clause-met g c = subst (λ (v : SeatSeen). IsFront v.met c.keep.new.self.looker.seen) c.self.view_is c.keep.ensures.goes_on.met
+returns-clause-met g c = subst (λ (v : SeatSeen). IsFront v.met c.keep.new.self.looker.seen)
+    c.self.view_is c.keep.ensures.goes_on.met
 
 -- its share made the row
 pub returns-clause-made : goal.returns-clause-made
 returns-clause-made g c =
-    subst (λ (v : SeatSeen). MakesStep v (keep_step v.worker c.args.now c.args.job v.drawn) (is_starved_step c.keep.result) c.keep.new.out (share_shown c.keep.new.self)) c.self.view_is c.keep.ensures.made
+    subst (λ (v : SeatSeen). MakesStep v (keep_step v.worker c.args.now c.args.job v.drawn)
+    (is_starved_step c.keep.result) c.keep.new.out (share_shown c.keep.new.self))
+    c.self.view_is c.keep.ensures.made

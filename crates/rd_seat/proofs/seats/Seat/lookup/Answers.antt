@@ -9,9 +9,13 @@ use Rattle.rd_seat.proofs.seats.Seat.lookup.Goals as goal
 
 -- what it had met it has met still
 pub returns-clause-met : goal.returns-clause-met
-returns-clause-met c = subst (λ (v : SeatSeen). IsFront v.met c.look.new.self.looker.seen) c.self.view_is c.look.ensures.looked.goes_on.met
+returns-clause-met c = subst (λ (v : SeatSeen). IsFront v.met c.look.new.self.looker.seen)
+    c.self.view_is c.look.ensures.looked.goes_on.met
 
 -- its share looked
 pub returns-clause-looks : goal.returns-clause-looks
 returns-clause-looks c =
-    subst (λ (v : SeatSeen). LooksAtMet v (look_step v.worker c.args.now 0 c.args.peer c.args.datagram.now v.drawn) (is_starved_look c.look.result) c.look.new.out (answer_held c.look.result) (share_shown c.look.new.self)) c.self.view_is c.look.ensures.looked.looks
+    subst (λ (v : SeatSeen). LooksAtMet v (look_step v.worker c.args.now 0 c.args.peer
+    c.args.datagram.now v.drawn) (is_starved_look c.look.result) c.look.new.out
+    (answer_held c.look.result) (share_shown c.look.new.self)) c.self.view_is
+    c.look.ensures.looked.looks

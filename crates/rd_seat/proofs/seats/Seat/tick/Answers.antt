@@ -8,9 +8,12 @@ use Rattle.rd_seat.proofs.seats.Seat.tick.Goals as goal
 
 -- what it had met it has met still
 pub returns-clause-met : goal.returns-clause-met
-returns-clause-met g c = subst (λ (v : SeatSeen). IsFront v.met c.tick.new.self.looker.seen) c.self.view_is c.tick.ensures.goes_on.met
+returns-clause-met g c = subst (λ (v : SeatSeen). IsFront v.met c.tick.new.self.looker.seen)
+    c.self.view_is c.tick.ensures.goes_on.met
 
 -- its share made the row
 pub returns-clause-made : goal.returns-clause-made
 returns-clause-made g c =
-    subst (λ (v : SeatSeen). MakesStep v (tick_step v.worker c.args.now c.args.word v.drawn) (is_starved_step c.tick.result) c.tick.new.out (share_shown c.tick.new.self)) c.self.view_is c.tick.ensures.made
+    subst (λ (v : SeatSeen). MakesStep v (tick_step v.worker c.args.now c.args.word v.drawn)
+    (is_starved_step c.tick.result) c.tick.new.out (share_shown c.tick.new.self))
+    c.self.view_is c.tick.ensures.made

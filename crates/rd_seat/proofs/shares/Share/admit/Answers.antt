@@ -24,29 +24,73 @@ use Rattle.rd_seat.proofs.shares.Share.admit.Goals as goal
 pub end-requires-clause-stepped : goal.end-requires-clause-stepped
 end-requires-clause-stepped g c =
     let found : List Row = seen_of c.begin-shared.new.pass in
-    let own : number_of c.begin-shared.new.pass ≡ c.args.self.now.mids.worker = c.begin-shared.ensures.number ∙ c.requires.rest.number in
-    let drew : c.of-mids.result.value.drawn ≡ c.args.self.now.mids.drawn = ap (λ (m : Mids). m.drawn) c.of-mids.ensures in
-    let few : number_of c.begin-shared.new.pass < max_workers = subst (λ (n : ℕ). n < max_workers) (sym own) c.args.self.now.mids.few in
-    let s : Step = admit_step (number_of c.begin-shared.new.pass) c.args.now c.args.word c.args.peer c.args.datagram.now c.of-mids.result.value.drawn in
-    let called : IsCalled found s c.args.now c.args.self.now.mids c.begin-shared.result.desk.tables = step-IsCalled found s c.args.self.now.mids c.begin-shared.result.desk c.begin-shared.ensures.stands refl own drew in
-    let may : MayFollow found s = record { commits = tt; handed = record { in_time = turns-NoLaterLook found c.args.now.0 c.begin-shared.ensures.stands.turns; worker = few; word = λ h. absurd (false≢true h) } } in
-    let made : Made found (row found s (is_starved_admission c.admit-admitted.result)) c.admit-admitted.new.self.tables c.admit-admitted.new.out c.args.self.now.mids c.admit-admitted.new.mids = c.admit-admitted.ensures.made found s refl refl refl refl called in
-    subst (λ (b : Bool). HasStepped (first_entry (entries_of (row found s b))) (row found s b) (number_of c.begin-shared.new.pass) found c.admit-admitted.new.self) (sym c.is_starved.ensures)
-    (step-HasStepped found s (is_starved_admission c.admit-admitted.result) c.begin-shared.result.desk c.admit-admitted.new.self c.begin-shared.ensures.stands may refl made.stands c.admit-admitted.ensures.told
+    let own : number_of c.begin-shared.new.pass ≡ c.args.self.now.mids.worker =
+    c.begin-shared.ensures.number ∙ c.requires.rest.number in
+    let drew : c.of-mids.result.value.drawn ≡ c.args.self.now.mids.drawn =
+    ap (λ (m : Mids). m.drawn) c.of-mids.ensures in
+    let few : number_of c.begin-shared.new.pass < max_workers =
+    subst (λ (n : ℕ). n < max_workers) (sym own) c.args.self.now.mids.few in
+    let s : Step = admit_step (number_of c.begin-shared.new.pass) c.args.now c.args.word
+    c.args.peer c.args.datagram.now c.of-mids.result.value.drawn in
+    let called : IsCalled found s c.args.now c.args.self.now.mids
+    c.begin-shared.result.desk.tables = step-IsCalled found s c.args.self.now.mids
+    c.begin-shared.result.desk c.begin-shared.ensures.stands refl own drew in
+    let may : MayFollow found s = record {
+      commits = tt;
+      handed =
+          record {
+            in_time = turns-NoLaterLook found c.args.now.0
+                c.begin-shared.ensures.stands.turns;
+            worker = few;
+            word = λ h. absurd (false≢true h);
+          };
+    } in
+    let made : Made found (row found s (is_starved_admission c.admit-admitted.result))
+    c.admit-admitted.new.self.tables c.admit-admitted.new.out c.args.self.now.mids
+    c.admit-admitted.new.mids = c.admit-admitted.ensures.made found s refl refl refl refl
+    called in
+    subst (λ (b : Bool). HasStepped (first_entry (entries_of (row found s b))) (row found s b)
+    (number_of c.begin-shared.new.pass) found c.admit-admitted.new.self)
+    (sym c.is_starved.ensures)
+    (step-HasStepped found s (is_starved_admission c.admit-admitted.result)
+    c.begin-shared.result.desk c.admit-admitted.new.self c.begin-shared.ensures.stands may
+    refl made.stands c.admit-admitted.ensures.told
     (c.admit-admitted.ensures.staged found s refl refl refl refl called))
 
 -- and so the seat had its turn
 pub returns : goal.returns
 returns g c =
     let found : List Row = seen_of c.begin-shared.new.pass in
-    let own : number_of c.begin-shared.new.pass ≡ c.args.self.now.mids.worker = c.begin-shared.ensures.number ∙ c.requires.rest.number in
-    let drew : c.of-mids.result.value.drawn ≡ c.args.self.now.mids.drawn = ap (λ (m : Mids). m.drawn) c.of-mids.ensures in
-    let few : number_of c.begin-shared.new.pass < max_workers = subst (λ (n : ℕ). n < max_workers) (sym own) c.args.self.now.mids.few in
-    let s : Step = admit_step (number_of c.begin-shared.new.pass) c.args.now c.args.word c.args.peer c.args.datagram.now c.of-mids.result.value.drawn in
-    let called : IsCalled found s c.args.now c.args.self.now.mids c.begin-shared.result.desk.tables = step-IsCalled found s c.args.self.now.mids c.begin-shared.result.desk c.begin-shared.ensures.stands refl own drew in
-    let may : MayFollow found s = record { commits = tt; handed = record { in_time = turns-NoLaterLook found c.args.now.0 c.begin-shared.ensures.stands.turns; worker = few; word = λ h. absurd (false≢true h) } } in
-    let made : Made found (row found s (is_starved_admission c.admit-admitted.result)) c.admit-admitted.new.self.tables c.admit-admitted.new.out c.args.self.now.mids c.admit-admitted.new.mids = c.admit-admitted.ensures.made found s refl refl refl refl called in
-    let turn : Turn c.args.self.now.pass c.begin-shared.new.pass c.end.new.pass c.args.self.now.looker c.begin-shared.new.looker c.end.new.looker c.args.self.now.mids c.admit-admitted.new.mids c.args.self.now.last c.later-self.result s (is_starved_admission c.admit-admitted.result) c.begin-shared.result.desk c.admit-admitted.new.self c.admit-admitted.new.out = record {
+    let own : number_of c.begin-shared.new.pass ≡ c.args.self.now.mids.worker =
+    c.begin-shared.ensures.number ∙ c.requires.rest.number in
+    let drew : c.of-mids.result.value.drawn ≡ c.args.self.now.mids.drawn =
+    ap (λ (m : Mids). m.drawn) c.of-mids.ensures in
+    let few : number_of c.begin-shared.new.pass < max_workers =
+    subst (λ (n : ℕ). n < max_workers) (sym own) c.args.self.now.mids.few in
+    let s : Step = admit_step (number_of c.begin-shared.new.pass) c.args.now c.args.word
+    c.args.peer c.args.datagram.now c.of-mids.result.value.drawn in
+    let called : IsCalled found s c.args.now c.args.self.now.mids
+    c.begin-shared.result.desk.tables = step-IsCalled found s c.args.self.now.mids
+    c.begin-shared.result.desk c.begin-shared.ensures.stands refl own drew in
+    let may : MayFollow found s = record {
+      commits = tt;
+      handed =
+          record {
+            in_time = turns-NoLaterLook found c.args.now.0
+                c.begin-shared.ensures.stands.turns;
+            worker = few;
+            word = λ h. absurd (false≢true h);
+          };
+    } in
+    let made : Made found (row found s (is_starved_admission c.admit-admitted.result))
+    c.admit-admitted.new.self.tables c.admit-admitted.new.out c.args.self.now.mids
+    c.admit-admitted.new.mids = c.admit-admitted.ensures.made found s refl refl refl refl
+    called in
+    let turn : Turn c.args.self.now.pass c.begin-shared.new.pass c.end.new.pass
+    c.args.self.now.looker c.begin-shared.new.looker c.end.new.looker c.args.self.now.mids
+    c.admit-admitted.new.mids c.args.self.now.last c.later-self.result s
+    (is_starved_admission c.admit-admitted.result) c.begin-shared.result.desk
+    c.admit-admitted.new.self c.admit-admitted.new.out = record {
       rest = c.requires.rest;
       has_begun = c.begin-shared.ensures;
       desk_step = refl;
@@ -54,19 +98,54 @@ returns g c =
       drawn = drew;
       may = may;
       made = made;
-      has_ended = subst (λ (b : Bool). HasEnded (row found s b) c.begin-shared.new.pass c.end.new.pass c.begin-shared.new.looker c.end.new.looker) c.is_starved.ensures c.end.ensures;
-      later_is = let m : c.moment.result.0 ≡ c.admit-admitted.new.self.tables.moment = c.moment.ensures.value in let l : c.later-self.result.0 ≡ max c.moment.result.0 c.args.self.now.last.0 = c.later-self.ensures in omega (arith, m, l);
+      has_ended = subst (λ (b : Bool). HasEnded (row found s b) c.begin-shared.new.pass
+          c.end.new.pass c.begin-shared.new.looker c.end.new.looker) c.is_starved.ensures
+          c.end.ensures;
+      later_is = let m : c.moment.result.0 ≡ c.admit-admitted.new.self.tables.moment =
+          c.moment.ensures.value in let l : c.later-self.result.0
+          ≡ max c.moment.result.0 c.args.self.now.last.0 = c.later-self.ensures in
+          omega (arith, m, l);
     } in
-    let is : row found s c.is_starved.result ≡ row found s (is_starved_admission c.admit-admitted.result) = ap (row found s) c.is_starved.ensures in
-    let held : IsHeldFor c.admit-admitted.result (row found s (is_starved_admission c.admit-admitted.result)).notes s (row_moment found s) = c.admit-admitted.ensures.held found s refl refl refl called in
-    let seen : seen_of c.end.new.pass ≡ row found s (is_starved_admission c.admit-admitted.result) ∷ found = turn.has_ended.seen in
+    let is : row found s c.is_starved.result ≡ row found s
+    (is_starved_admission c.admit-admitted.result) = ap (row found s) c.is_starved.ensures in
+    let held : IsHeldFor c.admit-admitted.result
+    (row found s (is_starved_admission c.admit-admitted.result)).notes s
+    (row_moment found s) = c.admit-admitted.ensures.held found s refl refl refl called in
+    let seen : seen_of c.end.new.pass ≡ row found s (is_starved_admission c.admit-admitted.result)
+    ∷ found = turn.has_ended.seen in
     record {
       turned = record {
-        goes_on = record { hall = c.end.ensures.lock ∙ c.begin-shared.ensures.lock; rest = turn-rests turn; met = turn-met turn };
-        made = subst (λ (x : Step). MakesStep (share_shown c.args.self.now) x (is_starved_admission c.admit-admitted.result) c.admit-admitted.new.out (share_shown (record { alloc = c.args.self.now.alloc; pass = c.end.new.pass; looker = c.end.new.looker; mids = c.admit-admitted.new.mids; last = c.later-self.result })))
-            (λ i. admit_step (own i) c.args.now c.args.word c.args.peer c.args.datagram.now (drew i)) (turn-MakesStep turn);
+        goes_on = record {
+          hall = c.end.ensures.lock ∙ c.begin-shared.ensures.lock;
+          rest =
+              turn-rests turn;
+          met = turn-met turn;
+        };
+        made = subst (λ (x : Step). MakesStep (share_shown c.args.self.now) x
+            (is_starved_admission c.admit-admitted.result) c.admit-admitted.new.out
+            (share_shown (record {
+              alloc = c.args.self.now.alloc;
+              pass = c.end.new.pass;
+              looker =
+                  c.end.new.looker;
+              mids = c.admit-admitted.new.mids;
+              last = c.later-self.result;
+            })))
+            (λ i. admit_step (own i) c.args.now c.args.word c.args.peer c.args.datagram.now
+            (drew i)) (turn-MakesStep turn);
       };
-      left = subst (LeavesJob c.admit-admitted.result) (sym seen) (held-LeavesJob found s (is_starved_admission c.admit-admitted.result) c.admit-admitted.result refl held);
-      opens = held-OpensJob found s (is_starved_admission c.admit-admitted.result) c.admit-admitted.result (share_shown (record { alloc = c.args.self.now.alloc; pass = c.end.new.pass; looker = c.end.new.looker; mids = c.admit-admitted.new.mids; last = c.later-self.result }))
+      left = subst (LeavesJob c.admit-admitted.result) (sym seen)
+          (held-LeavesJob found s (is_starved_admission c.admit-admitted.result)
+          c.admit-admitted.result refl held);
+      opens = held-OpensJob found s (is_starved_admission c.admit-admitted.result)
+          c.admit-admitted.result (share_shown (record {
+            alloc = c.args.self.now.alloc;
+            pass =
+                c.end.new.pass;
+            looker = c.end.new.looker;
+            mids = c.admit-admitted.new.mids;
+            last =
+                c.later-self.result;
+          }))
           c.begin-shared.ensures.stands.turns.journal (own ∙ sym made.worker) held seen;
     }

@@ -22,42 +22,101 @@ use Rattle.rd_seat.proofs.shares.Share.commit.Goals as goal
 pub end-requires-clause-stepped : goal.end-requires-clause-stepped
 end-requires-clause-stepped g c =
     let found : List Row = seen_of c.begin-shared.new.pass in
-    let own : number_of c.begin-shared.new.pass ≡ c.args.self.now.mids.worker = c.begin-shared.ensures.number ∙ c.requires.1.1.1.0.number in
-    let drew : c.of-mids.result.value.drawn ≡ c.args.self.now.mids.drawn = ap (λ (m : Mids). m.drawn) c.of-mids.ensures in
-    let few : number_of c.begin-shared.new.pass < max_workers = subst (λ (n : ℕ). n < max_workers) (sym own) c.args.self.now.mids.few in
-    let s : Step = commit_step (number_of c.begin-shared.new.pass) g.place c.args.now c.of-kept.result.value.peer c.of-kept.result.value.datagram c.of-mids.result.value.drawn in
-    let called : IsCalled found s c.args.now c.args.self.now.mids c.begin-shared.result.desk.tables = step-IsCalled found s c.args.self.now.mids c.begin-shared.result.desk c.begin-shared.ensures.stands refl own drew in
-    let peers : c.of-kept.result.value.peer ≡ c.args.job.peer = ap (λ (w : Write). w.peer) c.of-kept.ensures in
-    let octets : c.of-kept.result.value.datagram ≡ c.args.job.datagram = ap (λ (w : Write). w.datagram) c.of-kept.ensures in
-    let first : Step = commit_step c.args.self.now.mids.worker g.place (record { 0 = 0 }) c.args.job.peer c.args.job.datagram 0 in
+    let own : number_of c.begin-shared.new.pass ≡ c.args.self.now.mids.worker =
+    c.begin-shared.ensures.number ∙ c.requires.1.1.1.0.number in
+    let drew : c.of-mids.result.value.drawn ≡ c.args.self.now.mids.drawn =
+    ap (λ (m : Mids). m.drawn) c.of-mids.ensures in
+    let few : number_of c.begin-shared.new.pass < max_workers =
+    subst (λ (n : ℕ). n < max_workers) (sym own) c.args.self.now.mids.few in
+    let s : Step = commit_step (number_of c.begin-shared.new.pass) g.place c.args.now
+    c.of-kept.result.value.peer c.of-kept.result.value.datagram c.of-mids.result.value.drawn in
+    let called : IsCalled found s c.args.now c.args.self.now.mids
+    c.begin-shared.result.desk.tables = step-IsCalled found s c.args.self.now.mids
+    c.begin-shared.result.desk c.begin-shared.ensures.stands refl own drew in
+    let peers : c.of-kept.result.value.peer ≡ c.args.job.peer =
+    ap (λ (w : Write). w.peer) c.of-kept.ensures in
+    let octets : c.of-kept.result.value.datagram ≡ c.args.job.datagram =
+    ap (λ (w : Write). w.datagram) c.of-kept.ensures in
+    let first : Step = commit_step c.args.self.now.mids.worker g.place
+    (record { 0 = 0 }) c.args.job.peer c.args.job.datagram 0 in
     let job : IsOpenJob g.place (share_shown c.args.self.now) c.args.job = c.requires.1.1.1.1.1.1 in
     let ready : CommitReady s g.place c.args.job.admitted c.args.job.datagram found =
-    open-CommitReady first s g.place c.args.job.admitted c.args.job.datagram (seen_of c.args.self.now.pass) found job.opened job.admitted_at c.begin-shared.ensures.goes_on.further c.begin-shared.ensures.goes_on.whole c.begin-shared.ensures.stands.turns.journal
-    (subst (λ (n : ℕ). rows_of n found ≡ rows_of n (seen_of c.args.self.now.pass)) c.requires.1.1.1.0.number c.begin-shared.ensures.by_others) (sym own) (sym peers) (sym octets) octets in
-    let may : MayFollow found s = record { commits = ready.opened; handed = record { in_time = turns-NoLaterLook found c.args.now.0 c.begin-shared.ensures.stands.turns; worker = few; word = λ h. refl } } in
-    let made : Made found (row found s (is_starved_step c.commit-stepped.result)) c.commit-stepped.new.self.tables c.commit-stepped.new.out c.args.self.now.mids c.commit-stepped.new.mids = c.commit-stepped.ensures.made found s g.place ready.message refl peers octets refl ready.read ready.is_open called in
-    step-HasStepped found s (is_starved_step c.commit-stepped.result) c.begin-shared.result.desk c.commit-stepped.new.self c.begin-shared.ensures.stands may refl made.stands c.commit-stepped.ensures.told
-    (c.commit-stepped.ensures.staged found s g.place ready.message refl peers octets refl ready.read ready.is_open called)
+    open-CommitReady first s g.place c.args.job.admitted c.args.job.datagram
+    (seen_of c.args.self.now.pass) found job.opened job.admitted_at
+    c.begin-shared.ensures.goes_on.further c.begin-shared.ensures.goes_on.whole
+    c.begin-shared.ensures.stands.turns.journal
+    (subst (λ (n : ℕ). rows_of n found ≡ rows_of n (seen_of c.args.self.now.pass))
+    c.requires.1.1.1.0.number c.begin-shared.ensures.by_others) (sym own) (sym peers)
+    (sym octets) octets in
+    let may : MayFollow found s = record {
+      commits = ready.opened;
+      handed =
+          record {
+            in_time = turns-NoLaterLook found c.args.now.0
+                c.begin-shared.ensures.stands.turns;
+            worker = few;
+            word = λ h. refl;
+          };
+    } in
+    let made : Made found (row found s (is_starved_step c.commit-stepped.result))
+    c.commit-stepped.new.self.tables c.commit-stepped.new.out c.args.self.now.mids
+    c.commit-stepped.new.mids = c.commit-stepped.ensures.made found s g.place ready.message
+    refl peers octets refl ready.read ready.is_open called in
+    step-HasStepped found s (is_starved_step c.commit-stepped.result) c.begin-shared.result.desk
+    c.commit-stepped.new.self c.begin-shared.ensures.stands may refl made.stands
+    c.commit-stepped.ensures.told
+    (c.commit-stepped.ensures.staged found s g.place ready.message refl peers octets refl
+    ready.read ready.is_open called)
 
 -- and so the seat had its turn
 pub returns : goal.returns
 returns g c =
     let found : List Row = seen_of c.begin-shared.new.pass in
-    let own : number_of c.begin-shared.new.pass ≡ c.args.self.now.mids.worker = c.begin-shared.ensures.number ∙ c.requires.1.1.1.0.number in
-    let drew : c.of-mids.result.value.drawn ≡ c.args.self.now.mids.drawn = ap (λ (m : Mids). m.drawn) c.of-mids.ensures in
-    let few : number_of c.begin-shared.new.pass < max_workers = subst (λ (n : ℕ). n < max_workers) (sym own) c.args.self.now.mids.few in
-    let s : Step = commit_step (number_of c.begin-shared.new.pass) g.place c.args.now c.of-kept.result.value.peer c.of-kept.result.value.datagram c.of-mids.result.value.drawn in
-    let called : IsCalled found s c.args.now c.args.self.now.mids c.begin-shared.result.desk.tables = step-IsCalled found s c.args.self.now.mids c.begin-shared.result.desk c.begin-shared.ensures.stands refl own drew in
-    let peers : c.of-kept.result.value.peer ≡ c.args.job.peer = ap (λ (w : Write). w.peer) c.of-kept.ensures in
-    let octets : c.of-kept.result.value.datagram ≡ c.args.job.datagram = ap (λ (w : Write). w.datagram) c.of-kept.ensures in
-    let first : Step = commit_step c.args.self.now.mids.worker g.place (record { 0 = 0 }) c.args.job.peer c.args.job.datagram 0 in
+    let own : number_of c.begin-shared.new.pass ≡ c.args.self.now.mids.worker =
+    c.begin-shared.ensures.number ∙ c.requires.1.1.1.0.number in
+    let drew : c.of-mids.result.value.drawn ≡ c.args.self.now.mids.drawn =
+    ap (λ (m : Mids). m.drawn) c.of-mids.ensures in
+    let few : number_of c.begin-shared.new.pass < max_workers =
+    subst (λ (n : ℕ). n < max_workers) (sym own) c.args.self.now.mids.few in
+    let s : Step = commit_step (number_of c.begin-shared.new.pass) g.place c.args.now
+    c.of-kept.result.value.peer c.of-kept.result.value.datagram c.of-mids.result.value.drawn in
+    let called : IsCalled found s c.args.now c.args.self.now.mids
+    c.begin-shared.result.desk.tables = step-IsCalled found s c.args.self.now.mids
+    c.begin-shared.result.desk c.begin-shared.ensures.stands refl own drew in
+    let peers : c.of-kept.result.value.peer ≡ c.args.job.peer =
+    ap (λ (w : Write). w.peer) c.of-kept.ensures in
+    let octets : c.of-kept.result.value.datagram ≡ c.args.job.datagram =
+    ap (λ (w : Write). w.datagram) c.of-kept.ensures in
+    let first : Step = commit_step c.args.self.now.mids.worker g.place
+    (record { 0 = 0 }) c.args.job.peer c.args.job.datagram 0 in
     let job : IsOpenJob g.place (share_shown c.args.self.now) c.args.job = c.requires.1.1.1.1.1.1 in
     let ready : CommitReady s g.place c.args.job.admitted c.args.job.datagram found =
-    open-CommitReady first s g.place c.args.job.admitted c.args.job.datagram (seen_of c.args.self.now.pass) found job.opened job.admitted_at c.begin-shared.ensures.goes_on.further c.begin-shared.ensures.goes_on.whole c.begin-shared.ensures.stands.turns.journal
-    (subst (λ (n : ℕ). rows_of n found ≡ rows_of n (seen_of c.args.self.now.pass)) c.requires.1.1.1.0.number c.begin-shared.ensures.by_others) (sym own) (sym peers) (sym octets) octets in
-    let may : MayFollow found s = record { commits = ready.opened; handed = record { in_time = turns-NoLaterLook found c.args.now.0 c.begin-shared.ensures.stands.turns; worker = few; word = λ h. refl } } in
-    let made : Made found (row found s (is_starved_step c.commit-stepped.result)) c.commit-stepped.new.self.tables c.commit-stepped.new.out c.args.self.now.mids c.commit-stepped.new.mids = c.commit-stepped.ensures.made found s g.place ready.message refl peers octets refl ready.read ready.is_open called in
-    let turn : Turn c.args.self.now.pass c.begin-shared.new.pass c.end.new.pass c.args.self.now.looker c.begin-shared.new.looker c.end.new.looker c.args.self.now.mids c.commit-stepped.new.mids c.args.self.now.last c.later-self.result s (is_starved_step c.commit-stepped.result) c.begin-shared.result.desk c.commit-stepped.new.self c.commit-stepped.new.out = record {
+    open-CommitReady first s g.place c.args.job.admitted c.args.job.datagram
+    (seen_of c.args.self.now.pass) found job.opened job.admitted_at
+    c.begin-shared.ensures.goes_on.further c.begin-shared.ensures.goes_on.whole
+    c.begin-shared.ensures.stands.turns.journal
+    (subst (λ (n : ℕ). rows_of n found ≡ rows_of n (seen_of c.args.self.now.pass))
+    c.requires.1.1.1.0.number c.begin-shared.ensures.by_others) (sym own) (sym peers)
+    (sym octets) octets in
+    let may : MayFollow found s = record {
+      commits = ready.opened;
+      handed =
+          record {
+            in_time = turns-NoLaterLook found c.args.now.0
+                c.begin-shared.ensures.stands.turns;
+            worker = few;
+            word = λ h. refl;
+          };
+    } in
+    let made : Made found (row found s (is_starved_step c.commit-stepped.result))
+    c.commit-stepped.new.self.tables c.commit-stepped.new.out c.args.self.now.mids
+    c.commit-stepped.new.mids = c.commit-stepped.ensures.made found s g.place ready.message
+    refl peers octets refl ready.read ready.is_open called in
+    let turn : Turn c.args.self.now.pass c.begin-shared.new.pass c.end.new.pass
+    c.args.self.now.looker c.begin-shared.new.looker c.end.new.looker c.args.self.now.mids
+    c.commit-stepped.new.mids c.args.self.now.last c.later-self.result s
+    (is_starved_step c.commit-stepped.result) c.begin-shared.result.desk
+    c.commit-stepped.new.self c.commit-stepped.new.out = record {
       rest = c.requires.1.1.1.0;
       has_begun = c.begin-shared.ensures;
       desk_step = refl;
@@ -66,10 +125,28 @@ returns g c =
       may = may;
       made = made;
       has_ended = c.end.ensures;
-      later_is = let m : c.moment.result.0 ≡ c.commit-stepped.new.self.tables.moment = c.moment.ensures.value in let l : c.later-self.result.0 ≡ max c.moment.result.0 c.args.self.now.last.0 = c.later-self.ensures in omega (arith, m, l);
+      later_is = let m : c.moment.result.0 ≡ c.commit-stepped.new.self.tables.moment =
+          c.moment.ensures.value in let l : c.later-self.result.0
+          ≡ max c.moment.result.0 c.args.self.now.last.0 = c.later-self.ensures in
+          omega (arith, m, l);
     } in
     record {
-      goes_on = record { hall = c.end.ensures.lock ∙ c.begin-shared.ensures.lock; rest = turn-rests turn; met = turn-met turn };
-      made = subst (λ (x : Step). MakesStep (share_shown c.args.self.now) x (is_starved_step c.commit-stepped.result) c.commit-stepped.new.out (share_shown (record { alloc = c.args.self.now.alloc; pass = c.end.new.pass; looker = c.end.new.looker; mids = c.commit-stepped.new.mids; last = c.later-self.result })))
-          (λ i. commit_step (own i) g.place c.args.now (peers i) (octets i) (drew i)) (turn-MakesStep turn);
+      goes_on = record {
+        hall = c.end.ensures.lock ∙ c.begin-shared.ensures.lock;
+        rest =
+            turn-rests turn;
+        met = turn-met turn;
+      };
+      made = subst (λ (x : Step). MakesStep (share_shown c.args.self.now) x
+          (is_starved_step c.commit-stepped.result) c.commit-stepped.new.out
+          (share_shown (record {
+            alloc = c.args.self.now.alloc;
+            pass = c.end.new.pass;
+            looker =
+                c.end.new.looker;
+            mids = c.commit-stepped.new.mids;
+            last = c.later-self.result;
+          })))
+          (λ i. commit_step (own i) g.place c.args.now (peers i) (octets i) (drew i))
+          (turn-MakesStep turn);
     }

@@ -8,8 +8,18 @@ use Rattle.rd_seat.proofs.shares.Share.commit.Given as goal
 
 abbrev pub ghosts-end-S-Added : goal.ghosts-end-S-Added
 ghosts-end-S-Added g a =
-    record { added = Some (row (seen_of a.pass.now) (commit_step (number_of a.pass.now) g.place a._parts.now.now a._parts.now.job.value.peer a._parts.now.job.value.datagram a._parts.now.mids.value.drawn) (is_starved_step a._parts.now.stepped)) }
+    record {
+      added = Some (row (seen_of a.pass.now)
+          (commit_step (number_of a.pass.now) g.place a._parts.now.now a._parts.now.job.value.peer
+          a._parts.now.job.value.datagram a._parts.now.mids.value.drawn)
+          (is_starved_step a._parts.now.stepped));
+    }
 
 abbrev pub ghosts-end-E-Entering : goal.ghosts-end-E-Entering
 ghosts-end-E-Entering g a =
-    record { entered = first_entry (entries_of (row (seen_of a.pass.now) (commit_step (number_of a.pass.now) g.place a._parts.now.now a._parts.now.job.value.peer a._parts.now.job.value.datagram a._parts.now.mids.value.drawn) (is_starved_step a._parts.now.stepped))) }
+    record {
+      entered = first_entry (entries_of
+          (row (seen_of a.pass.now) (commit_step (number_of a.pass.now) g.place a._parts.now.now
+          a._parts.now.job.value.peer a._parts.now.job.value.datagram a._parts.now.mids.value.drawn)
+          (is_starved_step a._parts.now.stepped)));
+    }

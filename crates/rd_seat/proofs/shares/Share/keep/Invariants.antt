@@ -7,7 +7,11 @@ use Rattle.rd_seat.proofs.shares.Share.keep.Given as goal
 
 abbrev pub ghosts-end-S-Added : goal.ghosts-end-S-Added
 ghosts-end-S-Added g a =
-    record { added = Some (row (seen_of a.pass.now) (keep_step (number_of a.pass.now) a._parts.now.now a._parts.now.job.value a._parts.now.mids.value.drawn) (is_starved_step a._parts.now.stepped)) }
+    record {
+      added = Some (row (seen_of a.pass.now)
+          (keep_step (number_of a.pass.now) a._parts.now.now a._parts.now.job.value
+          a._parts.now.mids.value.drawn) (is_starved_step a._parts.now.stepped));
+    }
 
 abbrev pub ghosts-end-E-Entering : goal.ghosts-end-E-Entering
 ghosts-end-E-Entering g a = record { entered = no_entry }
