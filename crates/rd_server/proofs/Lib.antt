@@ -32,3 +32,4 @@ pub mod WordShapes
 pub mod MadeCounts
 pub mod MadeTexts
 mod examples
+pub mod service

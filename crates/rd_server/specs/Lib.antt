@@ -7,3 +7,4 @@ pub mod Endings
 pub mod Sessions
 pub mod MadeRuns
 pub mod Faults
+pub mod serving

@@ -1,4 +1,5 @@
-//! What the programs of the directory do: a trace replayed to its output.
+//! What the programs of the directory do: a trace replayed to its output, and a directory served
+//! over links by many workers.
 #![tactic(auto)]
 
 mod command_line;
@@ -7,6 +8,7 @@ mod fields;
 mod machine;
 mod made;
 mod replays;
+mod serving;
 mod sessions;
 mod troubles;
 mod words;
@@ -15,5 +17,10 @@ mod workers;
 pub use endings::Status;
 pub use machine::Machine;
 pub use replays::{replay, report};
+pub use serving::ends::End;
+pub use serving::served::{ServeFault, Served};
+pub use serving::servers::serve;
+pub use serving::statuses::ServeStatus;
+pub use serving::workers::serve_worker;
 pub use trace_text::{LineBad, Reason};
 pub use troubles::Trouble;

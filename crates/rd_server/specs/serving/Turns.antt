@@ -1,0 +1,117 @@
+-- The turns of a worker: what came over its link, and the calls that follow. The last stands first.
+use Rattle.std.specs.Prelude.{◌≡◌, ℕ, ◌+◌, ◌%◌, ◌==◌, ◌≤◌, ◌<◌, Bool, true, false}
+use Rattle.std.specs.Prelude.{List, [], ◌∷◌, ◌++◌, length, Option, Some, None, ⊤}
+use Rattle.rd_base.specs.declared.peers.Peer.{Peer}
+use Rattle.udp_link.specs.Links.{Datagram}
+use Rattle.udp_link.specs.declared.links.TheConstants.{MAX_DATAGRAM}
+use Rattle.journal_model.specs.declared.steps.StepKind.TheVariants as step
+use Rattle.journal_model.specs.Machine.{Job}
+use Rattle.rd_server.specs.serving.Calls.{Call, IsHearing, IsOfJob}
+
+-- what a receive gave
+pub data Outcome : Type 0 where
+  Heard : Peer → List ℕ → Outcome
+  TooLong : Outcome
+  Nothing : Outcome
+  Failed : Outcome
+
+-- a turn: one receive, and the calls that follow it
+pub record Turn : Type 0 where
+  pub came : Outcome
+  pub calls : List Call
+
+-- ---- which calls follow
+
+-- time passes once
+pub record Ticks (calls : List Call) : Type 0 where
+  pub tick : Call
+  pub alone : calls ≡ tick ∷ []
+  pub kind : tick.step.kind ≡ step.Tick
+
+-- the job that was left is done, where one was left
+abbrev pub DoesJob : Option Job → List Call → Type 0
+DoesJob None calls = calls ≡ []
+DoesJob (Some j) calls = (c : Call) × (calls ≡ c ∷ []) × IsOfJob j c.step
+
+-- the datagram is heard, and its job is done at once
+pub record Hears (peer : Peer) (datagram : List ℕ) (calls : List Call) : Type 0 where
+  pub hear : Call
+  pub job : List Call
+  pub whole : calls ≡ job ++ hear ∷ []
+  pub hearing : IsHearing peer datagram hear
+  pub done : DoesJob hear.left job
+
+-- time passes, where it is its turn
+abbrev pub TicksWhere : Bool → List Call → Type 0
+TicksWhere true calls = Ticks calls
+TicksWhere false calls = calls ≡ []
+
+-- a datagram of this number, from 1 on, is heard; after each sixteenth time passes
+pub record HearsAt (number : ℕ) (peer : Peer) (datagram : List ℕ) (calls : List Call)
+    : Type 0 where
+  pub heard : List Call
+  pub ticks : List Call
+  pub whole : calls ≡ ticks ++ heard
+  pub within : length datagram ≤ MAX_DATAGRAM
+  pub hears : Hears peer datagram heard
+  pub sixteenth : TicksWhere (number % 16 == 0) ticks
+
+-- which calls follow what came, where so many datagrams were heard before
+abbrev pub Follows : ℕ → Outcome → List Call → Type 0
+Follows earlier (Heard peer datagram) calls = HearsAt (earlier + 1) peer datagram calls
+Follows earlier TooLong calls = Ticks calls
+Follows earlier Nothing calls = Ticks calls
+Follows earlier Failed calls = calls ≡ []
+
+-- ---- what came
+
+-- what came is the first of what was coming
+abbrev pub Comes : List Datagram → Outcome → List Datagram → Type 0
+Comes before (Heard peer datagram) now = before ≡ (peer, datagram) ∷ now
+Comes before TooLong now =
+    (long : Datagram) × (MAX_DATAGRAM < length long.1) × (before ≡ long ∷ now)
+Comes before Nothing now = (before ≡ []) × (now ≡ [])
+Comes before Failed now = now ≡ before
+
+abbrev pub TurnComes : List Datagram → Turn → List Datagram → Type 0
+TurnComes before t now = Comes before t.came now
+
+-- the receive did not fail
+abbrev pub Came : Outcome → Type 0
+Came Failed = ⊥
+Came _ = ⊤
+
+-- ---- all turns of a worker
+
+-- the calls of all turns
+abbrev pub calls_of : List Turn → List Call
+calls_of [] = []
+calls_of (t ∷ earlier) = t.calls ++ calls_of earlier
+
+-- how many datagrams were heard
+abbrev pub heard_more : ℕ → Outcome → ℕ
+heard_more earlier (Heard peer datagram) = earlier + 1
+heard_more earlier _ = earlier
+
+abbrev pub turns_heard : List Turn → ℕ
+turns_heard [] = 0
+turns_heard (t ∷ earlier) = heard_more (turns_heard earlier) t.came
+
+-- how many were too long
+abbrev pub long_more : ℕ → Outcome → ℕ
+long_more earlier TooLong = earlier + 1
+long_more earlier _ = earlier
+
+abbrev pub turns_long : List Turn → ℕ
+turns_long [] = 0
+turns_long (t ∷ earlier) = long_more (turns_long earlier) t.came
+
+-- after each receive those calls were made
+abbrev pub AreTurns : List Turn → Type 0
+AreTurns [] = ⊤
+AreTurns (t ∷ earlier) = AreTurns earlier × Follows (turns_heard earlier) t.came t.calls
+
+-- no receive failed
+abbrev pub AllCame : List Turn → Type 0
+AllCame [] = ⊤
+AllCame (t ∷ earlier) = AllCame earlier × Came t.came

@@ -1,0 +1,85 @@
+-- What a worker has: its seat, its link and its clock; and what calls do with them.
+use Rattle.std.specs.Prelude.{◌≡◌, ℕ, ◌+◌, ◌-◌, ◌^◌, ◌≤◌, ◌<◌, List, ◌++◌, Option}
+use Rattle.rd_base.specs.declared.moments.Moment.{Moment}
+use Rattle.udp_link.specs.Links.{Datagram}
+use Rattle.udp_link.specs.Told.{WhereTold, Stays}
+use Rattle.udp_link.specs.declared.links.Link as links
+use Rattle.udp_link.specs.declared.clocks.Clock as clocks
+use Rattle.rd_seat.specs.Seats.{SeatSeen}
+use Rattle.rd_server.specs.serving.Chains.{Chain}
+use Rattle.rd_server.specs.serving.Sendings.{Sending, all_went, number_lost}
+use Rattle.rd_server.specs.serving.Calls.{
+  Call,
+  Does,
+  GivesMoment,
+  GivesWord,
+  calls_went,
+  calls_lost,
+}
+
+-- ---- what is seen of them
+
+-- what a link shows
+pub record LinkSeen : Type 0 where
+  pub coming : Option (List Datagram)
+  pub gone : Option (List Datagram)
+  pub recv_faults : ℕ
+  pub send_faults : ℕ
+
+abbrev pub link_seen : {T : Type 0} → links.Ghosts T → T → LinkSeen
+link_seen g link = record {
+  coming = g.coming link;
+  gone = g.gone link;
+  recv_faults = g.recv_faults link;
+  send_faults = g.send_faults link;
+}
+
+-- what a clock shows
+pub record ClockSeen : Type 0 where
+  pub times : Option (List Moment)
+  pub words : Option (List ℕ)
+
+abbrev pub clock_seen : {T : Type 0} → clocks.Ghosts T → T → ClockSeen
+clock_seen g clock = record { times = g.times clock; words = g.words clock }
+
+-- what a worker has
+pub record WorkerSeen : Type 0 where
+  pub seat : SeatSeen
+  pub link : LinkSeen
+  pub clock : ClockSeen
+
+abbrev pub worker_seen : {L C : Type 0} → links.Ghosts L → clocks.Ghosts C → SeatSeen → L → C
+    → WorkerSeen
+worker_seen l c seat link clock =
+    record { seat = seat; link = link_seen l link; clock = clock_seen c clock }
+
+-- ---- what is done with them
+
+-- these went, behind what had gone before
+abbrev pub Goes : List Datagram → Option (List Datagram) → Option (List Datagram) → Type 0
+Goes went before now = WhereTold (λ old new. new ≡ old ++ went) before now
+
+-- a count of faults rose by this at least, unless it stands at the last value of 64 bits
+pub record RisesBy (n before now : ℕ) : Type 0 where
+  pub kept : before ≤ now
+  pub rose : now < 2 ^ 64 - 1 → before + n ≤ now
+
+-- what was sent over a link
+pub record Sends (sendings : List Sending) (before after : LinkSeen) : Type 0 where
+  pub gone : Goes (all_went sendings) before.gone after.gone
+  pub lost : RisesBy (number_lost sendings) before.send_faults after.send_faults
+  pub coming : Stays before.coming after.coming
+  pub received : after.recv_faults ≡ before.recv_faults
+
+-- What calls of the seat did: to the seat, over the link, which received nothing meanwhile, and
+-- with what the clock gave.
+pub record CallsMade (calls : List Call) (before after : WorkerSeen) : Type 0 where
+  pub seat : Chain Does before.seat calls after.seat
+  pub gone : Goes (calls_went calls) before.link.gone after.link.gone
+  pub lost : RisesBy (calls_lost calls) before.link.send_faults after.link.send_faults
+  pub coming : Stays before.link.coming after.link.coming
+  pub received : after.link.recv_faults ≡ before.link.recv_faults
+  pub moments : WhereTold (λ old new. Chain GivesMoment old calls new)
+      before.clock.times after.clock.times
+  pub words : WhereTold (λ old new. Chain GivesWord old calls new)
+      before.clock.words after.clock.words

@@ -1,0 +1,105 @@
+//! Calls of the seat: the clock is asked, the seat is called, and what comes out is sent.
+ghost use Rattle.std.specs.Prelude.{◌≡◌, ◌+◌, ◌∷◌, [], IfSome, option_map};
+ghost use Rattle.journal_model.specs.declared.steps.StepKind.TheVariants as step;
+ghost use Rattle.rd_desk.specs.Outboxes.{most_datagrams};
+ghost use Rattle.rd_seat.specs.Heard.{IsOpenWrite};
+ghost use Rattle.rd_seat.specs.Jobs.{last_place};
+ghost use Rattle.rd_server.specs.serving.Calls.{Call, IsHearing, IsOfJob, job_at, job_held};
+ghost use Rattle.rd_server.specs.serving.Workers.{CallsMade, worker_seen};
+ghost use Rattle.rd_server.specs.serving.Sums.{CountsCalls, GrowsBy, HasRoom};
+
+use crate::serving::posts::{Post, Tally};
+use crate::serving::sends::finish;
+use crate::serving::served::{is_starved, is_starved_hearing};
+use rd_base::Peer;
+use rd_desk::Job;
+use rd_seat::{Gate, Seat, SeatHeard};
+use std::sync::Wait;
+use udp_link::{Clock, Link};
+
+/// Time passes at the seat.
+pub(crate) fn tick<R: Wait, L: Link, C: Clock, G: Gate>(
+    post: &Post<R, G>,
+    seat: &mut Seat,
+    link: &mut L,
+    clock: &mut C,
+    tally: &mut Tally,
+)
+    requires hall { seat.old.hall ≡ post.now.hall.now }
+    requires room { HasRoom tally.old.served }
+    ensures hall { seat.new.hall ≡ seat.old.hall }
+    ensures grows { GrowsBy (most_datagrams + 1) tally.old.served tally.new.served }
+    ensures made { (c : Call) × (c.step.kind ≡ step.Tick)
+        × CallsMade (c ∷ []) (worker_seen L.Link.own C.Clock.own seat.old link.old clock.old)
+        (worker_seen L.Link.own C.Clock.own seat.new link.new clock.new)
+        × CountsCalls (c ∷ []) tally.old.served tally.new.served }
+{
+    let now = clock.now();
+    let word = clock.word();
+    let stepped = seat.tick(post.rt, post.hall, post.gate, now, word, &mut tally.out);
+    finish(link, is_starved(stepped), &mut tally.out, &mut tally.served);
+}
+
+/// The job that is left.
+fn job_in(heard: SeatHeard) -> Option<Job>
+    ensures { result ≡ job_held heard }
+{
+    match heard {
+        SeatHeard::Held(job) => Some(job),
+        SeatHeard::Done | SeatHeard::Starved => None,
+    }
+}
+
+/// The seat hears a datagram, and leaves a job or none.
+pub(crate) fn hear<R: Wait, L: Link, C: Clock, G: Gate>(
+    post: &Post<R, G>,
+    seat: &mut Seat,
+    link: &mut L,
+    clock: &mut C,
+    tally: &mut Tally,
+    peer: Peer,
+    datagram: &[u8],
+) -> Option<Job>
+    requires hall { seat.old.hall ≡ post.now.hall.now }
+    requires room { HasRoom tally.old.served }
+    ensures hall { seat.new.hall ≡ seat.old.hall }
+    ensures grows { GrowsBy (most_datagrams + 1) tally.old.served tally.new.served }
+    ensures made { (c : Call) × IsHearing peer datagram.now c
+        × (c.left ≡ option_map (job_at (last_place seat.new.seen)) result)
+        × CallsMade (c ∷ []) (worker_seen L.Link.own C.Clock.own seat.old link.old clock.old)
+        (worker_seen L.Link.own C.Clock.own seat.new link.new clock.new)
+        × CountsCalls (c ∷ []) tally.old.served tally.new.served }
+    ensures open { IfSome result (λ job. IsOpenWrite (last_place seat.new.seen) seat.new job) }
+{
+    let (rt, hall, gate) = (post.rt, post.hall, post.gate);
+    let now = clock.now();
+    let word = clock.word();
+    let heard = seat.hear(rt, hall, gate, now, word, peer, datagram, &mut tally.out);
+    let starved = is_starved_hearing(&heard);
+    finish(link, starved, &mut tally.out, &mut tally.served);
+    job_in(heard)
+}
+
+/// The seat does the job that the datagram before left.
+pub(crate) fn go<R: Wait, L: Link, C: Clock, G: Gate>(
+    post: &Post<R, G>,
+    seat: &mut Seat,
+    link: &mut L,
+    clock: &mut C,
+    tally: &mut Tally,
+    job: Job,
+)
+    requires hall { seat.old.hall ≡ post.now.hall.now }
+    requires room { HasRoom tally.old.served }
+    requires open { IsOpenWrite (last_place seat.old.seen) seat.old job }
+    ensures hall { seat.new.hall ≡ seat.old.hall }
+    ensures grows { GrowsBy (most_datagrams + 1) tally.old.served tally.new.served }
+    ensures made { (c : Call) × IsOfJob (job_at (last_place seat.old.seen) job) c.step
+        × CallsMade (c ∷ []) (worker_seen L.Link.own C.Clock.own seat.old link.old clock.old)
+        (worker_seen L.Link.own C.Clock.own seat.new link.new clock.new)
+        × CountsCalls (c ∷ []) tally.old.served tally.new.served }
+{
+    let now = clock.now();
+    let stepped = seat.go(post.rt, post.hall, post.gate, now, job, &mut tally.out);
+    finish(link, is_starved(stepped), &mut tally.out, &mut tally.served);
+}

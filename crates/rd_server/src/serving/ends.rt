@@ -1,0 +1,113 @@
+//! Ends of a server: each worker with its link and its clock.
+ghost use Rattle.std.specs.Prelude.{◌≡◌, ◌≤◌, ◌<◌, ◌^◌, ℕ, None, Err};
+ghost use Rattle.std.specs.Prelude.{All, IfOk, IfSome, length, slice_get, slice_index_or};
+ghost use Rattle.rd_server.specs.declared.serving.served.ServeFault.TheVariants as fault;
+ghost use Rattle.rd_server.specs.serving.Sums.{IsBelow, worker_most};
+ghost use Rattle.rd_server.specs.serving.Servers.{EndServes, IsUnserved, seated};
+
+use crate::serving::served::{ServeFault, Served};
+use crate::serving::workers::serve_worker;
+use rd_seat::{Gate, Hall, Seat, Seats};
+use std::sync::Wait;
+use std::thread;
+use std::thread::Threads;
+use udp_link::{Clock, Link};
+
+/// The most threads that serve: one for each end.
+const MOST_THREADS: usize = 16;
+
+/// What one worker of a server has. A server gives it its seat, and leaves that and what came of
+/// the service here.
+#[derive(Drop)]
+pub struct End<L, C> {
+    /// Where its datagrams come from and go to.
+    pub link: L,
+    /// Where its moments and words come from.
+    pub clock: C,
+    /// The seat by which it was served; none where it was not.
+    pub seat: Option<Seat>,
+    /// What came of its service: out of memory, where it was not served.
+    pub outcome: Result<Served, ServeFault>,
+}
+
+impl<L, C> End<L, C> {
+    /// An end that was not served yet.
+    pub fn of(link: L, clock: C) -> End<L, C>
+        ensures link { result.link ≡ link }
+        ensures clock { result.clock ≡ clock }
+        ensures seat { result.seat ≡ None }
+        ensures outcome { result.outcome ≡ Err fault.Memory }
+    {
+        End {
+            link,
+            clock,
+            seat: None,
+            outcome: Err(ServeFault::Memory),
+        }
+    }
+}
+
+/// Gives each end the seat of its number.
+pub(crate) fn seat_ends<L, C>(ends: &mut [End<L, C>], seats: Seats)
+    ensures { (i : ℕ) (d : End L C) → i < length ends.old
+        → slice_index_or ends.new i d ≡ seated (slice_index_or ends.old i d) (slice_get seats i) }
+{
+    let mut seats = seats;
+    'ends: for end in ends {
+        end.seat = seats.take_first();
+        end.outcome = Err(ServeFault::Memory);
+    }
+}
+
+/// Leaves each end without a seat.
+pub(crate) fn unseat_ends<L, C>(ends: &mut [End<L, C>])
+    ensures { All IsUnserved ends.new }
+{
+    'ends: for end in ends {
+        end.seat = None;
+        end.outcome = Err(ServeFault::Memory);
+    }
+}
+
+/// Serves one end, where it has a seat.
+fn work<R: Wait + AllocGlobal, L: Link, C: Clock, G: Gate>(
+    rt: &R,
+    hall: &Hall,
+    end: &mut End<L, C>,
+    gate: &G,
+    turns: u64,
+)
+    requires hall { IfSome end.old.seat (λ seat. seat.hall ≡ hall.now) }
+    requires turns { turns ≤ 10 ^ 12 }
+    requires few { IfOk end.old.outcome (IsBelow worker_most) }
+    ensures few { IfOk end.new.outcome (IsBelow worker_most) }
+    ensures served { IfSome end.old.seat
+        (λ seat. EndServes L.Link.own C.Clock.own turns seat end.old end.new) }
+{
+    if let Some(seat) = &mut end.seat {
+        end.outcome = serve_worker(rt, hall, seat, &mut end.link, &mut end.clock, gate, turns);
+    }
+}
+
+/// Serves all ends at the same time, and waits for all.
+pub(crate) fn serve_ends<
+    R: Threads + Wait + Sync + AllocGlobal,
+    L: Link + Send,
+    C: Clock + Send,
+    G: Gate + Sync,
+>(rt: &R, hall: &Hall, ends: &mut [End<L, C>], gate: &G, turns: u64)
+    requires hall { All (λ end. IfSome end.seat (λ seat. seat.hall ≡ hall.now)) ends.old }
+    requires turns { turns ≤ 10 ^ 12 }
+    requires few { All (λ end. IfOk end.outcome (IsBelow worker_most)) ends.old }
+    ensures few { All (λ end. IfOk end.outcome (IsBelow worker_most)) ends.new }
+    ensures served { (i : ℕ) (d : End L C) → i < length ends.old
+        → IfSome (slice_index_or ends.old i d).seat (λ seat. EndServes L.Link.own C.Clock.own
+        turns seat (slice_index_or ends.old i d) (slice_index_or ends.new i d)) }
+{
+    thread::for_each_mut(
+        rt,
+        ends,
+        MOST_THREADS,
+        &|_, end: &mut End<L, C>| { work(rt, hall, end, gate, turns) },
+    );
+}

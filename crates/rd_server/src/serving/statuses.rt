@@ -1,0 +1,14 @@
+//! How a server ends.
+
+/// How a server ends: the first that applies of memory, a link and the output.
+#[derive(Clone, Copy, Debug, PartialEq, Eq)]
+pub enum ServeStatus {
+    /// Every worker was served to the end, and the line of their sums was written.
+    Done,
+    /// A receive of one of the ends failed.
+    Link,
+    /// The output failed.
+    Write,
+    /// Out of memory.
+    Memory,
+}

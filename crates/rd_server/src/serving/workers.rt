@@ -1,0 +1,83 @@
+//! The service of one worker.
+ghost use Rattle.std.specs.Prelude.{◌≡◌, ◌≤◌, ◌^◌, [], IfOk};
+ghost use Rattle.rd_server.specs.serving.Workers.{link_seen, worker_seen};
+ghost use Rattle.rd_server.specs.serving.Sums.{IsBelow, worker_most};
+ghost use Rattle.rd_server.specs.serving.Service.{CountsTold, Serves};
+
+use crate::serving::posts::{Post, Tally};
+use crate::serving::served::{ServeFault, Served};
+use crate::serving::turns::turn;
+use rd_desk::Outbox;
+use rd_seat::{Gate, Hall, Seat};
+use std::sync::Wait;
+use udp_link::{Clock, Link, MAX_DATAGRAM};
+
+/// Turn after turn, so many, until a receive fails.
+fn run<R: Wait, L: Link, C: Clock, G: Gate>(
+    post: &Post<R, G>,
+    seat: &mut Seat,
+    link: &mut L,
+    clock: &mut C,
+    out: Outbox,
+    turns: u64,
+) -> Result<Served, ServeFault>
+    requires hall { seat.old.hall ≡ post.now.hall.now }
+    requires turns { turns ≤ 10 ^ 12 }
+    requires empty { out ≡ [] }
+    ensures hall { seat.new.hall ≡ seat.old.hall }
+    ensures serves { Serves turns
+        (worker_seen L.Link.own C.Clock.own seat.old link.old clock.old)
+        (worker_seen L.Link.own C.Clock.own seat.new link.new clock.new) result }
+    ensures few { IfOk result (IsBelow worker_most) }
+{
+    let mut room = [0u8; MAX_DATAGRAM];
+    let mut tally = Tally {
+        out,
+        served: Served::default(),
+    };
+    let mut done = 0u64;
+    'turns: while done < turns {
+        if !turn(post, seat, link, clock, &mut tally, &mut room) {
+            return Err(ServeFault::Link);
+        }
+        done += 1;
+    }
+    Ok(tally.served)
+}
+
+/// Serves what comes over a link, by a seat of the hall: so many turns, at most 10^12, each of
+/// which is one receive. A datagram is heard, and its job is done at once; time passes after each
+/// receive to which nothing came, after each datagram that was too long, and after each sixteenth
+/// that was heard. Before each call of the seat the clock is asked for a moment, and before those
+/// that hear or in which time passes for a word. What comes out is sent; a datagram whose send
+/// fails is lost. It waits for turns at the hall.
+///
+/// `Link`: a receive failed, which ends the service. `Memory`: out of memory, before the first
+/// receive.
+pub fn serve_worker<R: Wait + AllocGlobal, L: Link, C: Clock, G: Gate>(
+    rt: &R,
+    hall: &Hall,
+    seat: &mut Seat,
+    link: &mut L,
+    clock: &mut C,
+    gate: &G,
+    turns: u64,
+) -> Result<Served, ServeFault>
+    requires hall { seat.old.hall ≡ hall.now }
+    requires turns { turns ≤ 10 ^ 12 }
+    ensures hall { seat.new.hall ≡ seat.old.hall }
+    // Each receive has its calls, in order, what they send was sent, and the counts are their sums.
+    ensures serves { Serves turns
+        (worker_seen L.Link.own C.Clock.own seat.old link.old clock.old)
+        (worker_seen L.Link.own C.Clock.own seat.new link.new clock.new) result }
+    // Where the link tells its datagrams, what was heard and sent is so many of them.
+    ensures told { IfOk result (λ served.
+        CountsTold served (link_seen L.Link.own link.old) (link_seen L.Link.own link.new)) }
+    ensures few { IfOk result (IsBelow worker_most) }
+{
+    let Ok(out) = Outbox::make(rt.alloc()) else {
+        return Err(ServeFault::Memory);
+    };
+    let post = Post { rt, hall, gate };
+    run(&post, seat, link, clock, out, turns)
+}
