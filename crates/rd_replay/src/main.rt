@@ -2,24 +2,12 @@
 #![tactic(auto)]
 
 use rd_base::{StdSink, StdSource};
-use rd_server::{Status, replay, report};
+use rd_server::{Status, WordsFault, given_words, replay, report};
 use std::process::ExitCode;
-use std::{env, io};
-
-/// The words of the command line, without the program's name. One that is not UTF-8 is none of the program's words.
-fn words_of(rt: &HostRuntime) -> Result<Vec<String>, Status> {
-    let mut args = match env::args(rt) {
-        Ok(args) => args,
-        Err(error) if error.kind() == io::ErrorKind::OutOfMemory => return Err(Status::Memory),
-        Err(_) => return Err(Status::Usage),
-    };
-    let _ = args.next();
-    args.collect(rt.alloc()).map_err(|_| Status::Memory)
-}
 
 fn main(rt: HostRuntime) -> ExitCode {
     let mut err = StdSink::of(rt.stderr());
-    let status = match words_of(&rt) {
+    let status = match given_words(&rt) {
         Ok(words) => {
             let mut source = StdSource::of(rt.stdin());
             let mut out = StdSink::of(rt.stdout());
@@ -31,7 +19,11 @@ fn main(rt: HostRuntime) -> ExitCode {
                 &mut err,
             )
         }
-        Err(status) => {
+        Err(fault) => {
+            let status = match fault {
+                WordsFault::Usage => Status::Usage,
+                WordsFault::Starved => Status::Memory,
+            };
             report(&mut err, status);
             status
         }

@@ -28,6 +28,7 @@ pub mod WorkerSteps
 pub mod ClapReads
 pub mod WordSteps
 pub mod WordValues
+pub mod OptionSteps
 pub mod WordShapes
 pub mod MadeCounts
 pub mod MadeTexts

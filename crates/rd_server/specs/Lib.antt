@@ -1,4 +1,5 @@
 pub mod Fields
+pub mod Options
 pub mod Words
 pub mod CommandLines
 pub mod Journal

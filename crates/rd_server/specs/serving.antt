@@ -7,4 +7,5 @@ pub mod Turns
 pub mod Sums
 pub mod Service
 pub mod Servers
+pub mod Plans
 pub mod Endings

@@ -2,6 +2,7 @@
 pub(crate) mod calls;
 pub(crate) mod conclusions;
 pub(crate) mod ends;
+pub(crate) mod plans;
 pub(crate) mod posts;
 pub(crate) mod sends;
 pub(crate) mod served;

@@ -8,10 +8,13 @@ ghost use Rattle.rd_server.specs.Words.{AreDevices, AreNamed, AreRead, GoesOn, I
 use crate::command_line::matches_of;
 use crate::fields::cut;
 use std::alloc::Global;
+use std::env;
+use std::env::Env;
+use std::io::ErrorKind;
 use trace_text::number_read;
 
 /// The most workers.
-const MAX_WORKERS: u64 = 16;
+pub(crate) const MAX_WORKERS: u64 = 16;
 
 /// The most devices of a trace that is made.
 const MAX_DEVICES: u64 = 4_000;
@@ -32,6 +35,18 @@ pub enum WordsFault {
     Usage,
     /// Memory ran out.
     Starved,
+}
+
+/// The words of the command line, without the program's name. `Usage`: one of them is not UTF-8.
+/// `Starved`: out of memory.
+pub fn given_words<R: Env + AllocGlobal>(rt: &R) -> Result<Vec<String>, WordsFault> {
+    let mut args = match env::args(rt) {
+        Ok(args) => args,
+        Err(error) if error.kind() == ErrorKind::OutOfMemory => return Err(WordsFault::Starved),
+        Err(_) => return Err(WordsFault::Usage),
+    };
+    let _ = args.next();
+    args.collect(rt.alloc()).map_err(|_| WordsFault::Starved)
 }
 
 /// What a word names.
@@ -66,7 +81,7 @@ fn name_of(word: &[u8]) -> Option<Name>
 }
 
 /// The number from 1 to a limit that a text prints in decimal, without a leading zero.
-fn count_of(limit: u64, text: &[u8]) -> Option<u64>
+pub(crate) fn count_of(limit: u64, text: &[u8]) -> Option<u64>
     ensures value { result ≡ spec.count_of limit text.now }
     ensures within { IfSome result (λ n. (1 ≤ n) × (n ≤ limit)) }
 {

@@ -1,0 +1,21 @@
+use Rattle.std.proofs.Common.{◌≡◌, ◌∙◌, ap₂, rules, map}
+use Rattle.std.specs.String.{string_bytes}
+use Rattle.clap.specs.Walk.{rule_of}
+use Rattle.clap.specs.Simple.{app_of, with_rule}
+use Rattle.rd_server.proofs.service.PlanReads.{app, bare_app, port_rule, workers_rule, turns_rule}
+use Rattle.rd_server.proofs.service.PlanReads.{reads_plan}
+use Rattle.rd_server.proofs.serving.plans.matches_of.Goals as goal
+
+pub returns : goal.returns
+returns c =
+    let port_is : rule_of c.long-port.result ≡ port_rule = search rules in
+    let workers_is : rule_of c.long-workers.result ≡ workers_rule = search rules in
+    let turns_is : rule_of c.long-turns.result ≡ turns_rule = search rules in
+    let bare_is : app_of c.disable_version_flag.result ≡ bare_app = search rules in
+    let app_is : app_of c.in_ok-command.command ≡ app = c.in_ok-command.ensures.shape (search rules)
+        ∙ ap₂ with_rule (c.in_ok-arg-2.ensures.shape (search rules)
+        ∙ ap₂ with_rule (c.in_ok-arg.ensures.shape (search rules)
+        ∙ ap₂ with_rule bare_is port_is) workers_is) turns_is in
+    let parse = c.try_get_matches_from in
+    reads_plan _ (map string_bytes c.args.words.now) parse.result app_is parse.ensures.matches
+    parse.ensures.passes

@@ -1,0 +1,232 @@
+//! The words of the command line of `rd_serve`: their form is tested, and clap reads their values.
+ghost use Rattle.std.specs.Prelude.{◌≡◌, Some, IfOk, map};
+ghost use Rattle.std.specs.String.{string_bytes};
+ghost use Rattle.rd_server.specs.serving.Plans as spec;
+ghost use Rattle.rd_server.specs.declared.serving.plans.ServeOption.TheVariants as serve_option;
+ghost use Rattle.rd_server.specs.serving.Plans.{IsPlan, IsPlanRead, ReadsPlan, plan_said};
+
+use crate::options::{Asked, words_ask};
+use crate::words::{MAX_WORKERS, WordsFault, count_of};
+use clap::{Arg, ArgMatches, Command, Error};
+use rd_base::Starved;
+use std::alloc::Global;
+
+/// The last port of UDP (RFC 768).
+const MAX_PORT: u64 = 65_535;
+
+/// The most turns of a worker.
+const MAX_TURNS: u64 = 1_000_000_000_000;
+
+/// What the words of `rd_serve` ask for.
+#[derive(Clone, Copy, Debug, PartialEq, Eq)]
+pub struct ServePlan {
+    /// The port of UDP, from 1 on: 5,683 where nothing is said (RFC 7252 section 12.6).
+    pub port: u16,
+    /// How many workers serve, from 1 to 16: four where nothing is said.
+    pub workers: u8,
+    /// How many receives each worker makes, from 1 to 10^12: so many where nothing is said.
+    pub turns: u64,
+}
+
+/// An option of `rd_serve`.
+#[derive(Clone, Copy, Debug, PartialEq, Eq)]
+enum ServeOption {
+    /// `--port`: the port.
+    Port,
+    /// `--workers`: how many workers.
+    Workers,
+    /// `--turns`: how many turns each has.
+    Turns,
+}
+
+/// What words ask for, as far as they were read.
+#[derive(Clone, Copy, Debug, PartialEq, Eq)]
+struct ServeAsked {
+    /// The port, where it is said.
+    port: Option<u16>,
+    /// How many workers, where it is said.
+    workers: Option<u8>,
+    /// How many turns, where it is said.
+    turns: Option<u64>,
+}
+
+/// The option that a text names.
+fn option_of(text: &[u8]) -> Option<ServeOption>
+    ensures { result ≡ spec.option_of text.now }
+{
+    if text == b"--port".as_slice() {
+        return Some(ServeOption::Port);
+    }
+    if text == b"--workers".as_slice() {
+        return Some(ServeOption::Workers);
+    }
+    if text == b"--turns".as_slice() {
+        return Some(ServeOption::Turns);
+    }
+    None
+}
+
+impl ServeAsked {
+    /// With the port, where it was not said.
+    fn with_port(self, value: &[u8]) -> Option<ServeAsked>
+        ensures { result ≡ spec.given_to (Some serve_option.Port) value.now self }
+    {
+        if self.port.is_some() {
+            return None;
+        }
+        let port = count_of(MAX_PORT, value)? as u16;
+        Some(ServeAsked {
+            port: Some(port),
+            ..self
+        })
+    }
+
+    /// With the number of workers, where it was not said.
+    fn with_workers(self, value: &[u8]) -> Option<ServeAsked>
+        ensures { result ≡ spec.given_to (Some serve_option.Workers) value.now self }
+    {
+        if self.workers.is_some() {
+            return None;
+        }
+        let workers = count_of(MAX_WORKERS, value)? as u8;
+        Some(ServeAsked {
+            workers: Some(workers),
+            ..self
+        })
+    }
+
+    /// With the number of turns, where it was not said.
+    fn with_turns(self, value: &[u8]) -> Option<ServeAsked>
+        ensures { result ≡ spec.given_to (Some serve_option.Turns) value.now self }
+    {
+        if self.turns.is_some() {
+            return None;
+        }
+        let turns = count_of(MAX_TURNS, value)?;
+        Some(ServeAsked {
+            turns: Some(turns),
+            ..self
+        })
+    }
+
+    /// The plan, with what is said by default.
+    fn plan(self) -> ServePlan
+        ensures { result ≡ spec.plan_of self }
+    {
+        ServePlan {
+            port: self.port.unwrap_or(5683),
+            workers: self.workers.unwrap_or(4),
+            turns: self.turns.unwrap_or(MAX_TURNS),
+        }
+    }
+}
+
+impl Asked for ServeAsked {
+    ghost is_option = { spec.is_option };
+
+    ghost given = { spec.given };
+
+    fn names(text: &[u8]) -> bool {
+        option_of(text).is_some()
+    }
+
+    fn with(self, name: &[u8], value: &[u8]) -> Option<ServeAsked> {
+        match option_of(name)? {
+            ServeOption::Port => self.with_port(value),
+            ServeOption::Workers => self.with_workers(value),
+            ServeOption::Turns => self.with_turns(value),
+        }
+    }
+}
+
+/// A plan in words, in one order, each option joined with its value.
+fn words_of(alloc: Global, plan: ServePlan) -> Result<Vec<String>, Starved>
+    ensures { IfOk result (λ words. map string_bytes words.items ≡ spec.words_of plan) }
+{
+    let ServePlan {
+        port,
+        workers,
+        turns,
+    } = plan;
+    let mut words = Vec::with_capacity(alloc, 3)?;
+    words.push_reserved(format!(in alloc; "--port={port}")?);
+    words.push_reserved(format!(in alloc; "--workers={workers}")?);
+    words.push_reserved(format!(in alloc; "--turns={turns}")?);
+    Ok(words)
+}
+
+/// What clap reads in the words of a plan.
+fn matches_of<'a>(alloc: Global, words: &'a [String]) -> Result<ArgMatches<'a>, Error>
+    ensures { (plan : ServePlan) → map string_bytes words.entry.now ≡ spec.words_of plan
+        → ReadsPlan plan result }
+{
+    let port = Arg::new(alloc, "port").long("port");
+    let workers = Arg::new(alloc, "workers").long("workers");
+    let turns = Arg::new(alloc, "turns").long("turns");
+    let command = Command::new(alloc, "rd_serve")
+        .no_binary_name(true)
+        .disable_help_flag(true)
+        .disable_version_flag(true)
+        .arg(port)?
+        .arg(workers)?
+        .arg(turns)?;
+    command.try_get_matches_from(words)
+}
+
+/// The plan whose numbers clap found.
+fn plan_in(matches: &ArgMatches) -> Option<ServePlan>
+    ensures { result ≡ spec.plan_found matches.now }
+{
+    let port = matches
+        .get_str("port")
+        .and_then(|text| count_of(MAX_PORT, text.as_bytes()))?;
+    let workers = matches
+        .get_str("workers")
+        .and_then(|text| count_of(MAX_WORKERS, text.as_bytes()))?;
+    let turns = matches
+        .get_str("turns")
+        .and_then(|text| count_of(MAX_TURNS, text.as_bytes()))?;
+    Some(ServePlan {
+        port: port as u16,
+        workers: workers as u8,
+        turns,
+    })
+}
+
+/// The plan as clap reads it in its words.
+fn plan_read(alloc: Global, plan: ServePlan) -> Result<ServePlan, Starved>
+    requires { IsPlan plan }
+    ensures { IfOk result (λ read. read ≡ plan) }
+{
+    let words = words_of(alloc, plan)?;
+    let Ok(matches) = matches_of(alloc, words.as_slice()) else {
+        return Err(Starved);
+    };
+    let Some(read) = plan_in(&matches) else {
+        unreachable!()
+    };
+    Ok(read)
+}
+
+/// What the words of `rd_serve` ask for: `--port` with a number from 1 to 65,535, `--workers` with
+/// one from 1 to 16, and `--turns` with one from 1 to 10^12, each once at most, in any order, as
+/// two words or joined by `=`.
+///
+/// `Usage`: they are others. `Starved`: out of memory.
+pub fn serve_words(alloc: Global, words: &[String]) -> Result<ServePlan, WordsFault>
+    ensures read { IsPlanRead (plan_said (map string_bytes words.now)) result }
+    ensures within { IfOk result IsPlan }
+{
+    let nothing = ServeAsked {
+        port: None,
+        workers: None,
+        turns: None,
+    };
+    let Some(asked) = words_ask(nothing, words) else {
+        return Err(WordsFault::Usage);
+    };
+    match plan_read(alloc, asked.plan()) {
+        Ok(plan) => Ok(plan),
+        Err(Starved) => Err(WordsFault::Starved),
+    }
+}
