@@ -1,0 +1,350 @@
+#!/usr/bin/env python3
+"""Runs real clients against the server: `clients/run.py [--workers N]... [PROGRAM]`.
+
+For each number of workers rd_serve is started on a free port of 127.0.0.1 and driven by libcoap's
+coap-client, case after case (clients/cases.py). Each case prints one line: whether it passed, what
+it shows, and the command as it can be typed. The last line counts them. What is wanted of each
+case was written down from the RFCs and from docs/, never from what the program printed. Few cases
+are marked "(octets)": what coap-client cannot send goes out from a socket of this script.
+The status is 1 where a case failed, and 2 where there is nothing to run.
+"""
+
+import argparse
+import os
+import re
+import shlex
+import shutil
+import signal
+import socket
+import subprocess
+import sys
+import tempfile
+import time
+from pathlib import Path
+
+import cases
+import messages
+
+HOST = "127.0.0.1"
+FIRST_PORT = 20_000
+
+# Seconds: how long one run of a client may take, how long something that comes by itself is
+# waited for, how long nothing is to come, and how long the server may take to begin or to end.
+RUN_LIMIT = 20
+WAIT_LIMIT = 5
+QUIET = 0.3
+SERVER_LIMIT = 5
+
+# Receives of a server that ends by itself, each of at most 50 milliseconds.
+FEW_TURNS = 20
+
+# The names that builds of libcoap give their programs, the plain one first.
+BUILDS = ["", "-notls", "-openssl", "-gnutls", "-mbedtls", "-tinydtls"]
+PACKAGE = "libcoap3-bin"
+
+PING = messages.octets(messages.CON, messages.EMPTY, 0x4E55)
+PONG = messages.octets(messages.RST, messages.EMPTY, 0x4E55)
+
+
+def program_of(name: str) -> str:
+    """The first build of a program of libcoap that is there, or nothing."""
+    return next((name + build for build in BUILDS if shutil.which(name + build)), "")
+
+
+def install():
+    """Installs libcoap's programs, by the package of Debian."""
+    print(f"coap-client is not there: apt-get install {PACKAGE}", flush=True)
+    done = None
+    if shutil.which("apt-get"):
+        words = ["apt-get", "install", "--yes", "--quiet", PACKAGE]
+        done = subprocess.run(words, stdout=subprocess.DEVNULL, check=False)
+    if done is None or done.returncode != 0:
+        print(f"it could not be installed; {PACKAGE} has it on Debian", file=sys.stderr)
+        sys.exit(2)
+
+
+def is_free(port: int) -> bool:
+    """Whether nobody has a port, for UDP and for TCP."""
+    for kind in (socket.SOCK_DGRAM, socket.SOCK_STREAM):
+        with socket.socket(socket.AF_INET, kind) as tried:
+            try:
+                tried.bind((HOST, port))
+            except OSError:
+                return False
+    return True
+
+
+def end(process: subprocess.Popen):
+    """Ends a process that this script started."""
+    if process.poll() is None:
+        process.send_signal(signal.SIGTERM)
+        try:
+            process.wait(SERVER_LIMIT)
+        except subprocess.TimeoutExpired:
+            process.kill()
+    process.wait()
+
+
+def is_answered(port: int, request: bytes, answer: bytes) -> bool:
+    """Whether a request to a port is answered like this within the time a server has to begin."""
+    until = time.monotonic() + SERVER_LIMIT
+    with socket.socket(socket.AF_INET, socket.SOCK_DGRAM) as asking:
+        asking.settimeout(0.1)
+        asking.connect((HOST, port))
+        while time.monotonic() < until:
+            try:
+                asking.send(request)
+                if asking.recv(len(answer) + 1) == answer:
+                    return True
+            except OSError:
+                time.sleep(0.02)
+    return False
+
+
+class Watch:
+    """A client that runs beside the others and shows what it is given."""
+
+    def __init__(self, name: str, words: list[str], line: str, folder: str):
+        self.name, self.line = name, line
+        self.shown = Path(folder, "watch")
+        with self.shown.open("wb") as shown:
+            self.process = subprocess.Popen(words, stdout=shown, stderr=subprocess.STDOUT,
+                                            cwd=folder)
+
+    def came(self) -> list[str]:
+        """The messages that came to it so far."""
+        return messages.came(self.shown.read_text(errors="replace"))
+
+    def until(self, count: int):
+        """Waits until so many messages came to it, or for too long."""
+        until = time.monotonic() + WAIT_LIMIT
+        while len(self.came()) < count and time.monotonic() < until:
+            time.sleep(0.02)
+
+    def wait(self):
+        """Waits until it ends by itself, or for too long."""
+        try:
+            self.process.wait(RUN_LIMIT)
+        except subprocess.TimeoutExpired:
+            pass
+        end(self.process)
+
+
+class Run:
+    """One server, the cases that are run against it, and how they came out."""
+
+    def __init__(self, program: str, workers: int, folder: str):
+        self.program, self.workers, self.folder = program, workers, folder
+        self.client, self.device = program_of("coap-client"), program_of("coap-server")
+        self.passed = self.failed = 0
+        self.next_port = FIRST_PORT
+        self.ports: dict[str, int] = {}
+        self.started: list[subprocess.Popen] = []
+
+    # Ports.
+
+    def port(self, name: str) -> int:
+        """The port of a name, which is free when it is first asked for."""
+        while name not in self.ports:
+            if is_free(self.next_port):
+                self.ports[name] = self.next_port
+            self.next_port += 1
+        return self.ports[name]
+
+    def base(self, name: str) -> str:
+        """The base of what a device registers from its port (RFC 9176 section 5)."""
+        return f"coap://{HOST}:{self.port(name)}"
+
+    # What is told.
+
+    def group(self, title: str):
+        """Begins a group of cases."""
+        print(f"\n{title}", flush=True)
+
+    def tell(self, name: str, line: str, wanted: list[str], came: list[str]):
+        """Tells how a case came out."""
+        is_right = wanted == came
+        self.passed += is_right
+        self.failed += not is_right
+        print(f"{'passed' if is_right else 'FAILED'}  {name}: {line}", flush=True)
+        if not is_right:
+            print("\n".join(f"    wanted  {each}" for each in wanted or ["nothing"]))
+            print("\n".join(f"    came    {each}" for each in came or ["nothing"]), flush=True)
+
+    # coap-client.
+
+    def words(self, options: list[str], resource: str, device: str) -> list[str]:
+        """The command line of a client, from the port of a device where one is named."""
+        at = ["-a", HOST, "-p", str(self.port(device))] if device else []
+        uri = f"{self.base('server')}{resource}" if resource.startswith("/") else resource
+        return [self.client, *at, *options, uri]
+
+    @staticmethod
+    def seen(words: list[str]) -> list[str]:
+        """The command line with what makes the client show each datagram."""
+        return [words[0], "-v", "7", *words[1:]]
+
+    def output(self, words: list[str]) -> str:
+        """What a client shows of one run."""
+        try:
+            done = subprocess.run(self.seen(words), cwd=self.folder, stdin=subprocess.DEVNULL,
+                                  stdout=subprocess.PIPE, stderr=subprocess.STDOUT,
+                                  timeout=RUN_LIMIT, check=False)
+        except subprocess.TimeoutExpired as late:
+            return (late.stdout or b"").decode(errors="replace")
+        return done.stdout.decode(errors="replace")
+
+    def ask(self, name: str, options: list[str], resource: str, wanted: list[str],
+            device: str = "", seconds: float = 0) -> list[str]:
+        """A case: a client asks, and just these messages come to it.
+
+        Where the standards leave open when, it asks again for so many seconds at most."""
+        words = self.words(options, resource, device)
+        until = time.monotonic() + seconds
+        while True:
+            came = messages.came(self.output(words))
+            named = came if "ETag:0x" in " ".join(wanted) else messages.with_names_of_tags(came)
+            if named == wanted or time.monotonic() >= until:
+                break
+            time.sleep(0.1)
+        self.tell(name, shlex.join(words), wanted, named)
+        return came
+
+    def begin(self, name: str, options: list[str], resource: str) -> Watch:
+        """Begins a case: a client that runs beside the others."""
+        words = self.words(options, resource, "")
+        watch = Watch(name, self.seen(words), shlex.join(words), self.folder)
+        self.started.append(watch.process)
+        watch.until(1)
+        return watch
+
+    def finish(self, watch: Watch, wanted: list[str]):
+        """Ends such a case: the client ends by itself, and just these messages came to it."""
+        watch.wait()
+        self.tell(watch.name, watch.line, wanted, messages.with_names_of_tags(watch.came()))
+
+    # Octets.
+
+    def send(self, name: str, datagrams: list[bytes], wanted: list[bytes], device: str = ""):
+        """A case of octets from a socket: each answer is waited for, then nothing more comes."""
+        came = self.exchange(datagrams, len(wanted), device)
+        line = f"(octets) {' '.join(shortened(each) for each in datagrams)}"
+        self.tell(name, line, [each.hex() for each in wanted], [each.hex() for each in came])
+
+    def exchange(self, datagrams: list[bytes], answers: int, device: str = "") -> list[bytes]:
+        """What comes to a socket that sends datagrams, each after the answer to the last one."""
+        came = []
+        with self.socket(device) as asking:
+            for datagram in datagrams:
+                asking.settimeout(WAIT_LIMIT if len(came) < answers else QUIET)
+                asking.send(datagram)
+                came += messages.received(asking)
+            asking.settimeout(QUIET)
+            came += messages.received(asking)
+        return came
+
+    def socket(self, device: str = "") -> socket.socket:
+        """A socket to the server, at the port of a device where one is named."""
+        asking = socket.socket(socket.AF_INET, socket.SOCK_DGRAM)
+        asking.bind((HOST, self.port(device) if device else 0))
+        asking.connect((HOST, self.port("server")))
+        return asking
+
+    # Servers.
+
+    def start(self, words: list[str]) -> subprocess.Popen:
+        """Starts a program that is ended with this run."""
+        process = subprocess.Popen(words, stdin=subprocess.DEVNULL, stdout=subprocess.PIPE,
+                                   stderr=subprocess.PIPE, cwd=self.folder)
+        self.started.append(process)
+        return process
+
+    def serve(self, port: int, turns: int = 0) -> subprocess.Popen | None:
+        """Starts a server, and waits until it answers a ping."""
+        words = ["--port", str(port), "--workers", str(self.workers)]
+        words += ["--turns", str(turns)] if turns else []
+        server = self.start([self.program, *words])
+        return server if is_answered(port, PING, PONG) else None
+
+    def end_of(self, name: str, words: list[str], wanted: list[str]):
+        """A case: the server's own words, with the status and the text of its end."""
+        try:
+            done = subprocess.run([self.program, *words], capture_output=True, timeout=RUN_LIMIT,
+                                  stdin=subprocess.DEVNULL, check=False)
+            came = [f"status {done.returncode}", (done.stdout + done.stderr).decode().strip()]
+        except subprocess.TimeoutExpired:
+            came = ["no end"]
+        self.tell(name, f"rd_serve {shlex.join(words)}", wanted, came)
+
+    def served(self, name: str):
+        """A case: a server of few turns ends by itself, and has answered each ping."""
+        port = self.port("short")
+        server = self.serve(port, FEW_TURNS)
+        came = ["no answer"]
+        if server:
+            said = server.communicate(timeout=RUN_LIMIT)[0].decode()
+            counts = re.fullmatch(r"served (\d+) (\d+) 0\n", said)
+            is_right = counts and counts[1] == counts[2]
+            came = [f"status {server.returncode}", "served N N 0" if is_right else said]
+        line = f"rd_serve --port {port} --workers {self.workers} --turns {FEW_TURNS}"
+        self.tell(name, line, ["status 0", "served N N 0"], came)
+
+    def serve_links(self, device: str) -> str:
+        """Starts a device that serves links of its own at its port; those that it lists."""
+        port = self.port(device)
+        self.start([self.device, "-A", HOST, "-p", str(port)])
+        if not is_answered(port, PING, PONG):
+            return ""
+        words = self.words([], f"{self.base(device)}/.well-known/core", "")
+        return "".join(each.partition("] ")[2] for each in messages.came(self.output(words)))
+
+    def end(self):
+        """Ends all that was started."""
+        for process in self.started:
+            end(process)
+
+
+def shortened(datagram: bytes) -> str:
+    """A datagram in hexadecimal, or its beginning and its length."""
+    text = datagram.hex()
+    return text if len(text) <= 160 else f"{text[:32]}.. ({len(datagram)} octets)"
+
+
+def run_all(program: str, workers: int) -> int:
+    """Runs all cases against a server of so many workers; how many failed."""
+    with tempfile.TemporaryDirectory() as folder:
+        run = Run(program, workers, folder)
+        try:
+            port = run.port("server")
+            print(f"rd_serve --port {port} --workers {workers}", flush=True)
+            if not run.serve(port):
+                print("FAILED  the server does not answer")
+                return 1
+            cases.run(run)
+        finally:
+            run.end()
+    print(f"\n{run.passed} passed, {run.failed} failed", flush=True)
+    return run.failed
+
+
+def main():
+    parser = argparse.ArgumentParser(description="Runs real clients against the server.")
+    parser.add_argument("program", nargs="?", default="bin/rd_serve")
+    parser.add_argument("--workers", type=int, action="append", help="1 and then 4 by default")
+    words = parser.parse_args()
+    program = Path(words.program).resolve()
+    if not os.access(program, os.X_OK):
+        print(f"{words.program} is not there: make build", file=sys.stderr)
+        sys.exit(2)
+    if not program_of("coap-client") or not program_of("coap-server"):
+        install()
+    counts = words.workers or [1, 4]
+    failed = 0
+    for place, workers in enumerate(counts):
+        print("\n" * (2 * (place > 0)), end="")
+        failed += run_all(str(program), workers)
+    sys.exit(failed > 0)
+
+
+if __name__ == "__main__":
+    main()
