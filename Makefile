@@ -26,7 +26,7 @@ build: $(PROGRAMS:%=build-%)
 build-%:
 	@mkdir -p bin
 	@cd crates/$* && rt run -- $$(cat args 2>/dev/null) < /dev/null > /dev/null
-	@cp crates/$*/out/$* bin/; echo "bin/$*"
+	@cp crates/$*/out/$* bin/ && echo "bin/$*"
 
 clients: build-rd_serve
 	@python3 clients/run.py $(WORKERS:%=--workers %) bin/rd_serve

@@ -5,8 +5,8 @@ rd_serve is measured on 127.0.0.1 beside coap-rd of libcoap and beside a plain e
 (bench/echo.c), under requests of bench/load.c; both are built into bin/. The table has a row for
 each figure: what it is, what it is compared with, how many times that it is, what is wanted, and
 whether that holds. Figures in us are processor time of the server for each answered request, user
-and system, as the kernel counts it in nanoseconds (/proc/PID/task/*/schedstat). What is compared is
-measured by turns, each time on a server that has just begun. A server has one worker where no
+and system, as the kernel counts it in nanoseconds (/proc/PID/task/*/schedstat). What is compared
+is measured by turns, each time on a server that has just begun. A server has one worker where no
 other number is named. Where there are two processors or more, a server and the load have
 processors of their own.
 

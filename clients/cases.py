@@ -72,7 +72,7 @@ def discovery(run):
     run.ask("nothing of another kind", [], f"{core}?rt=core.ps", [discovered("")])
 
 
-class First:
+class FirstThree:
     """The three registrations with which lookups are tried: their links and endpoint lines."""
 
     SENT = ['</temp>;rt="temperature";ct=0', '</light>;rt="light-lux";if="sensor"',
@@ -98,29 +98,29 @@ class First:
 
 def registration(run):
     run.group("Registration (RFC 9176 section 5)")
-    first = First(run, "node1")
+    first = FirstThree(run, "node1")
     links = "/rd-lookup/res"
-    run.ask("nothing is registered, by the first tag", [], links,
+    run.ask("before any registration nothing is listed, under the first tag", [], links,
             [content(tag="0x0000000000000000")])
-    run.ask("a device registers two links", post(",".join(First.SENT[:2])),
+    run.ask("a device registers two links", post(",".join(FirstThree.SENT[:2])),
             "/rd?ep=node1&lt=600", [created(1)], device="node1")
-    run.ask("they are found at the device's address, by the tag of one change", [], links,
+    run.ask("they are listed at the device's address, under the tag of one change", [], links,
             [content(f"{first.temp},{first.light}", tag="0x0000000000010000")])
-    run.ask("a tool registers another with sector, address, lease and an attribute",
-            post(f"{First.HUM_SENT},{First.DOC_SENT}"),
+    run.ask("a tool registers another device, with sector, address, lease and an attribute",
+            post(f"{FirstThree.HUM_SENT},{FirstThree.DOC_SENT}"),
             f"/rd?ep=node2&d=floor2&base={ADDRESS}&lt=3600&et=oic.d.sensor", [created(2)])
-    run.ask("its links are found at that address", [], f"{links}?ep=node2",
+    run.ask("the links are listed at that address", [], f"{links}?ep=node2",
             [content(first.second_links)])
-    run.ask("the first registers again, with three links, and keeps its place",
-            post(",".join(First.SENT)), "/rd?ep=node1", [created(1)], device="node1")
-    run.ask("its links are the new ones", [], f"{links}?ep=node1", [content(first.first_links)])
-    run.ask("the same name in a sector is another device, here without links",
+    run.ask("the first device registers again, with three links, at the same location",
+            post(",".join(FirstThree.SENT)), "/rd?ep=node1", [created(1)], device="node1")
+    run.ask("the three are listed", [], f"{links}?ep=node1", [content(first.first_links)])
+    run.ask("the same name in a sector is another device, which has no links",
             ["-m", "post"], "/rd?ep=node1&d=floor2", [created(3)], device="node3")
 
 
 def resource_lookup(run):
     run.group("Resource lookup (RFC 9176 section 6)")
-    first = First(run, "node1")
+    first = FirstThree(run, "node1")
     rows = [
         ("all links", "", first.links),
         ("by a resource type, which is one of two in a link", "rt=temperature",
@@ -149,6 +149,8 @@ def resource_lookup(run):
     ]
     for name, criteria, body in rows:
         run.ask(name, [], f"/rd-lookup/res{'?' * (criteria != '')}{criteria}", [content(body)])
+    run.ask("with a token of eight octets", ["-T", "8 octets"], "/rd-lookup/res?if=sensor",
+            [content(first.light)])
     run.ask("a page without a count", [], "/rd-lookup/res?page=1", [refused("4.00", "query")])
     run.ask("a count that is no number", [], "/rd-lookup/res?count=few",
             [refused("4.00", "query")])
@@ -156,7 +158,7 @@ def resource_lookup(run):
 
 def endpoint_lookup(run):
     run.group("Endpoint lookup (RFC 9176 section 6)")
-    first = First(run, "node1")
+    first = FirstThree(run, "node1")
     rows = [
         ("all endpoints", "", first.endpoints),
         ("by the name", "ep=node1", f"{first.node1},{first.other}"),
@@ -179,43 +181,46 @@ def endpoint_lookup(run):
 
 def update(run):
     run.group("Update (RFC 9176 section 5.3.1)")
-    moved = First(run, "node1-moved", MOVED)
-    first = First(run, "node1")
-    run.ask("a lease begins anew", ["-m", "post"], "/rd/1?lt=7200", [CHANGED_BARE],
+    moved = FirstThree(run, "node1-moved", MOVED)
+    first = FirstThree(run, "node1")
+    run.ask("an update begins the lease anew", ["-m", "post"], "/rd/1?lt=7200", [CHANGED_BARE],
             device="node1")
-    run.ask("from another port", ["-m", "post"], "/rd/1", [CHANGED_BARE], device="node1-moved")
-    run.ask("the links have moved there", [], "/rd-lookup/res?ep=node1",
+    run.ask("an update comes from another port", ["-m", "post"], "/rd/1", [CHANGED_BARE],
+            device="node1-moved")
+    run.ask("the links are listed at that port", [], "/rd-lookup/res?ep=node1",
             [content(moved.first_links)])
-    run.ask("where the address was given", ["-m", "post"], "/rd/2", [CHANGED_BARE])
-    run.ask("it stays", [], "/rd-lookup/res?ep=node2", [content(first.second_links)])
-    run.ask("another address and another attribute", ["-m", "post"],
+    run.ask("an update comes for the device whose address was given", ["-m", "post"], "/rd/2",
+            [CHANGED_BARE])
+    run.ask("its links stay at that address", [], "/rd-lookup/res?ep=node2",
+            [content(first.second_links)])
+    run.ask("an update gives another address and another attribute", ["-m", "post"],
             f"/rd/2?base={MOVED}&et=oic.d.light", [CHANGED_BARE])
-    run.ask("the links have moved too", [], "/rd-lookup/res?ep=node2",
+    run.ask("the links are listed at the other address", [], "/rd-lookup/res?ep=node2",
             [content(moved.second_links)])
-    run.ask("and the attribute is the new one", [], "/rd-lookup/ep?et=oic.d.*",
+    run.ask("the endpoint is listed with the other attribute", [], "/rd-lookup/ep?et=oic.d.*",
             [content(moved.node2.replace("oic.d.sensor", "oic.d.light"))])
-    run.ask("with links", post(First.SENT[0]), "/rd/1", [refused("4.00", "payload")])
-    run.ask("with a name", ["-m", "post"], "/rd/1?ep=node9", [refused("4.00", "query")])
-    run.ask("of nothing", ["-m", "post"], "/rd/99", [refused("4.04", "registration")])
+    run.ask("an update with links", post(FirstThree.SENT[0]), "/rd/1", [refused("4.00", "payload")])
+    run.ask("an update with a name", ["-m", "post"], "/rd/1?ep=node9", [refused("4.00", "query")])
+    run.ask("an update of nothing", ["-m", "post"], "/rd/99", [refused("4.04", "registration")])
 
 
 def removal(run):
     run.group("Removal (RFC 9176 section 5.3.2), and the end of a lease (section 5)")
-    moved = First(run, "node1-moved")
+    moved = FirstThree(run, "node1-moved")
     delete = ["-m", "delete"]
     run.ask("a registration is removed", delete, "/rd/3", [DELETED_BARE])
-    run.ask("it is there no more", [], "/rd-lookup/ep?ep=node1", [content(moved.node1)])
-    run.ask("and is not removed again", delete, "/rd/3", [refused("4.04", "registration")])
-    run.ask("nor updated", ["-m", "post"], "/rd/3", [refused("4.04", "registration")])
-    run.ask("registered again it has a new number", ["-m", "post"], "/rd?ep=node1&d=floor2",
-            [created(4)], device="node3")
-    run.ask("a lease of two seconds", post("</brief>"), "/rd?ep=brief&lt=2", [created(5)],
-            device="brief")
-    run.ask("is found while it runs", [], "/rd-lookup/res?ep=brief",
+    run.ask("it is listed no more", [], "/rd-lookup/ep?ep=node1", [content(moved.node1)])
+    run.ask("it is not removed again", delete, "/rd/3", [refused("4.04", "registration")])
+    run.ask("it is not updated", ["-m", "post"], "/rd/3", [refused("4.04", "registration")])
+    run.ask("the device registers again, under a new number", ["-m", "post"],
+            "/rd?ep=node1&d=floor2", [created(4)], device="node3")
+    run.ask("a device registers for two seconds", post("</brief>"), "/rd?ep=brief&lt=2",
+            [created(5)], device="brief")
+    run.ask("it is listed while they run", [], "/rd-lookup/res?ep=brief",
             [content(f"<{run.base('brief')}/brief>")])
     time.sleep(2.1)
-    run.ask("and is gone after it, without a word", [], "/rd-lookup/res?ep=brief", [content()])
-    run.ask("so that it cannot be updated", ["-m", "post"], "/rd/5",
+    run.ask("it is not listed after them", [], "/rd-lookup/res?ep=brief", [content()])
+    run.ask("it is not updated after them", ["-m", "post"], "/rd/5",
             [refused("4.04", "registration")])
 
 
@@ -228,9 +233,9 @@ def block_wise(run):
             ["-b", "1024", *post_file(run.folder, "many.links", sent)], "/rd?ep=many",
             uploaded(len(sent), 1_024, 6), device="many")
     run.ask("it is listed in blocks, all under one tag", [], links, blocks(listing, 1_024))
-    run.ask("in blocks of 64", ["-b", "64"], links, blocks(listing, 64))
-    run.ask("the fourth block of 512 alone", ["-b", "3,512"], links, blocks(listing, 512)[3:4])
-    run.ask("from a block past the end", ["-b", "200,64"], links, [refused("4.00", "block")])
+    run.ask("it is listed in blocks of 64", ["-b", "64"], links, blocks(listing, 64))
+    run.ask("its fourth block of 512 alone", ["-b", "3,512"], links, blocks(listing, 512)[3:4])
+    run.ask("a block past its end", ["-b", "200,64"], links, [refused("4.00", "block")])
     run.ask("the list again, in the blocks that the client chooses",
             post_file(run.folder, "many.links", sent), "/rd?ep=many",
             uploaded(len(sent), 1_024, 6), device="many")
@@ -240,10 +245,10 @@ def block_wise(run):
             uploaded(len(short), 64, 7), device="few")
     run.ask("it is listed whole", [], "/rd-lookup/res?ep=few",
             [content(at(run.base("few"), few))])
-    run.ask("a list of more octets than are taken",
+    run.ask("a list of one octet more than are taken",
             post_file(run.folder, "long.links", f"</{'x' * (MOST_UPLOADED - 2)}>"),
             "/rd?ep=long", too_long(MOST_UPLOADED + 1, 1_024))
-    run.ask("is not there", [], "/rd-lookup/ep?ep=long", [content()])
+    run.ask("that device is not listed", [], "/rd-lookup/ep?ep=long", [content()])
 
 
 def too_long(octet_count: int, size: int) -> list[str]:
@@ -258,26 +263,25 @@ def notice(body: str, tag: str, observe: int, *block: str) -> str:
 
 def observing(run):
     run.group("Observed lookups (RFC 7641)")
-    lamps = [f"<{run.base(name)}/lamp>;rt=\"lamp\"" for name in ("lamp1", "lamp2")]
-    lamp = post('</lamp>;rt="lamp"')
-    watch = run.begin("the observer of the lamps was told just of that", ["-s", "5"],
-                      "/rd-lookup/res?rt=lamp")
-    run.ask("while a client observes the lamps, one comes", lamp, "/rd?ep=lamp1", [created(8)],
-            device="lamp1")
+    link = '</lamp>;rt="lamp"'
+    lamp1, lamp2 = at(run.base("lamp1"), [link]), at(run.base("lamp2"), [link])
+    watch = run.begin("the observer was told of each change of the lamps, and of nothing else",
+                      ["-s", "5"], "/rd-lookup/res?rt=lamp")
+    run.ask("while a client observes the lamps, a lamp registers", post(link), "/rd?ep=lamp1",
+            [created(8)], device="lamp1")
     watch.until(2)
-    run.ask("another comes, for one second", lamp, "/rd?ep=lamp2&lt=1", [created(9)],
-            device="lamp2")
+    run.ask("another lamp registers, for one second", post(link), "/rd?ep=lamp2&lt=1",
+            [created(9)], device="lamp2")
     watch.until(3)
-    run.ask("a pump comes", post('</pump>;rt="pump"'), "/rd?ep=pump", [created(10)])
+    run.ask("a pump registers", post('</pump>;rt="pump"'), "/rd?ep=pump", [created(10)])
     watch.until(4)
-    run.ask("the second lamp has lapsed, and the first is removed", ["-m", "delete"], "/rd/8",
+    run.ask("after the second lamp has lapsed the first is removed", ["-m", "delete"], "/rd/8",
             [DELETED_BARE])
-    run.finish(watch, [content(observe=1), notice(lamps[0], "B", 2),
-                       notice(",".join(lamps), "C", 3), notice(lamps[0], "D", 4),
-                       notice("", "E", 5)])
+    run.finish(watch, [content(observe=1), notice(lamp1, "B", 2), notice(f"{lamp1},{lamp2}", "C", 3),
+                       notice(lamp1, "D", 4), notice("", "E", 5)])
     observing_endpoints(run)
     observing_blocks(run)
-    run.ask("the end of an observation that never was", ["-O", "6,0x01"],
+    run.ask("an observation that never was is ended, by a lookup", ["-O", "6,0x01"],
             "/rd-lookup/res?rt=lamp", [content()])
 
 
@@ -287,12 +291,12 @@ def observing_endpoints(run):
         return (f'</rd/11>;base="{run.base("lamp1")}";ep="lamp1";rt="core.rd-ep"'
                 f';et="{kind}"')
 
-    watch = run.begin("the observer of the endpoints was told just of that", ["-s", "2"],
+    watch = run.begin("the observer was told of both changes", ["-s", "3"],
                       "/rd-lookup/ep?et=oic.d.l*")
-    run.ask("while a client observes endpoints of a type, one comes", ["-m", "post"],
+    run.ask("while a client observes endpoints of a type, another registers", ["-m", "post"],
             "/rd?ep=lamp1&et=oic.d.lamp", [created(11)], device="lamp1")
     watch.until(2)
-    run.ask("and becomes another", ["-m", "post"], "/rd/11?et=oic.d.led", [CHANGED_BARE],
+    run.ask("an update changes its type", ["-m", "post"], "/rd/11?et=oic.d.led", [CHANGED_BARE],
             device="lamp1")
     watch.until(3)
     light = f'</rd/2>;base="{MOVED}";ep="node2";d="floor2";rt="core.rd-ep";et="oic.d.light"'
@@ -308,7 +312,7 @@ def observing_blocks(run):
     first, *rest = blocks(listing, 1_024)
     watch = run.begin("the observer got the first block as a notice, and then the rest",
                       ["-s", "3"], "/rd-lookup/res?ep=wall")
-    run.ask("while a client observes a device, it comes with a long list",
+    run.ask("while a client observes a device, it registers a long list",
             post_file(run.folder, "many.links", sent), "/rd?ep=wall",
             uploaded(len(sent), 1_024, 12), device="wall")
     watch.until(1 + len(rest) + 1)
@@ -320,16 +324,17 @@ def observing_blocks(run):
 def validation(run):
     run.group("Validation by entity tag (RFC 7252 section 5.10.6)")
     links = "/rd-lookup/res?ep=node2"
-    listing = First(run, "node1", MOVED).second_links
-    came = run.ask("a lookup has a tag", [], links, [content(listing)])
+    listing = FirstThree(run, "node1", MOVED).second_links
+    came = run.ask("a lookup is answered under a tag", [], links, [content(listing)])
     tag = (tags(came) or ["0x00"])[0]
     valid = text_of("ACK", "2.03", [f"ETag:{tag}"])
-    run.ask("asked again with it, it is still valid", ["-O", f"4,{tag}"], links, [valid])
-    run.ask("also where it is the second of two", ["-O", "4,0x0102", "-O", f"4,{tag}"], links,
-            [valid])
-    run.ask("another tag is not", ["-O", "4,0x0102"], links, [content(listing)])
-    run.ask("after an update", ["-m", "post"], "/rd/2", [CHANGED_BARE])
-    run.ask("neither is the first one", ["-O", f"4,{tag}"], links, [content(listing)])
+    run.ask("asked with that tag, it is valid still", ["-O", f"4,{tag}"], links, [valid])
+    run.ask("asked with another tag and that one, it is valid still",
+            ["-O", "4,0x0102", "-O", f"4,{tag}"], links, [valid])
+    run.ask("asked with another tag alone, it is listed", ["-O", "4,0x0102"], links,
+            [content(listing)])
+    run.ask("an update changes the directory", ["-m", "post"], "/rd/2", [CHANGED_BARE])
+    run.ask("asked with the first tag, it is listed", ["-O", f"4,{tag}"], links, [content(listing)])
 
 
 def simple_registration(run):
@@ -347,16 +352,17 @@ def served_by_libcoap(run):
     tried for that long."""
     port = run.port("simple")
     served = run.serve_links("simple")
-    run.ask(f"a device asks to be registered, where {run.device} -A 127.0.0.1 -p {port} serves",
+    run.ask(f"a device asks, where {run.device} -A 127.0.0.1 -p {port} serves its links",
             ["-m", "post", "-l", "2-100"], "/.well-known/rd?ep=simple", [CHANGED_BARE],
             device="simple")
-    run.ask("its links are found, within five seconds", [], "/rd-lookup/res?ep=simple",
+    run.ask("its links are listed, within five seconds", [], "/rd-lookup/res?ep=simple",
             [content(served.replace("</", f"<{run.base('simple')}/"))], seconds=5)
-    run.ask("and it itself", [], "/rd-lookup/ep?ep=simple",
+    run.ask("it is listed itself", [], "/rd-lookup/ep?ep=simple",
             [content(f'</rd/13>;base="{run.base("simple")}";ep="simple";rt="core.rd-ep"')])
-    run.ask("with links of its own", ["-m", "post", "-e", "</x>"], "/.well-known/rd?ep=simple",
+    run.ask("a device asks with links", ["-m", "post", "-e", "</x>"], "/.well-known/rd?ep=simple",
             [refused("4.00", "payload")])
-    run.ask("without a name", ["-m", "post"], "/.well-known/rd", [refused("4.00", "query")])
+    run.ask("a device asks without a name", ["-m", "post"], "/.well-known/rd",
+            [refused("4.00", "query")])
 
 
 def served_by_octets(run):
@@ -379,7 +385,7 @@ def served_by_octets(run):
               octets(CON, GET, mid_of(came[2:3]), fetch, [*core, (BLOCK2, b"\x10")])]
     run.tell("a device is asked for its list, block by block", f"(octets) {asked.hex()}",
              [each.hex() for each in wanted], [each.hex() for each in came])
-    run.ask("which is found then, at once", [], "/rd-lookup/res?ep=tiny",
+    run.ask("its link is listed, within a second", [], "/rd-lookup/res?ep=tiny",
             [content(f'<{run.base("tiny")}/tiny>;rt="tiny"')], seconds=1)
 
 
@@ -410,11 +416,11 @@ def refusals(run):
         ("no path", [], "/", "4.04", "path"),
         ("a number with a zero before it", ["-m", "post"], "/rd/01", "4.04", "path"),
         ("a registration is not read", [], "/rd/1", "4.05", "method"),
-        ("nor put", ["-m", "put", "-e", "</x>"], "/rd/1", "4.05", "method"),
-        ("the directory is not read where it is registered at", [], "/rd", "4.05", "method"),
+        ("a registration is not put", ["-m", "put", "-e", "</x>"], "/rd/1", "4.05", "method"),
+        ("the registration resource is not read", [], "/rd", "4.05", "method"),
         ("a lookup is not posted", ["-m", "post"], lookup, "4.05", "method"),
-        ("nor removed", ["-m", "delete"], "/rd-lookup/ep", "4.05", "method"),
-        ("nor fetched", ["-m", "fetch", "-e", "x"], lookup, "4.05", "method"),
+        ("a lookup is not removed", ["-m", "delete"], "/rd-lookup/ep", "4.05", "method"),
+        ("a lookup has no FETCH", ["-m", "fetch", "-e", "x"], lookup, "4.05", "method"),
         ("a lookup in JSON", ["-A", "50"], lookup, "4.06", "accept"),
         ("links in JSON", ["-m", "post", "-t", "50", "-e", "[]"], "/rd?ep=x", "4.15", "format"),
         ("no name", post("</x>"), "/rd", "4.00", "query"),
@@ -432,7 +438,7 @@ def refusals(run):
     ]
     for name, options, resource, code, word in rows:
         run.ask(name, options, resource, [refused(code, word)])
-    run.ask("links in the format that is named are fine", ["-A", "40"], f"{lookup}?ep=x",
+    run.ask("a lookup in the format of links is fine", ["-A", "40"], f"{lookup}?ep=x",
             [content()])
 
 
@@ -448,7 +454,7 @@ def messages_as_octets(run):
     again = registered(0x0104, "again", 16)
     run.send("a registration that comes again gets the same answer", [again[0]] * 2,
              [again[1]] * 2, device="again")
-    run.ask("and there is one", [], "/rd-lookup/ep?ep=again",
+    run.ask("and there is one registration", [], "/rd-lookup/ep?ep=again",
             [content(f'</rd/16>;base="{run.base("again")}";ep="again";rt="core.rd-ep"')])
     found_at_once(run)
 

@@ -8,6 +8,7 @@ import string
 # with the message, as `v:1 t:ACK c:2.05 i:0001 {01} [ Content-Format:.. ] :: 'payload'`.
 CAME = re.compile(r"received \d+ bytes$")
 MESSAGE = re.compile(r"^v:1 t:(\w+) c:(\S+) i:\w+ \{\w*\} \[ ?(.*?) ?\](?: :: '(.*)')?$")
+REQUEST = re.compile(r"\w+ [A-Z]")
 
 LINK_FORMAT = "Content-Format:application/link-format"
 
@@ -37,9 +38,10 @@ def shown(line: str) -> str:
 
 
 def came(output: str) -> list[str]:
-    """The messages that came to coap-client, by its output."""
+    """The answers that came to coap-client, by its output. A request is none."""
     lines = output.splitlines()
-    return [shown(after) for line, after in zip(lines, lines[1:]) if CAME.search(line)]
+    messages = [shown(after) for line, after in zip(lines, lines[1:]) if CAME.search(line)]
+    return [message for message in messages if not REQUEST.match(message)]
 
 
 def tags(messages: list[str]) -> list[str]:

@@ -1,12 +1,13 @@
 #!/usr/bin/env python3
-"""Runs real clients against the server: `clients/run.py [--workers N]... [PROGRAM]`.
+"""Runs real clients against the server: `clients/run.py [--workers N].. [--answers] [PROGRAM]`.
 
 For each number of workers rd_serve is started on a free port of 127.0.0.1 and driven by libcoap's
 coap-client, case after case (clients/cases.py). Each case prints one line: whether it passed, what
-it shows, and the command as it can be typed. The last line counts them. What is wanted of each
-case was written down from the RFCs and from docs/, never from what the program printed. Few cases
-are marked "(octets)": what coap-client cannot send goes out from a socket of this script.
-The status is 1 where a case failed, and 2 where there is nothing to run.
+it shows, and the command as it can be typed; it is run with `-v 7` besides, by which the client
+shows each datagram. --answers shows what came, too. The last line counts the cases. What is wanted
+of each was written down from the RFCs and from docs/, never from what the program printed. A few
+are marked "(octets)": what coap-client cannot send goes out from a socket of this script. The
+status is 1 where a case failed, and 2 where there is nothing to run.
 """
 
 import argparse
@@ -133,8 +134,9 @@ class Watch:
 class Run:
     """One server, the cases that are run against it, and how they came out."""
 
-    def __init__(self, program: str, workers: int, folder: str):
+    def __init__(self, program: str, workers: int, folder: str, with_answers: bool):
         self.program, self.workers, self.folder = program, workers, folder
+        self.with_answers = with_answers
         self.client, self.device = program_of("coap-client"), program_of("coap-server")
         self.passed = self.failed = 0
         self.next_port = FIRST_PORT
@@ -168,8 +170,15 @@ class Run:
         self.failed += not is_right
         print(f"{'passed' if is_right else 'FAILED'}  {name}: {line}", flush=True)
         if not is_right:
-            print("\n".join(f"    wanted  {each}" for each in wanted or ["nothing"]))
-            print("\n".join(f"    came    {each}" for each in came or ["nothing"]), flush=True)
+            self.tell_each("wanted", wanted)
+        if not is_right or self.with_answers:
+            self.tell_each("came", came)
+
+    @staticmethod
+    def tell_each(what: str, texts: list[str]):
+        """Tells what was wanted, or what came."""
+        for text in texts or ["nothing"]:
+            print(f"    {what:<8}{text}", flush=True)
 
     # coap-client.
 
@@ -310,10 +319,10 @@ def shortened(datagram: bytes) -> str:
     return text if len(text) <= 160 else f"{text[:32]}.. ({len(datagram)} octets)"
 
 
-def run_all(program: str, workers: int) -> int:
+def run_all(program: str, workers: int, with_answers: bool) -> int:
     """Runs all cases against a server of so many workers; how many failed."""
     with tempfile.TemporaryDirectory() as folder:
-        run = Run(program, workers, folder)
+        run = Run(program, workers, folder, with_answers)
         try:
             port = run.port("server")
             print(f"rd_serve --port {port} --workers {workers}", flush=True)
@@ -323,7 +332,7 @@ def run_all(program: str, workers: int) -> int:
             cases.run(run)
         finally:
             run.end()
-    print(f"\n{run.passed} passed, {run.failed} failed", flush=True)
+    print(f"\n{run.passed} passed, {run.failed} failed\n", flush=True)
     return run.failed
 
 
@@ -331,6 +340,7 @@ def main():
     parser = argparse.ArgumentParser(description="Runs real clients against the server.")
     parser.add_argument("program", nargs="?", default="bin/rd_serve")
     parser.add_argument("--workers", type=int, action="append", help="1 and then 4 by default")
+    parser.add_argument("--answers", action="store_true", help="shows what came, too")
     words = parser.parse_args()
     program = Path(words.program).resolve()
     if not os.access(program, os.X_OK):
@@ -338,11 +348,9 @@ def main():
         sys.exit(2)
     if not program_of("coap-client") or not program_of("coap-server"):
         install()
-    counts = words.workers or [1, 4]
     failed = 0
-    for place, workers in enumerate(counts):
-        print("\n" * (2 * (place > 0)), end="")
-        failed += run_all(str(program), workers)
+    for workers in words.workers or [1, 4]:
+        failed += run_all(str(program), workers, words.answers)
     sys.exit(failed > 0)
 
 
