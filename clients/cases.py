@@ -199,7 +199,8 @@ def update(run):
             [content(moved.second_links)])
     run.ask("the endpoint is listed with the other attribute", [], "/rd-lookup/ep?et=oic.d.*",
             [content(moved.node2.replace("oic.d.sensor", "oic.d.light"))])
-    run.ask("an update with links", post(FirstThree.SENT[0]), "/rd/1", [refused("4.00", "payload")])
+    run.ask("an update with links", post(FirstThree.SENT[0]), "/rd/1",
+            [refused("4.00", "payload")])
     run.ask("an update with a name", ["-m", "post"], "/rd/1?ep=node9", [refused("4.00", "query")])
     run.ask("an update of nothing", ["-m", "post"], "/rd/99", [refused("4.04", "registration")])
 
@@ -277,8 +278,9 @@ def observing(run):
     watch.until(4)
     run.ask("after the second lamp has lapsed the first is removed", ["-m", "delete"], "/rd/8",
             [DELETED_BARE])
-    run.finish(watch, [content(observe=1), notice(lamp1, "B", 2), notice(f"{lamp1},{lamp2}", "C", 3),
-                       notice(lamp1, "D", 4), notice("", "E", 5)])
+    run.finish(watch, [content(observe=1), notice(lamp1, "B", 2),
+                       notice(f"{lamp1},{lamp2}", "C", 3), notice(lamp1, "D", 4),
+                       notice("", "E", 5)])
     observing_endpoints(run)
     observing_blocks(run)
     run.ask("an observation that never was is ended, by a lookup", ["-O", "6,0x01"],
@@ -334,7 +336,8 @@ def validation(run):
     run.ask("asked with another tag alone, it is listed", ["-O", "4,0x0102"], links,
             [content(listing)])
     run.ask("an update changes the directory", ["-m", "post"], "/rd/2", [CHANGED_BARE])
-    run.ask("asked with the first tag, it is listed", ["-O", f"4,{tag}"], links, [content(listing)])
+    run.ask("asked with the first tag, it is listed", ["-O", f"4,{tag}"], links,
+            [content(listing)])
 
 
 def simple_registration(run):
