@@ -32,6 +32,7 @@ enum {
     HEADER = 4,
     TOKEN = 4,
     MOST_OCTETS = 1280,
+    MOST_DIGITS = 12,
     MOST_EVENTS = 256,
     POLL_MILLISECONDS = 100,
     CLASSES = 8,
@@ -76,6 +77,12 @@ static void fail(const char *what)
     exit(1);
 }
 
+static void fail_long(void)
+{
+    errno = EMSGSIZE;
+    fail("request");
+}
+
 static void *room(size_t count, size_t size)
 {
     void *memory = calloc(count, size);
@@ -95,10 +102,8 @@ static uint64_t now(void)
 
 static void add(struct message *message, const void *octets, size_t length)
 {
-    if (message->length + length > MOST_OCTETS) {
-        errno = EMSGSIZE;
-        fail("request");
-    }
+    if (message->length + length > MOST_OCTETS)
+        fail_long();
     memcpy(message->octets + message->length, octets, length);
     message->length += length;
 }
@@ -132,9 +137,13 @@ static void add_options(struct message *message, unsigned *last, unsigned number
 static void with_number(char *into, size_t size, const char *text, unsigned number)
 {
     size_t length = 0;
-    for (; *text != '\0' && length + 12 < size; text++)
-        length += (size_t)(*text == '#' ? sprintf(into + length, "%u", number)
-                                        : (into[length] = *text, 1));
+    for (; *text != '\0' && length + MOST_DIGITS < size; text++)
+        if (*text == '#')
+            length += (size_t)sprintf(into + length, "%u", number);
+        else
+            into[length++] = *text;
+    if (*text != '\0')
+        fail_long();
     into[length] = '\0';
 }
 

@@ -21,6 +21,7 @@ import contextlib
 import itertools
 import os
 import shutil
+import signal
 import socket
 import subprocess
 import sys
@@ -120,6 +121,17 @@ def on(places: list[int]) -> Callable[[], None]:
     return lambda: os.sched_setaffinity(0, places)
 
 
+def said_by(load: subprocess.Popen) -> str:
+    """What a load says at its end, nothing where that does not come in time."""
+    with load:
+        try:
+            return load.communicate(timeout=LOAD_LIMIT)[0]
+        except subprocess.TimeoutExpired:
+            return ""
+        finally:
+            load.kill()
+
+
 class Server:
     """A server that runs, with the kind of answer that it gives."""
 
@@ -175,12 +187,7 @@ class Server:
         """What came of loads that run at the same time."""
         answers = Answers()
         for load in loads:
-            try:
-                said = load.communicate(timeout=LOAD_LIMIT)[0]
-            except subprocess.TimeoutExpired:
-                load.kill()
-                said = load.communicate()[0]
-            told = dict(pair.split("=") for pair in said.split())
+            told = dict(pair.split("=") for pair in said_by(load).split())
             answers.count += int(told.get(self.answer, 0))
             answers.lost += int(told.get("lost", 0))
             answers.seconds = max(answers.seconds, float(told.get("seconds", 0)))
@@ -421,6 +428,7 @@ def main():
     parser.add_argument("program", nargs="?", default="bin/rd_serve")
     parser.add_argument("--quick", action="store_true", help="without the row that takes minutes")
     words = parser.parse_args()
+    signal.signal(signal.SIGTERM, lambda *_: sys.exit(1))
     program = str(Path(words.program).resolve())
     builds = ["coap-rd", "coap-rd-notls", "coap-rd-openssl", "coap-rd-gnutls"]
     libcoap = next(filter(shutil.which, builds), "")

@@ -348,6 +348,7 @@ def main():
         sys.exit(2)
     if not program_of("coap-client") or not program_of("coap-server"):
         install()
+    signal.signal(signal.SIGTERM, lambda *_: sys.exit(1))
     failed = 0
     for workers in words.workers or [1, 4]:
         failed += run_all(str(program), workers, words.answers)
