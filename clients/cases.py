@@ -32,6 +32,9 @@ MOST_UPLOADED = 8_192
 # How many registrations are each looked up right after they were made.
 PAIRS = 200
 
+# Receives of a server that ends by itself, each of at most 50 milliseconds.
+FEW_TURNS = "20"
+
 # Seconds that a socket waits for a datagram that is to come.
 WAIT_LIMIT = 5
 
@@ -374,7 +377,7 @@ def served_by_octets(run):
     fetch = (2).to_bytes(8, "big")
     blocks_of_list = [(b"\x08", b'</tiny>;rt="tiny'), (b"\x10", b'"')]
     came = []
-    with run.socket("tiny") as device:
+    with run.open_socket("tiny") as device:
         device.settimeout(WAIT_LIMIT)
         device.send(asked)
         came += received(device)
@@ -447,16 +450,16 @@ def refusals(run):
 
 def messages_as_octets(run):
     run.group("What coap-client does not send")
-    run.send("a ping", [octets(CON, EMPTY, 0x0102)], [octets(RST, EMPTY, 0x0102)])
-    run.send("a datagram that is no message", [bytes.fromhex("49011234")],
-             [octets(RST, EMPTY, 0x1234)])
-    run.send("a datagram of 5,000 octets gets nothing, and the next one is answered",
-             [octets(CON, GET, 2, b"\x01", path("nothing"), b"x" * 5_000),
-              octets(CON, EMPTY, 0x0103)], [octets(RST, EMPTY, 0x0103)])
-    run.send("an empty datagram gets nothing", [b""], [])
-    again = registered(0x0104, "again", 16)
-    run.send("a registration that comes again gets the same answer", [again[0]] * 2,
-             [again[1]] * 2, device="again")
+    ping, reset = octets(CON, EMPTY, 0x0102), octets(RST, EMPTY, 0x0102)
+    long = octets(CON, GET, 0x0103, b"\x01", path("nothing"), b"x" * 5_000)
+    run.send("a ping is reset", [(ping, reset)])
+    run.send("a confirmable datagram that is no message is reset",
+             [(bytes.fromhex("49011234"), octets(RST, EMPTY, 0x1234))])
+    run.send("an empty datagram gets nothing, and the next one is answered",
+             [(b"", b""), (ping, reset)])
+    run.send("so it is with a datagram of more than 4,096 octets", [(long, b""), (ping, reset)])
+    run.send("a registration that comes again gets the same answer",
+             [registered(0x0104, "again", 16)] * 2, device="again")
     run.ask("and there is one registration", [], "/rd-lookup/ep?ep=again",
             [content(f'</rd/16>;base="{run.base("again")}";ep="again";rt="core.rd-ep"')])
     found_at_once(run)
@@ -472,7 +475,7 @@ def registered(mid: int, name: str, number: int) -> tuple[bytes, bytes]:
 def found_at_once(run):
     """What was registered is found by the next lookup, whichever workers hear the two."""
     missing = 0
-    with run.socket() as device, run.socket() as client:
+    with run.open_socket() as device, run.open_socket() as client:
         link = f"<coap://127.0.0.1:{device.getsockname()[1]}/x>".encode()
         for each in (device, client):
             each.settimeout(WAIT_LIMIT)
@@ -489,11 +492,14 @@ def found_at_once(run):
 
 
 def ends(run):
-    run.group("The server's own words")
-    port = run.port("server")
-    run.end_of("a port that is taken", ["--port", str(port)], ["status 6", "socket"])
+    run.group("The server's own words and its end")
+    port = run.port("short")
+    run.end_of("a port that is taken", ["--port", str(run.port("server"))],
+               ["status 6", "socket"])
     run.end_of("words that it has not", ["--workers", "17"], ["status 3", "usage: rd_serve"])
-    run.served("a server of few turns ends, and says what it served")
+    run.end_of("a server of few turns ends, and says that it answered each ping",
+               ["--port", str(port), "--workers", str(run.workers), "--turns", FEW_TURNS],
+               ["status 0", "served N N 0"], pinged=port)
 
 
 def run(run_of_cases):

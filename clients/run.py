@@ -31,13 +31,10 @@ FIRST_PORT = 20_000
 
 # Seconds: how long one run of a client may take, how long something that comes by itself is
 # waited for, how long nothing is to come, and how long the server may take to begin or to end.
-RUN_LIMIT = 20
+RUN_LIMIT = 10
 WAIT_LIMIT = 5
 QUIET = 0.3
 SERVER_LIMIT = 5
-
-# Receives of a server that ends by itself, each of at most 50 milliseconds.
-FEW_TURNS = 20
 
 # The names that builds of libcoap give their programs, the plain one first.
 BUILDS = ["", "-notls", "-openssl", "-gnutls", "-mbedtls", "-tinydtls"]
@@ -52,15 +49,19 @@ def program_of(name: str) -> str:
     return next((name + build for build in BUILDS if shutil.which(name + build)), "")
 
 
+def is_installed() -> bool:
+    """Whether the programs of libcoap that are wanted are there."""
+    return all(program_of(name) for name in ("coap-client", "coap-server"))
+
+
 def install():
-    """Installs libcoap's programs, by the package of Debian."""
-    print(f"coap-client is not there: apt-get install {PACKAGE}", flush=True)
-    done = None
+    """Installs the programs of libcoap, by the package of Debian."""
+    print(f"coap-client or coap-server is not there: apt-get install {PACKAGE}", flush=True)
     if shutil.which("apt-get"):
         words = ["apt-get", "install", "--yes", "--quiet", PACKAGE]
-        done = subprocess.run(words, stdout=subprocess.DEVNULL, check=False)
-    if done is None or done.returncode != 0:
-        print(f"it could not be installed; {PACKAGE} has it on Debian", file=sys.stderr)
+        subprocess.run(words, stdin=subprocess.DEVNULL, stdout=subprocess.DEVNULL, check=False)
+    if not is_installed():
+        print(f"they could not be installed; Debian has them in {PACKAGE}", file=sys.stderr)
         sys.exit(2)
 
 
@@ -100,6 +101,10 @@ def is_answered(port: int, request: bytes, answer: bytes) -> bool:
             except OSError:
                 time.sleep(0.02)
     return False
+
+
+class ServerEnded(Exception):
+    """The server has ended while cases were run against it."""
 
 
 class Watch:
@@ -142,6 +147,7 @@ class Run:
         self.next_port = FIRST_PORT
         self.ports: dict[str, int] = {}
         self.started: list[subprocess.Popen] = []
+        self.server: subprocess.Popen | None = None
 
     # Ports.
 
@@ -173,6 +179,8 @@ class Run:
             self.tell_each("wanted", wanted)
         if not is_right or self.with_answers:
             self.tell_each("came", came)
+        if self.server.poll() is not None:
+            raise ServerEnded
 
     @staticmethod
     def tell_each(what: str, texts: list[str]):
@@ -234,25 +242,25 @@ class Run:
 
     # Octets.
 
-    def send(self, name: str, datagrams: list[bytes], wanted: list[bytes], device: str = ""):
-        """A case of octets from a socket: each answer is waited for, then nothing more comes."""
-        came = self.exchange(datagrams, len(wanted), device)
-        line = f"(octets) {' '.join(shortened(each) for each in datagrams)}"
-        self.tell(name, line, [each.hex() for each in wanted], [each.hex() for each in came])
+    def send(self, name: str, datagrams: list[tuple[bytes, bytes]], device: str = ""):
+        """A case of octets from a socket: datagrams, each with its answer, or with none."""
+        line = f"(octets) {' '.join(shortened(asked) for asked, _ in datagrams)}"
+        wanted = [answer.hex() for _, answer in datagrams if answer]
+        self.tell(name, line, wanted, [each.hex() for each in self.exchange(datagrams, device)])
 
-    def exchange(self, datagrams: list[bytes], answers: int, device: str = "") -> list[bytes]:
-        """What comes to a socket that sends datagrams, each after the answer to the last one."""
+    def exchange(self, datagrams: list[tuple[bytes, bytes]], device: str) -> list[bytes]:
+        """All that comes to a socket that sends datagrams, each after the last one's answer."""
         came = []
-        with self.socket(device) as asking:
-            for datagram in datagrams:
-                asking.settimeout(WAIT_LIMIT if len(came) < answers else QUIET)
+        with self.open_socket(device) as asking:
+            for datagram, answer in datagrams:
+                asking.settimeout(WAIT_LIMIT if answer else QUIET)
                 asking.send(datagram)
                 came += messages.received(asking)
             asking.settimeout(QUIET)
             came += messages.received(asking)
         return came
 
-    def socket(self, device: str = "") -> socket.socket:
+    def open_socket(self, device: str = "") -> socket.socket:
         """A socket to the server, at the port of a device where one is named."""
         asking = socket.socket(socket.AF_INET, socket.SOCK_DGRAM)
         asking.bind((HOST, self.port(device) if device else 0))
@@ -268,35 +276,31 @@ class Run:
         self.started.append(process)
         return process
 
-    def serve(self, port: int, turns: int = 0) -> subprocess.Popen | None:
-        """Starts a server, and waits until it answers a ping."""
+    def serve(self):
+        """Starts the server, and waits until it answers a ping."""
+        port = self.port("server")
         words = ["--port", str(port), "--workers", str(self.workers)]
-        words += ["--turns", str(turns)] if turns else []
-        server = self.start([self.program, *words])
-        return server if is_answered(port, PING, PONG) else None
+        print(f"rd_serve {shlex.join(words)}", flush=True)
+        self.server = self.start([self.program, *words])
+        if not is_answered(port, PING, PONG):
+            end(self.server)
+            raise ServerEnded
 
-    def end_of(self, name: str, words: list[str], wanted: list[str]):
-        """A case: the server's own words, with the status and the text of its end."""
+    def end_of(self, name: str, words: list[str], wanted: list[str], pinged: int = 0):
+        """A case: a server of its own words, with the status and the text of its end.
+
+        Where a port is named to be pinged, the server is sent pings until it answers one. How many
+        it heard is not known, so that equal counts of heard and sent stand as N."""
+        server = self.start([self.program, *words])
+        if pinged:
+            is_answered(pinged, PING, PONG)
         try:
-            done = subprocess.run([self.program, *words], capture_output=True, timeout=RUN_LIMIT,
-                                  stdin=subprocess.DEVNULL, check=False)
-            came = [f"status {done.returncode}", (done.stdout + done.stderr).decode().strip()]
+            said = b"".join(server.communicate(timeout=RUN_LIMIT)).decode().strip()
+            said = re.sub(r"^served ([1-9]\d*) \1 ", "served N N ", said)
+            came = [f"status {server.returncode}", said]
         except subprocess.TimeoutExpired:
             came = ["no end"]
         self.tell(name, f"rd_serve {shlex.join(words)}", wanted, came)
-
-    def served(self, name: str):
-        """A case: a server of few turns ends by itself, and has answered each ping."""
-        port = self.port("short")
-        server = self.serve(port, FEW_TURNS)
-        came = ["no answer"]
-        if server:
-            said = server.communicate(timeout=RUN_LIMIT)[0].decode()
-            counts = re.fullmatch(r"served (\d+) (\d+) 0\n", said)
-            is_right = counts and counts[1] == counts[2]
-            came = [f"status {server.returncode}", "served N N 0" if is_right else said]
-        line = f"rd_serve --port {port} --workers {self.workers} --turns {FEW_TURNS}"
-        self.tell(name, line, ["status 0", "served N N 0"], came)
 
     def serve_links(self, device: str) -> str:
         """Starts a device that serves links of its own at its port; those that it lists."""
@@ -314,8 +318,8 @@ class Run:
 
 
 def shortened(datagram: bytes) -> str:
-    """A datagram in hexadecimal, or its beginning and its length."""
-    text = datagram.hex()
+    """A datagram in hexadecimal, `-` for an empty one, of a long one its beginning and length."""
+    text = datagram.hex() or "-"
     return text if len(text) <= 160 else f"{text[:32]}.. ({len(datagram)} octets)"
 
 
@@ -324,12 +328,12 @@ def run_all(program: str, workers: int, with_answers: bool) -> int:
     with tempfile.TemporaryDirectory() as folder:
         run = Run(program, workers, folder, with_answers)
         try:
-            port = run.port("server")
-            print(f"rd_serve --port {port} --workers {workers}", flush=True)
-            if not run.serve(port):
-                print("FAILED  the server does not answer")
-                return 1
+            run.serve()
             cases.run(run)
+        except ServerEnded:
+            run.failed += 1
+            said = b"".join(run.server.communicate()).decode().strip()
+            print(f"FAILED  the server: status {run.server.returncode} {said}".rstrip())
         finally:
             run.end()
     print(f"\n{run.passed} passed, {run.failed} failed\n", flush=True)
@@ -346,7 +350,7 @@ def main():
     if not os.access(program, os.X_OK):
         print(f"{words.program} is not there: make build", file=sys.stderr)
         sys.exit(2)
-    if not program_of("coap-client") or not program_of("coap-server"):
+    if not is_installed():
         install()
     signal.signal(signal.SIGTERM, lambda *_: sys.exit(1))
     failed = 0
