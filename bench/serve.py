@@ -430,6 +430,8 @@ def main():
     words = parser.parse_args()
     signal.signal(signal.SIGTERM, lambda *_: sys.exit(1))
     program = str(Path(words.program).resolve())
+    if not os.access(program, os.X_OK):
+        sys.exit(f"{words.program} is not there: make build")
     builds = ["coap-rd", "coap-rd-notls", "coap-rd-openssl", "coap-rd-gnutls"]
     libcoap = next(filter(shutil.which, builds), "")
     build()
