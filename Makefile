@@ -1,8 +1,12 @@
-# What a newcomer needs: `make demo` shows a trace as a conversation, `make build` makes the proved programs, `make examples` runs all stored cases, the
-# examples among them, `make bench` measures what calls cost, `make test` is the gate.
-PROGRAMS = rd_replay rd_show rd_rows
+# What a newcomer needs: `make demo` shows a trace as a conversation, `make serve` starts the server, `make build` makes the proved programs,
+# `make clients` runs real clients against the server, `make examples` runs all stored cases, the examples among them, `make bench` measures what
+# calls and the server cost, `make test` is the gate.
+PROGRAMS = rd_serve rd_replay rd_show rd_rows
 
-.PHONY: demo build examples bench test
+# The numbers of workers with which `make clients` runs the server.
+WORKERS = 1 4
+
+.PHONY: demo serve build clients examples bench test
 
 demo:
 	@echo "examples/lookup.trace, a recorded trace, and what the directory answers:"; echo
@@ -10,18 +14,27 @@ demo:
 		|| { cat out.demo out.demo.log; rm -f out.demo out.demo.log; exit 1; }
 	@sed '/^checked: /d; /^races: /d; /^run=/d; s/^/    /' crates/rd_show/out.demo; rm -f crates/rd_show/out.demo crates/rd_show/out.demo.log
 
-build:
+serve: build-rd_serve
+	@echo "It serves on coap://127.0.0.1 until it is ended by ctrl-c. To ask it, in another terminal, with coap-client of libcoap3-bin:"
+	@echo "    coap-client 'coap://127.0.0.1/.well-known/core'"
+	@echo "    coap-client -m post -t 40 -e '</temp>;rt=\"temperature\"' 'coap://127.0.0.1/rd?ep=node1'"
+	@echo "    coap-client 'coap://127.0.0.1/rd-lookup/res?rt=temperature'"
+	@bin/rd_serve
+
+build: $(PROGRAMS:%=build-%)
+
+build-%:
 	@mkdir -p bin
-	@for program in $(PROGRAMS); do \
-		(cd crates/$$program && rt run -- $$(cat args 2>/dev/null) < /dev/null > /dev/null) || exit 1; \
-		cp crates/$$program/out/$$program bin/; echo "bin/$$program"; \
-	done
+	@cd crates/$* && rt run -- $$(cat args 2>/dev/null) < /dev/null > /dev/null
+	@cp crates/$*/out/$* bin/ && echo "bin/$*"
+
+clients: build-rd_serve
+	@python3 clients/run.py $(WORKERS:%=--workers %) bin/rd_serve
 
 examples: build
 	@cd crates/rd_rows/data && ../../../bin/rd_rows < ../stdin
 
-bench:
-	@mkdir -p bin
+bench: build-rd_serve
 	@for program in rd_bench rd_replay; do \
 		(cd crates/$$program && rt run -- $$(cat args 2>/dev/null) < stdin > out.bench 2>&1) \
 			|| { cat crates/$$program/out.bench; rm -f crates/$$program/out.bench; exit 1; }; \
@@ -29,6 +42,7 @@ bench:
 	done
 	@bin/rd_bench > /dev/null
 	@python3 bench/traces.py bin/rd_replay
+	@python3 bench/serve.py bin/rd_serve
 
 test:
 	rt ci
