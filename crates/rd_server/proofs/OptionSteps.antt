@@ -3,7 +3,7 @@ use Rattle.std.proofs.Common.{◌≡◌, ℕ, List, [], ◌∷◌, Bool, true, f
 use Rattle.std.proofs.Common.{sym, subst, ◌∙◌}
 use Rattle.std.proofs.lemmas.Option.{none-some, same_Some}
 use Rattle.rd_server.specs.Fields.{cut}
-use Rattle.rd_server.specs.Options.{alone, joined, words_after}
+use Rattle.rd_server.specs.Options.{joined, words_after}
 
 module _ {A : Type 0} (is_option : List ℕ → Bool) (given : List ℕ → List ℕ → A → Option A) where
   -- no words more
@@ -44,7 +44,6 @@ module _ {A : Type 0} (is_option : List ℕ → Bool) (given : List ℕ → List
   module _ (P : A → Type 0)
       (step : (name value : List ℕ) (asked more : A) → P asked → given name value asked ≡ Some more
       → P more) where
-
     dead : (words : List (List ℕ)) (said : A) → words_after is_option given None words ≡ Some said
         → P said
     dead words said e = absurd (none-some said (sym (refused words) ∙ e))
@@ -58,7 +57,7 @@ module _ {A : Type 0} (is_option : List ℕ → Bool) (given : List ℕ → List
     goes_on : (o : Option A) (words : List (List ℕ)) (said : A)
         → ((more : A) → o ≡ Some more → P more)
         → ((more : A) → P more → words_after is_option given (Some more) words ≡ Some said
-            → P said)
+        → P said)
         → words_after is_option given o words ≡ Some said → P said
     goes_on None words said is rest e = dead words said e
     goes_on (Some more) words said is rest e = rest more (is more refl) e
@@ -76,9 +75,9 @@ module _ {A : Type 0} (is_option : List ℕ → Bool) (given : List ℕ → List
     next : (word value : List ℕ) (words : List (List ℕ)) (asked said : A) → P asked
         → words_after is_option given (Some asked) (word ∷ value ∷ words) ≡ Some said
         → ((more : A) → P more → words_after is_option given (Some more) words ≡ Some said
-            → P said)
+        → P said)
         → ((more : A) → P more
-            → words_after is_option given (Some more) (value ∷ words) ≡ Some said → P said)
+        → words_after is_option given (Some more) (value ∷ words) ≡ Some said → P said)
         → P said
     next word value words asked said is e behind beside = by (is_option word) refl
       where

@@ -1,5 +1,5 @@
 -- Calls, one alone and one after the other.
-use Rattle.std.proofs.Common.{◌≡◌, ℕ, ◌+◌, Bool, true, false, cond, List, [], ◌∷◌, ◌++◌, length}
+use Rattle.std.proofs.Common.{◌≡◌, ℕ, ◌+◌, Bool, true, false, List, [], ◌∷◌, ◌++◌, length}
 use Rattle.std.proofs.Common.{Option, None, Some, refl, sym, ap, ◌∙◌, subst, arith, inl, inr}
 use Rattle.std.specs.Prelude.{if◌then◌else◌, option_map, IfSome}
 use Rattle.std.proofs.lemmas.List.{append_assoc, append-nil, length-append}
@@ -9,12 +9,11 @@ use Rattle.rd_base.specs.declared.peers.Peer.{Peer}
 use Rattle.udp_link.specs.Told.{WhereTold, Stays}
 use Rattle.udp_link.specs.Links.{Datagram}
 use Rattle.udp_link.specs.Clocks.{GivesFirst}
-use Rattle.history_model.specs.declared.entries.Entry.{Entry}
 use Rattle.history_model.specs.Live.{IsFront}
 use Rattle.journal_model.specs.declared.rows.Row.{Row}
 use Rattle.journal_model.specs.declared.steps.Step.{Step}
 use Rattle.journal_model.specs.declared.steps.StepKind.TheVariants as step
-use Rattle.journal_model.specs.Machine.{is_look_datagram, hearing}
+use Rattle.journal_model.specs.Machine.{is_look_datagram}
 use Rattle.journal_model.specs.Rows.{row}
 use Rattle.journal_model.specs.Seats.{Seat, MakesRow, job_left}
 use Rattle.rd_desk.specs.declared.jobs.Job.{Job}
@@ -29,7 +28,7 @@ use Rattle.rd_seat.specs.Seats.{SeatSeen, seat_of, MakesStep, LooksAtMet}
 use Rattle.rd_seat.specs.Steps.{tick_step, admit_step, look_step}
 use Rattle.rd_server.specs.declared.serving.served.Served.{Served}
 use Rattle.rd_server.specs.serving.Chains.{Chain}
-use Rattle.rd_server.specs.serving.Sendings.{Sending, all_sent, all_went, number_lost}
+use Rattle.rd_server.specs.serving.Sendings.{Sending, all_sent, all_went}
 use Rattle.rd_server.specs.serving.Calls.{Call, Rowed, Viewed, Does, IsLeftBy, IsHearing, IsOfJob}
 use Rattle.rd_server.specs.serving.Calls.{GivesMoment, GivesWord, job_at, job_held, job_kept}
 use Rattle.rd_server.specs.serving.Calls.{calls_went, calls_lost, calls_starved, one_if}

@@ -1,6 +1,6 @@
 -- What the words of `rd_serve` ask for is within its limits.
-use Rattle.std.proofs.Common.{◌≡◌, ℕ, ◌≤◌, Bool, true, false, List, [], ◌∷◌, Option, Some, None, refl}
-use Rattle.std.proofs.Common.{sym, ap, ◌∙◌, subst, arith}
+use Rattle.std.proofs.Common.{◌≡◌, ℕ, ◌≤◌, List, Option, Some, None, refl}
+use Rattle.std.proofs.Common.{subst, arith}
 use Rattle.std.specs.Prelude.{IfSome, option_map, option_and_then, nat_le, unwrap_or}
 use Rattle.std.proofs.lemmas.Option.{none-some, same_Some}
 use Rattle.std.proofs.lemmas.Bool.{leb-true}
@@ -8,7 +8,6 @@ use Rattle.rd_base.proofs.lemmas.Choices.{let_through}
 use Rattle.journal_model.specs.DeskJournal.{max_workers}
 use Rattle.line_model.specs.Numbers.{number_of}
 use Rattle.line_model.proofs.Numbers.{number_of-found}
-use Rattle.rd_server.specs.declared.serving.plans.ServePlan.{ServePlan}
 use Rattle.rd_server.specs.declared.serving.plans.ServeAsked.{ServeAsked}
 use Rattle.rd_server.specs.declared.serving.plans.ServeOption.{ServeOption}
 use Rattle.rd_server.specs.declared.serving.plans.ServeOption.TheVariants as serve_option
@@ -41,9 +40,10 @@ counts_within limit text = by (number_of limit text) refl
   where
     at : (n m : ℕ) → n ≤ limit → from_one n ≡ Some m → (1 ≤ m) × (m ≤ limit)
     at n m most e =
-        let through = let_through (nat_le 1 n) n m e in
-        (subst (λ (k : ℕ). 1 ≤ k) through.1 (leb-true 1 n through.0),
-        subst (λ (k : ℕ). k ≤ limit) through.1 most)
+        let through = let_through (nat_le 1 n) n m e in (
+          subst (λ (k : ℕ). 1 ≤ k) through.1 (leb-true 1 n through.0),
+          subst (λ (k : ℕ). k ≤ limit) through.1 most,
+        )
 
     one : (n : ℕ) → n ≤ limit → (o : Option ℕ) → from_one n ≡ o → Within limit o
     one n most None e = tt
@@ -105,9 +105,9 @@ plan_within : (asked : ServeAsked) → IsAsked asked → IsPlan (plan_of asked)
 plan_within asked is =
     let port = default_within max_port 5683 asked.port (omega arith) (omega arith) is.port in
     let workers = default_within max_workers 4 asked.workers (omega arith) (omega arith)
-        is.workers in
+    is.workers in
     let turns = default_within max_turns max_turns asked.turns (omega arith) (omega arith)
-        is.turns in
+    is.turns in
     record {
       some_port = port.0;
       last_port = port.1;

@@ -1,7 +1,7 @@
 -- What clap reads in the words of a plan.
-use Rattle.std.proofs.Common.{◌≡◌, ℕ, ◌<◌, ◌≤◌, ◌^◌, List, [], ◌∷◌, ◌++◌, true, Option, Some, Result}
+use Rattle.std.proofs.Common.{◌≡◌, ℕ, ◌<◌, ◌≤◌, ◌^◌, List, [], ◌∷◌, ◌++◌, true, Some, Result}
 use Rattle.std.proofs.Common.{Ok, Err, refl, ap, ◌∙◌, subst, sym, arith, codes, decimal}
-use Rattle.std.specs.Prelude.{IfOk, IfErr, option_and_then, nat_le}
+use Rattle.std.specs.Prelude.{IfOk, IfErr, option_and_then}
 use Rattle.std.proofs.lemmas.Bool.Decides.{nat_tests}
 use Rattle.clap.specs.Walk.{Rule, Text, first_of, rows_of}
 use Rattle.clap.specs.Simple.{App, HasMatchesOf, new_app, new_rule, with_rule, on_top}
@@ -14,7 +14,6 @@ use Rattle.clap.specs.declared.error.kind.ErrorKind.TheVariants.{OutOfMemory}
 use Rattle.clap.proofs.OnLiterals.{clap_on_literals}
 use Rattle.clap.proofs.WalkLemmas.{first_value-rows}
 use Rattle.journal_model.specs.DeskJournal.{max_workers}
-use Rattle.line_model.specs.Numbers.{number_of}
 use Rattle.line_model.proofs.Numbers.{number_of-decimal}
 use Rattle.rd_server.specs.declared.serving.plans.ServePlan.{ServePlan}
 use Rattle.rd_server.specs.Words.{count_of, from_one}
@@ -77,11 +76,11 @@ pub reads_plan : (command : App) (words : List Text) (result : Result ArgMatches
     → (plan : ServePlan) → words ≡ words_of plan → ReadsPlan plan result
 reads_plan command words (Ok m) e matches passes plan is =
     let r : Reads words (decimal plan.port) (decimal plan.workers) (decimal plan.turns) =
-        subst (λ (ws : List Text). Reads ws (decimal plan.port) (decimal plan.workers)
-        (decimal plan.turns)) (sym is)
-        (reads_three (decimal plan.port) (decimal plan.workers) (decimal plan.turns)) in
+    subst (λ (ws : List Text). Reads ws (decimal plan.port) (decimal plan.workers)
+    (decimal plan.turns)) (sym is)
+    (reads_three (decimal plan.port) (decimal plan.workers) (decimal plan.turns)) in
     let rows : rows_of (found_of m) ≡ matches_of app words =
-        (matches (ap is_simple e ∙ simple)).0 ∙ ap (λ (a : App). matches_of a words) e in
+    (matches (ap is_simple e ∙ simple)).0 ∙ ap (λ (a : App). matches_of a words) e in
     record {
       port = first_value-rows (found_of m) (codes "port")
           ∙ (ap (first_of (codes "port")) rows ∙ r.port_is);

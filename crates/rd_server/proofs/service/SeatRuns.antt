@@ -1,7 +1,6 @@
 -- The calls of a worker, as calls of its seat: what it shows after them is a seat of the journal.
-use Rattle.std.proofs.Common.{◌≡◌, ℕ, List, [], ◌∷◌, refl, sym, ap, subst, inl, inr}
+use Rattle.std.proofs.Common.{ℕ, List, [], ◌∷◌, sym, ap, subst, inl, inr}
 use Rattle.atomic_table.specs.Seated.{TableId}
-use Rattle.journal_model.specs.declared.rows.Row.{Row}
 use Rattle.journal_model.specs.Rows.{row}
 use Rattle.journal_model.specs.Seats.{Seat, MakesRow}
 use Rattle.rd_seat.specs.Seats.{SeatSeen, seat_of, new_seat}
@@ -9,7 +8,7 @@ use Rattle.rd_seat.specs.Runs as runs
 use Rattle.rd_seat.specs.Runs.{HasCalled, begun, turned, looked, IsSeatAfter}
 use Rattle.rd_seat.proofs.RunLaws.{seats_are_seats}
 use Rattle.rd_server.specs.serving.Chains.{Chain}
-use Rattle.rd_server.specs.serving.Calls.{Call, Rowed, Viewed, Does}
+use Rattle.rd_server.specs.serving.Calls.{Call, Does}
 use Rattle.rd_server.specs.serving.Sendings.{all_sent}
 use Rattle.rd_server.proofs.service.CallLaws.{any_row}
 

@@ -1,5 +1,5 @@
 -- Turns, one after the other.
-use Rattle.std.proofs.Common.{◌≡◌, ℕ, ◌+◌, ◌%◌, ◌==◌, ◌<◌, Bool, true, false, List, [], ◌∷◌}
+use Rattle.std.proofs.Common.{◌≡◌, ℕ, ◌+◌, ◌%◌, ◌==◌, ◌<◌, true, false, List, [], ◌∷◌}
 use Rattle.std.proofs.Common.{◌++◌, length, Option, Ok, Err}
 use Rattle.std.proofs.Common.{refl, sym, ap, ◌∙◌, subst, arith}
 use Rattle.std.proofs.lemmas.List.{append-nil}
@@ -10,7 +10,14 @@ use Rattle.rd_base.specs.Outside.{Rose}
 use Rattle.rd_server.specs.declared.serving.served.Served.{Served}
 use Rattle.rd_server.specs.declared.serving.served.ServeFault.TheVariants as fault
 use Rattle.rd_server.specs.serving.Chains.{Chain}
-use Rattle.rd_server.specs.serving.Calls.{Call, Does, GivesMoment, GivesWord, calls_went, calls_lost}
+use Rattle.rd_server.specs.serving.Calls.{
+  Call,
+  Does,
+  GivesMoment,
+  GivesWord,
+  calls_went,
+  calls_lost,
+}
 use Rattle.rd_server.specs.serving.Workers.{WorkerSeen, RisesBy, CallsMade}
 use Rattle.rd_server.specs.serving.Turns.{Turn, TooLong, Ticks, TicksWhere, Follows, Comes}
 use Rattle.rd_server.specs.serving.Turns.{TurnComes, AllCame, calls_of, turns_heard}

@@ -95,7 +95,8 @@ job_at place (job.Keep j) = record {
 abbrev pub GivesMoment : List Moment → Call → List Moment → Type 0
 GivesMoment before c now = GivesFirst (record { 0 = 0 }) c.step.handed before now
 
--- a datagram that is heard and a tick hand in a word, which a look does not use; a job hands in none
+-- a datagram that is heard and a tick hand in a word, which a look does not use; a job hands in
+-- none
 abbrev pub GivesWordTo : StepKind → ℕ → List ℕ → List ℕ → Type 0
 GivesWordTo step.Admit word before now = GivesFirst 0 word before now
 GivesWordTo step.Look word before now = now ≡ but_first before

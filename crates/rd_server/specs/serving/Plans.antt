@@ -1,6 +1,17 @@
 -- The words of `rd_serve`: a port, a number of workers, and how many turns each has.
 use Rattle.std.specs.Prelude.{◌≡◌, ◌≤◌, ℕ, Bool, List, [], ◌∷◌, ◌++◌, codes, decimal, bytes_eq}
-use Rattle.std.specs.Prelude.{Option, Some, None, Result, Ok, Err, option_map, is_some, unwrap_or, ⊤}
+use Rattle.std.specs.Prelude.{
+  Option,
+  Some,
+  None,
+  Result,
+  Ok,
+  Err,
+  option_map,
+  is_some,
+  unwrap_or,
+  ⊤,
+}
 use Rattle.std.specs.Prelude.{option_and_then, if◌then◌else◌}
 use Rattle.clap.specs.Words.{first_value, found_of, kind_of}
 use Rattle.clap.specs.declared.parser.matches.ArgMatches.{ArgMatches}
@@ -55,7 +66,8 @@ given_to (Some serve_option.Turns) value asked = option_map
 abbrev pub given : List ℕ → List ℕ → ServeAsked → Option ServeAsked
 given name value asked = given_to (option_of name) value asked
 
--- what is asked for, where nothing is said by default: CoAP's own port (RFC 7252 section 12.6), four
+-- what is asked for, where nothing is said by default: CoAP's own port (RFC 7252 section 12.6),
+-- four
 -- workers, and as many turns as may be
 abbrev pub plan_of : ServeAsked → ServePlan
 plan_of asked = record {

@@ -4,7 +4,8 @@ ghost use Rattle.udp_link.specs.declared.links.TheConstants.{MAX_DATAGRAM};
 ghost use Rattle.rd_server.specs.serving.Calls.{Call};
 ghost use Rattle.rd_server.specs.serving.Workers.{CallsMade, worker_seen};
 ghost use Rattle.rd_server.specs.serving.Turns.{Hears, HearsAt, Turn};
-ghost use Rattle.rd_server.specs.serving.Sums.{CountsCalls, CountsTurn, GrowsBy, IsBelow, worker_most};
+ghost use Rattle.rd_server.specs.serving.Sums.{CountsCalls, CountsTurn};
+ghost use Rattle.rd_server.specs.serving.Sums.{GrowsBy, IsBelow, worker_most};
 ghost use Rattle.rd_server.specs.serving.Service.{GoesOn, TurnMade};
 
 use crate::serving::calls::{go, hear, tick};

@@ -1,4 +1,4 @@
-use Rattle.std.proofs.Common.{◌∷◌, [], Bool, refl, subst}
+use Rattle.std.proofs.Common.{Bool, subst}
 use Rattle.rd_desk.specs.Stepping.{is_starved_step}
 use Rattle.rd_seat.specs.Jobs.{last_place}
 use Rattle.rd_server.specs.serving.Calls.{Call, one_if}

@@ -1,8 +1,8 @@
-use Rattle.std.proofs.Common.{◌∷◌, [], Bool, Option, refl, sym, ap, subst, ◌∙◌}
+use Rattle.std.proofs.Common.{Bool, Option, refl, sym, ap, subst}
 use Rattle.std.specs.Prelude.{option_map, IfSome}
 use Rattle.journal_model.specs.Machine.{is_look_datagram}
 use Rattle.rd_desk.specs.declared.jobs.Job.{Job}
-use Rattle.rd_seat.specs.Heard.{is_starved_hearing, IsOpenWrite}
+use Rattle.rd_seat.specs.Heard.{IsOpenWrite}
 use Rattle.rd_seat.specs.Jobs.{last_place}
 use Rattle.rd_server.specs.serving.Calls.{Call, one_if, job_at}
 use Rattle.rd_server.specs.serving.Sums.{CountsSendings}

@@ -1,4 +1,4 @@
-use Rattle.std.proofs.Common.{◌≡◌, ◌≤◌, ◌<◌, ℕ, length, drop, slice_get, slice_index_or}
+use Rattle.std.proofs.Common.{◌≡◌, ◌≤◌, ◌<◌, ℕ, drop, slice_get, slice_index_or}
 use Rattle.rd_server.specs.declared.serving.ends.End.{End}
 use Rattle.rd_server.specs.serving.Servers.{seated}
 use Rattle.rd_server.proofs.serving.ends.seat_ends.Given as goal

@@ -1,6 +1,5 @@
-use Rattle.std.proofs.Common.{◌≡◌, subst, sym, map, ◌∙◌}
+use Rattle.std.proofs.Common.{subst, sym, map, ◌∙◌}
 use Rattle.std.specs.String.{string_bytes}
-use Rattle.rd_server.specs.declared.serving.plans.ServePlan.{ServePlan}
 use Rattle.rd_server.specs.serving.Plans.{IsPlan}
 use Rattle.rd_server.proofs.service.PlanLaws.{said-IsPlan}
 use Rattle.rd_server.proofs.serving.plans.serve_words.Goals as goal

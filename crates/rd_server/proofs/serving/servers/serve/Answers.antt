@@ -1,4 +1,4 @@
-use Rattle.std.proofs.Common.{◌≡◌, ℕ, ◌<◌, List, Option, Some, Result, length, inl, refl, sym, ap}
+use Rattle.std.proofs.Common.{◌≡◌, ℕ, ◌<◌, List, Some, Result, length, inl, refl, sym, ap}
 use Rattle.std.proofs.Common.{subst, ◌∙◌, slice_get, slice_index_or, arith}
 use Rattle.std.proofs.KnownBytes.{Appends-nil}
 use Rattle.rd_seat.specs.Seats.{SeatSeen, new_seat}

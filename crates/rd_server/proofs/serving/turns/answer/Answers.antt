@@ -4,7 +4,7 @@ use Rattle.rd_desk.specs.declared.jobs.Job.{Job}
 use Rattle.rd_desk.specs.Outboxes.{most_datagrams}
 use Rattle.journal_model.specs.Machine as machine
 use Rattle.rd_seat.specs.Jobs.{last_place}
-use Rattle.rd_server.specs.serving.Calls.{Call, job_at}
+use Rattle.rd_server.specs.serving.Calls.{job_at}
 use Rattle.rd_server.specs.serving.Turns.{DoesJob}
 use Rattle.rd_server.proofs.service.SendLaws.{IsBelow-more}
 use Rattle.rd_server.proofs.service.CallLaws.{CallsMade-then, CountsCalls-then}

@@ -1,4 +1,4 @@
-use Rattle.std.proofs.Common.{◌≡◌, ◌∷◌, [], take, refl, ◌∙◌, arith}
+use Rattle.std.proofs.Common.{◌∷◌, [], take, refl, ◌∙◌, arith}
 use Rattle.rd_server.specs.serving.Turns.{Turn, Heard, TooLong, Nothing, Failed}
 use Rattle.rd_server.specs.serving.Workers.{WorkerSeen, worker_seen}
 use Rattle.rd_server.proofs.service.TurnLaws.{

@@ -1,12 +1,7 @@
-use Rattle.std.proofs.Common.{◌≡◌, ◌+◌, ◌*◌, Bool, true, false, subst, ◌∙◌, arith}
+use Rattle.std.proofs.Common.{◌+◌, ◌*◌, Bool, true, false, subst, ◌∙◌, arith}
 use Rattle.rd_server.specs.serving.Service.{GoesOn}
 use Rattle.rd_server.proofs.service.SendLaws.{IsBelow-more}
-use Rattle.rd_server.proofs.service.TurnLaws.{
-  TurnsMade-none,
-  TurnsMade-more,
-  Serves-failed,
-  Serves-all,
-}
+use Rattle.rd_server.proofs.service.TurnLaws.{TurnsMade-none, TurnsMade-more, Serves-failed}
 use Rattle.rd_server.proofs.serving.workers.run.Goals as goal
 
 pub turns-init : goal.turns-init
