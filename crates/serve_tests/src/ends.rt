@@ -1,0 +1,52 @@
+//! Servers of several ends over links in memory.
+use crate::requests::{CREATED, REGISTRATION, clock_of, link_of, sink_of, went};
+use rd_base::Starved;
+use rd_seat::OpenGate;
+use rd_server::{End, ServeFault, ServeStatus, serve};
+use std::alloc::Global;
+use std::test::Fail;
+use udp_link::{MemClock, MemLink};
+
+/// Two ends: over the first the registration comes, and of the second's receives that of this
+/// number fails, where it makes so many.
+fn two_ends(alloc: Global, fails: u8) -> Result<[End<MemLink, MemClock>; 2], Starved> {
+    let first = link_of(alloc, &[REGISTRATION], b"", b"")?;
+    let second = link_of(alloc, &[], &[fails], b"")?;
+    Ok([
+        End::of(first, clock_of(alloc)),
+        End::of(second, clock_of(alloc)),
+    ])
+}
+
+#[test]
+fn the_sums_of_all_are_written(rt: HostRuntime) -> Result<(), Fail> {
+    let mut ends = two_ends(rt.alloc(), 9)?;
+    let mut out = sink_of(rt.alloc(), b"")?;
+    let status = serve(&rt, &mut ends, &OpenGate, 3, &mut out);
+    assert_eq!(rt; status, ServeStatus::Done);
+    assert_eq!(rt; out.as_slice(), b"served 1 1 0\n".as_slice());
+    assert!(rt; went(&ends[0].link, 0, CREATED));
+    Ok(())
+}
+
+#[test]
+fn one_link_that_fails_is_told(rt: HostRuntime) -> Result<(), Fail> {
+    let mut ends = two_ends(rt.alloc(), 1)?;
+    let mut out = sink_of(rt.alloc(), b"")?;
+    let status = serve(&rt, &mut ends, &OpenGate, 3, &mut out);
+    assert_eq!(rt; status, ServeStatus::Link);
+    assert!(rt; out.as_slice().is_empty() && ends[0].outcome.is_ok());
+    assert_eq!(rt; ends[1].outcome, Err(ServeFault::Link));
+    assert!(rt; ends[0].seat.is_some() && ends[1].seat.is_some());
+    Ok(())
+}
+
+#[test]
+fn an_output_that_fails_is_told(rt: HostRuntime) -> Result<(), Fail> {
+    let mut ends = two_ends(rt.alloc(), 9)?;
+    let mut out = sink_of(rt.alloc(), b"\0")?;
+    let status = serve(&rt, &mut ends, &OpenGate, 1, &mut out);
+    assert_eq!(rt; status, ServeStatus::Write);
+    assert!(rt; out.as_slice().is_empty());
+    Ok(())
+}

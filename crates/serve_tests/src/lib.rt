@@ -1,0 +1,13 @@
+//! Tests of serving: over links in memory, whose ends fail where that is planned, and over UDP.
+#![tactic(auto)]
+
+#[cfg(test)]
+mod ends;
+#[cfg(test)]
+mod loopback;
+#[cfg(test)]
+mod requests;
+#[cfg(test)]
+mod words;
+#[cfg(test)]
+mod workers;
