@@ -1,10 +1,14 @@
--- Texts: Cuts (by a separator), SentLines (of what is sent), LineFeeds (lines), Fronts (the beginnings of a text), WrittenPieces.
+-- Texts: Cuts (by a separator), SentLines (of what is sent), LineFeeds (lines), Fronts (the
+-- beginnings of a text), WrittenPieces.
 -- Steps: DeskSteps (the journal with the row of a step is one of a desk), JobRows (what a worker
 -- holds and drew after its own row),
---   OtherWorkers (what it leaves of the others), WorkerSteps (what the desk made of a call is the step), MachineLaws (the machine after a line), EachWorker (lists by index).
--- A replay: JournalRuns (its journal is that of its steps), LineDone (one line), Journeys (pieces of a trace), LastLines (its end), ReportLaws (status), ReplayLaws (the whole).
+--   OtherWorkers (what it leaves of the others), WorkerSteps (what the desk made of a call is the
+--   step), MachineLaws (the machine after a line), EachWorker (lists by index).
+-- A replay: JournalRuns (its journal is that of its steps), LineDone (one line), Journeys (pieces
+-- of a trace), LastLines (its end), ReportLaws (status), ReplayLaws (the whole).
 -- A made trace: MadeCounts (what is counted of its lines).
--- Words: ClapReads (what clap reads in words of each shape), WordSteps (a word after the other), WordValues (a value begins with a digit), WordShapes (what clap reads is what the words ask for).
+-- Words: OptionSteps (one after the other), OptionValues (their numbers), WordLaws (what they ask
+-- for), ClapReads (what clap reads in them).
 pub mod OtherWorkers
 pub mod EachWorker
 pub mod MachineLaws
@@ -26,10 +30,9 @@ pub mod DeskSteps
 pub mod JobRows
 pub mod WorkerSteps
 pub mod ClapReads
-pub mod WordSteps
-pub mod WordValues
 pub mod OptionSteps
-pub mod WordShapes
+pub mod OptionValues
+pub mod WordLaws
 pub mod MadeCounts
 pub mod MadeTexts
 mod examples

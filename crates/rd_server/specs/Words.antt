@@ -1,12 +1,15 @@
--- The words of the command line: names with their values, each once at most, in any order, as two words or joined by `=`.
-use Rattle.std.specs.Prelude.{◌≡◌, ◌≤◌, ℕ, List, [], ◌∷◌, nat_le, codes, Option, Some, None, Result, Ok, Err, bytes_eq, if◌then◌else◌, option_and_then, option_map, is_some, unwrap_or, ⊤}
+-- The words of the command line of `rd_replay`: a number of workers, and of devices.
+use Rattle.std.specs.Prelude.{◌≡◌, ◌≤◌, ℕ, Bool, List, [], ◌∷◌, ◌++◌, nat_le, codes, decimal}
+use Rattle.std.specs.Prelude.{Option, Some, None, Result, Ok, Err, bytes_eq, if◌then◌else◌}
+use Rattle.std.specs.Prelude.{option_and_then, option_map, is_some, unwrap_or, IfSome, ⊤}
+use Rattle.clap.specs.Words.{first_value, found_of}
+use Rattle.clap.specs.declared.parser.matches.ArgMatches.{ArgMatches}
 use Rattle.line_model.specs.Numbers.{number_of}
 use Rattle.journal_model.specs.DeskJournal.{max_workers}
-use Rattle.rd_server.specs.Fields.{cut}
+use Rattle.rd_server.specs.Options.{words_after}
 use Rattle.rd_server.specs.declared.words.Words.{Words}
 use Rattle.rd_server.specs.declared.words.WordsFault.{WordsFault}
 use Rattle.rd_server.specs.declared.words.WordsFault.TheVariants as fault
-use Rattle.rd_server.specs.declared.words.Named.{Named}
 use Rattle.rd_server.specs.declared.words.Name.{Name}
 use Rattle.rd_server.specs.declared.words.Name.TheVariants as name
 
@@ -57,23 +60,17 @@ abbrev pub given_by : Option Name → List ℕ → Words → Option Words
 given_by None value asked = None
 given_by (Some name) value asked = given name value asked
 
--- a word with the name and the value, joined by `=`
-abbrev pub joined : Option (List ℕ × List ℕ) → Words → Option Words
-joined None asked = None
-joined (Some parts) asked = given_by (name_of parts.0) parts.1 asked
+-- whether a text is the name of an option
+abbrev pub is_option : List ℕ → Bool
+is_option text = is_some (name_of text)
 
--- what one word says that is joined, or a name alone with the word after it; and all that the words after that say
--- The words are read one after the other: what was said before them is handed on.
-unfoldable pub words_after : Option Words → List (List ℕ) → Option Words
-words_after None words = None
-words_after (Some asked) [] = Some asked
-words_after (Some asked) (word ∷ []) = joined (cut 61 word) asked
-words_after (Some asked) (word ∷ value ∷ words) =
-    if is_some (name_of word) then words_after (given_by (name_of word) value asked) words else words_after (joined (cut 61 word) asked) (value ∷ words)
+-- an option and its value more
+abbrev pub asked_with : List ℕ → List ℕ → Words → Option Words
+asked_with name value asked = given_by (name_of name) value asked
 
 -- what the words say, where they are those of the program
 abbrev pub words_said : List (List ℕ) → Option Words
-words_said words = words_after (Some no_words) words
+words_said words = words_after is_option asked_with (Some no_words) words
 
 -- how many workers words ask for: one where nothing is said
 abbrev pub workers_of : Words → ℕ
@@ -86,18 +83,34 @@ AreRead (Some asked) (Ok read) = read ≡ asked
 AreRead (Some asked) (Err fault.Starved) = ⊤
 AreRead _ _ = ⊥
 
--- the names that were given are those with a value
-pub record AreNamed (asked : Words) (named : Named) : Type 0 where
-  pub workers : named.workers ≡ is_some asked.workers
-  pub make : named.make ≡ is_some asked.devices
+-- ---- as clap reads them
 
--- the names after a use of one, where it is one of the program
-abbrev pub IsNamed : Option Words → Option Named → Type 0
-IsNamed None None = ⊤
-IsNamed (Some asked) (Some named) = AreNamed asked named
-IsNamed _ _ = ⊥
+-- an option with its value, joined by `=`, where it has one
+abbrev pub option_words : List ℕ → Option ℕ → List (List ℕ)
+option_words name None = []
+option_words name (Some n) = (name ++ (codes "=" ++ decimal n)) ∷ []
 
--- the names after the first use of one, and the words that are left
-abbrev pub GoesOn : Words → List (List ℕ) → Option (Named × List (List ℕ)) → Type 0
-GoesOn asked words None = words_after (Some asked) words ≡ None
-GoesOn asked words (Some next) = (more : Words) × AreNamed more next.0 × (words_after (Some asked) words ≡ words_after (Some more) next.1)
+-- what is asked for in words, in one order
+abbrev pub words_of : Words → List (List ℕ)
+words_of asked = option_words (codes "--workers") asked.workers
+    ++ option_words (codes "--make") asked.devices
+
+-- the number that was found for an option, from 1 to a limit
+abbrev pub number_found : ℕ → List ℕ → ArgMatches → Option ℕ
+number_found limit name matches =
+    option_and_then (count_of limit) (first_value (found_of matches) name)
+
+-- what was found for all options
+abbrev pub words_found : ArgMatches → Words
+words_found matches = record {
+  workers = number_found max_workers (codes "workers") matches;
+  devices = number_found max_devices (codes "make") matches;
+}
+
+-- what is said is within its limits
+abbrev pub IsWithin : ℕ → Option ℕ → Type 0
+IsWithin limit o = IfSome o (λ n. (1 ≤ n) × (n ≤ limit))
+
+pub record AreAsked (asked : Words) : Type 0 where
+  pub workers : IsWithin max_workers asked.workers
+  pub devices : IsWithin max_devices asked.devices

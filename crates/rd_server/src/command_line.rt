@@ -1,14 +1,17 @@
 //! The command line as clap reads it.
-ghost use Rattle.std.specs.Prelude.{map};
+ghost use Rattle.std.specs.Prelude.{◌≡◌, map};
 ghost use Rattle.std.specs.String.{string_bytes};
 ghost use Rattle.rd_server.specs.CommandLines.{IsRead};
+ghost use Rattle.rd_server.specs.Words.{words_of};
+ghost use Rattle.rd_server.specs.declared.words.Words.{Words};
 
 use clap::{Arg, ArgMatches, Command, Error};
 use std::alloc::Global;
 
-/// What clap reads in words. Words of the program are refused for want of memory alone.
+/// What clap reads in the words of what is asked for, which it refuses for want of memory alone.
 pub fn matches_of<'a>(alloc: Global, words: &'a [String]) -> Result<ArgMatches<'a>, Error>
-    ensures { IsRead (map string_bytes words.entry.now) result }
+    ensures { (asked : Words) → map string_bytes words.entry.now ≡ words_of asked
+        → IsRead asked result }
 {
     let workers = Arg::new(alloc, "workers").long("workers");
     let make = Arg::new(alloc, "make").long("make");

@@ -1,12 +1,14 @@
 //! The words of the command line of `rd_replay`: their form is tested, and clap reads their values.
-ghost use Rattle.std.specs.Prelude.{◌≡◌, ◌≤◌, ◌∷◌, ℕ, IfSome, IfOk, map, length, is_some, option_map};
+ghost use Rattle.std.specs.Prelude.{◌≡◌, ◌≤◌, ◌++◌, IfSome, IfOk, OnOk, map};
 ghost use Rattle.std.specs.String.{string_bytes};
-ghost use Rattle.rd_server.specs.Fields as fields;
 ghost use Rattle.rd_server.specs.Words as spec;
-ghost use Rattle.rd_server.specs.Words.{AreDevices, AreNamed, AreRead, GoesOn, IsNamed, IsWorkers, words_said};
+ghost use Rattle.rd_server.specs.Words.{AreAsked, AreDevices, AreRead, IsWorkers, words_said};
+ghost use Rattle.rd_server.specs.declared.words.Name.TheVariants as name;
 
 use crate::command_line::matches_of;
-use crate::fields::cut;
+use crate::options::{Asked, words_ask};
+use clap::ArgMatches;
+use rd_base::Starved;
 use std::alloc::Global;
 use std::env;
 use std::env::Env;
@@ -58,15 +60,6 @@ enum Name {
     Make,
 }
 
-/// Which names were given so far.
-#[derive(Clone, Copy, Debug, PartialEq, Eq)]
-struct Named {
-    /// How many workers there are.
-    workers: bool,
-    /// For how many devices a trace is made.
-    make: bool,
-}
-
 /// What a word names that is a name alone.
 fn name_of(word: &[u8]) -> Option<Name>
     ensures { result ≡ spec.name_of word.now }
@@ -92,84 +85,35 @@ pub(crate) fn count_of(limit: u64, text: &[u8]) -> Option<u64>
     Some(n)
 }
 
-impl Named {
-    /// With a name and its value more; none where it was given before, or the value is none of it.
-    fn with(self, name: Name, value: &[u8]) -> Option<Named>
-        ensures { (asked : Words) → AreNamed asked self → IsNamed (spec.given name value.now asked) result }
-    {
-        match name {
-            Name::Workers => {
-                if self.workers {
-                    return None;
-                }
-                count_of(MAX_WORKERS, value)?;
-                Some(Named {
-                    workers: true,
-                    make: self.make,
-                })
-            }
-            Name::Make => {
-                if self.make {
-                    return None;
-                }
-                count_of(MAX_DEVICES, value)?;
-                Some(Named {
-                    workers: self.workers,
-                    make: true,
-                })
-            }
-        }
-    }
-
-    /// With what one word gives that has both the name and the value, with `=` between them.
-    fn with_joined(self, word: &[u8]) -> Option<Named>
-        ensures { (asked : Words) → AreNamed asked self → IsNamed (spec.joined (fields.cut 61 word.now) asked) result }
-    {
-        let (name, value) = cut(b'=', word)?;
-        self.with(name_of(name)?, value)
-    }
-
-    /// With what a word gives, and where it is a name alone the one after it; and the words after that.
-    fn with_word<'a>(self, word: &[u8], rest: &'a [String]) -> Option<(Named, &'a [String])>
-        ensures goes { (asked : Words) → AreNamed asked self → GoesOn asked (word.now ∷ map string_bytes rest.now) (option_map (λ next. (next.0, map string_bytes next.1.now)) result) }
-        ensures shorter { IfSome result (λ next. length next.1.now ≤ length rest.now) }
-    {
-        let Some(name) = name_of(word) else {
-            let Some(named) = self.with_joined(word) else {
-                return None;
-            };
-            return Some((named, rest));
-        };
-        let Some((value, rest)) = rest.split_first() else {
-            return None;
-        };
-        let Some(named) = self.with(name, value.as_bytes()) else {
-            return None;
-        };
-        Some((named, rest))
-    }
-}
-
-/// Whether the words are those of the program.
-fn are_words(words: &[String]) -> bool
-    ensures { result ≡ is_some (words_said (map string_bytes words.now)) }
-{
-    let mut named = Named {
-        workers: false,
-        make: false,
-    };
-    let mut left = words;
-    'words: while let Some((word, rest)) = left.split_first() {
-        let Some((more, rest)) = named.with_word(word.as_bytes(), rest) else {
-            return false;
-        };
-        named = more;
-        left = rest;
-    }
-    true
-}
-
 impl Words {
+    /// With the number of workers, where it was not said.
+    fn with_workers(self, value: &[u8]) -> Option<Words>
+        ensures { result ≡ spec.given name.Workers value.now self }
+    {
+        if self.workers.is_some() {
+            return None;
+        }
+        let workers = count_of(MAX_WORKERS, value)? as u8;
+        Some(Words {
+            workers: Some(workers),
+            ..self
+        })
+    }
+
+    /// With the number of devices, where it was not said.
+    fn with_devices(self, value: &[u8]) -> Option<Words>
+        ensures { result ≡ spec.given name.Make value.now self }
+    {
+        if self.devices.is_some() {
+            return None;
+        }
+        let devices = count_of(MAX_DEVICES, value)? as u32;
+        Some(Words {
+            devices: Some(devices),
+            ..self
+        })
+    }
+
     /// How many workers there are: one where nothing is said.
     pub fn workers(&self) -> u8
         ensures { result ≡ spec.workers_of self.now }
@@ -178,27 +122,95 @@ impl Words {
     }
 }
 
-/// What the words ask for: `--workers` with a number from 1 to 16, and `--make` with one from 1 to 4,000, each once at most, in any order, as two words or joined by `=`.
-/// `Usage`: they are others.
-pub fn words_read(alloc: Global, words: &[String]) -> Result<Words, WordsFault>
-    ensures read { AreRead (words_said (map string_bytes words.now)) result }
-    ensures workers { IfOk result (λ asked. IsWorkers (spec.workers_of asked)) }
-    ensures devices { IfOk result (λ asked. IfSome asked.devices AreDevices) }
-{
-    if !are_words(words) {
-        return Err(WordsFault::Usage);
+impl Asked for Words {
+    ghost is_option = { spec.is_option };
+
+    ghost given = { spec.asked_with };
+
+    fn names(text: &[u8]) -> bool {
+        name_of(text).is_some()
     }
-    let Ok(matches) = matches_of(alloc, words) else {
-        return Err(WordsFault::Starved);
-    };
+
+    fn with(self, name: &[u8], value: &[u8]) -> Option<Words> {
+        match name_of(name)? {
+            Name::Workers => self.with_workers(value),
+            Name::Make => self.with_devices(value),
+        }
+    }
+}
+
+/// An option with its value more, joined by `=`, where it has one.
+fn push_option(
+    alloc: Global,
+    words: &mut Vec<String>,
+    name: &str,
+    value: Option<u64>,
+) -> Result<(), Starved>
+    ensures { OnOk result (map string_bytes words.new.items
+        ≡ map string_bytes words.old.items ++ spec.option_words name.now value) }
+{
+    if let Some(value) = value {
+        words.push(format!(in alloc; "{name}={value}")?)?;
+    }
+    Ok(())
+}
+
+/// What is asked for in words, in one order.
+fn words_of(alloc: Global, asked: Words) -> Result<Vec<String>, Starved>
+    ensures { IfOk result (λ words. map string_bytes words.items ≡ spec.words_of asked) }
+{
+    let mut words = Vec::new(alloc);
+    push_option(alloc, &mut words, "--workers", asked.workers.map(u64::from))?;
+    push_option(alloc, &mut words, "--make", asked.devices.map(u64::from))?;
+    Ok(words)
+}
+
+/// What clap found for all options.
+fn words_in(matches: &ArgMatches) -> Words
+    ensures { result ≡ spec.words_found matches.now }
+{
     let workers = matches
         .get_str("workers")
         .and_then(|text| count_of(MAX_WORKERS, text.as_bytes()));
     let devices = matches
         .get_str("make")
         .and_then(|text| count_of(MAX_DEVICES, text.as_bytes()));
-    Ok(Words {
+    Words {
         workers: workers.map(|n| n as u8),
         devices: devices.map(|n| n as u32),
-    })
+    }
+}
+
+/// What is asked for, as clap reads it in its words.
+fn asked_read(alloc: Global, asked: Words) -> Result<Words, Starved>
+    requires { AreAsked asked }
+    ensures { IfOk result (λ read. read ≡ asked) }
+{
+    let words = words_of(alloc, asked)?;
+    let Ok(matches) = matches_of(alloc, words.as_slice()) else {
+        return Err(Starved);
+    };
+    Ok(words_in(&matches))
+}
+
+/// What the words ask for: `--workers` with a number from 1 to 16, and `--make` with one from 1 to
+/// 4,000, each once at most, in any order, as two words or joined by `=`.
+///
+/// `Usage`: they are others. `Starved`: out of memory.
+pub fn words_read(alloc: Global, words: &[String]) -> Result<Words, WordsFault>
+    ensures read { AreRead (words_said (map string_bytes words.now)) result }
+    ensures workers { IfOk result (λ asked. IsWorkers (spec.workers_of asked)) }
+    ensures devices { IfOk result (λ asked. IfSome asked.devices AreDevices) }
+{
+    let nothing = Words {
+        workers: None,
+        devices: None,
+    };
+    let Some(asked) = words_ask(nothing, words) else {
+        return Err(WordsFault::Usage);
+    };
+    match asked_read(alloc, asked) {
+        Ok(read) => Ok(read),
+        Err(Starved) => Err(WordsFault::Starved),
+    }
 }

@@ -3,7 +3,8 @@ use Rattle.std.proofs.Common.{◌≡◌, [], ◌∷◌, Some, None, codes, refl}
 use Rattle.std.specs.Prelude.{⊤}
 use Rattle.std.specs.Fmt.{digits}
 use Rattle.line_model.specs.Numbers.{number_of}
-use Rattle.rd_server.specs.Words.{words_after, words_said}
+use Rattle.rd_server.specs.Options.{words_after}
+use Rattle.rd_server.specs.Words.{words_said}
 
 unfoldable on_literals : ⊤
 unfolding words_after number_of digits

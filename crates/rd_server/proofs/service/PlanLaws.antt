@@ -1,18 +1,13 @@
 -- What the words of `rd_serve` ask for is within its limits.
-use Rattle.std.proofs.Common.{◌≡◌, ℕ, ◌≤◌, List, Option, Some, None, refl}
-use Rattle.std.proofs.Common.{subst, arith}
-use Rattle.std.specs.Prelude.{IfSome, option_map, option_and_then, nat_le, unwrap_or}
+use Rattle.std.proofs.Common.{◌≡◌, ℕ, List, Option, Some, None, subst, arith}
+use Rattle.std.specs.Prelude.{option_map}
 use Rattle.std.proofs.lemmas.Option.{none-some, same_Some}
-use Rattle.std.proofs.lemmas.Bool.{leb-true}
-use Rattle.rd_base.proofs.lemmas.Choices.{let_through}
 use Rattle.journal_model.specs.DeskJournal.{max_workers}
-use Rattle.line_model.specs.Numbers.{number_of}
-use Rattle.line_model.proofs.Numbers.{number_of-found}
 use Rattle.rd_server.specs.declared.serving.plans.ServeAsked.{ServeAsked}
 use Rattle.rd_server.specs.declared.serving.plans.ServeOption.{ServeOption}
 use Rattle.rd_server.specs.declared.serving.plans.ServeOption.TheVariants as serve_option
 use Rattle.rd_server.specs.Options.{words_after}
-use Rattle.rd_server.specs.Words.{count_of, from_one, once}
+use Rattle.rd_server.specs.Words.{IsWithin, count_of, once}
 use Rattle.rd_server.specs.serving.Plans.{
   IsPlan,
   given,
@@ -25,38 +20,12 @@ use Rattle.rd_server.specs.serving.Plans.{
   plan_of,
 }
 use Rattle.rd_server.proofs.OptionSteps.{kept}
-
--- a number that is said is from 1 to a limit
-abbrev Within : ℕ → Option ℕ → Type 0
-Within limit o = IfSome o (λ n. (1 ≤ n) × (n ≤ limit))
+use Rattle.rd_server.proofs.OptionValues.{default_within, once_within}
 
 record IsAsked (asked : ServeAsked) : Type 0 where
-  port : Within max_port asked.port
-  workers : Within max_workers asked.workers
-  turns : Within max_turns asked.turns
-
-counts_within : (limit : ℕ) (text : List ℕ) → Within limit (count_of limit text)
-counts_within limit text = by (number_of limit text) refl
-  where
-    at : (n m : ℕ) → n ≤ limit → from_one n ≡ Some m → (1 ≤ m) × (m ≤ limit)
-    at n m most e =
-        let through = let_through (nat_le 1 n) n m e in (
-          subst (λ (k : ℕ). 1 ≤ k) through.1 (leb-true 1 n through.0),
-          subst (λ (k : ℕ). k ≤ limit) through.1 most,
-        )
-
-    one : (n : ℕ) → n ≤ limit → (o : Option ℕ) → from_one n ≡ o → Within limit o
-    one n most None e = tt
-    one n most (Some m) e = at n m most e
-
-    by : (o : Option ℕ) → number_of limit text ≡ o → Within limit (option_and_then from_one o)
-    by None e = tt
-    by (Some n) e = one n (number_of-found limit text n e).within (from_one n) refl
-
-once_within : (limit : ℕ) (before : Option ℕ) (text : List ℕ)
-    → Within limit (once before (count_of limit text))
-once_within limit None text = counts_within limit text
-once_within limit (Some n) text = tt
+  port : IsWithin max_port asked.port
+  workers : IsWithin max_workers asked.workers
+  turns : IsWithin max_turns asked.turns
 
 -- an option more
 given_within : (o : Option ServeOption) (value : List ℕ) (asked more : ServeAsked)
@@ -66,7 +35,7 @@ given_within (Some serve_option.Port) value asked more is e =
     by (once asked.port (count_of max_port value))
     (once_within max_port asked.port value) e
   where
-    by : (o : Option ℕ) → Within max_port o → option_map
+    by : (o : Option ℕ) → IsWithin max_port o → option_map
         (λ n. record { port = Some n; workers = asked.workers; turns = asked.turns }) o
         ≡ Some more → IsAsked more
     by None h f = absurd (none-some more f)
@@ -77,7 +46,7 @@ given_within (Some serve_option.Workers) value asked more is e =
     by (once asked.workers (count_of max_workers value))
     (once_within max_workers asked.workers value) e
   where
-    by : (o : Option ℕ) → Within max_workers o → option_map
+    by : (o : Option ℕ) → IsWithin max_workers o → option_map
         (λ n. record { port = asked.port; workers = Some n; turns = asked.turns }) o
         ≡ Some more → IsAsked more
     by None h f = absurd (none-some more f)
@@ -88,18 +57,13 @@ given_within (Some serve_option.Turns) value asked more is e =
     by (once asked.turns (count_of max_turns value))
     (once_within max_turns asked.turns value) e
   where
-    by : (o : Option ℕ) → Within max_turns o → option_map
+    by : (o : Option ℕ) → IsWithin max_turns o → option_map
         (λ n. record { port = asked.port; workers = asked.workers; turns = Some n }) o
         ≡ Some more → IsAsked more
     by None h f = absurd (none-some more f)
     by (Some n) h f = subst IsAsked (same_Some
         (record { port = asked.port; workers = asked.workers; turns = Some n }) more f)
         (record { port = is.port; workers = is.workers; turns = h })
-
-default_within : (limit otherwise : ℕ) (o : Option ℕ) → 1 ≤ otherwise → otherwise ≤ limit
-    → Within limit o → (1 ≤ unwrap_or o otherwise) × (unwrap_or o otherwise ≤ limit)
-default_within limit otherwise None some most h = (some, most)
-default_within limit otherwise (Some n) some most h = h
 
 plan_within : (asked : ServeAsked) → IsAsked asked → IsPlan (plan_of asked)
 plan_within asked is =

@@ -1,29 +1,26 @@
 -- What clap reads in the words of a plan.
-use Rattle.std.proofs.Common.{◌≡◌, ℕ, ◌<◌, ◌≤◌, ◌^◌, List, [], ◌∷◌, ◌++◌, true, Some, Result}
+use Rattle.std.proofs.Common.{◌≡◌, List, [], ◌∷◌, ◌++◌, true, Some, Result}
 use Rattle.std.proofs.Common.{Ok, Err, refl, ap, ◌∙◌, subst, sym, arith, codes, decimal}
-use Rattle.std.specs.Prelude.{IfOk, IfErr, option_and_then}
-use Rattle.std.proofs.lemmas.Bool.Decides.{nat_tests}
+use Rattle.std.specs.Prelude.{IfOk, IfErr}
 use Rattle.clap.specs.Walk.{Rule, Text, first_of, rows_of}
 use Rattle.clap.specs.Simple.{App, HasMatchesOf, new_app, new_rule, with_rule, on_top}
 use Rattle.clap.specs.Simple.{is_simple, matches_of}
 use Rattle.clap.specs.Takes.{takes}
-use Rattle.clap.specs.Words.{first_value, found_of, kind_of}
+use Rattle.clap.specs.Words.{found_of, kind_of}
 use Rattle.clap.specs.declared.parser.matches.ArgMatches.{ArgMatches}
 use Rattle.clap.specs.declared.error.Error.{Error}
 use Rattle.clap.specs.declared.error.kind.ErrorKind.TheVariants.{OutOfMemory}
 use Rattle.clap.proofs.OnLiterals.{clap_on_literals}
 use Rattle.clap.proofs.WalkLemmas.{first_value-rows}
 use Rattle.journal_model.specs.DeskJournal.{max_workers}
-use Rattle.line_model.proofs.Numbers.{number_of-decimal}
+use Rattle.rd_server.proofs.OptionValues.{found}
 use Rattle.rd_server.specs.declared.serving.plans.ServePlan.{ServePlan}
-use Rattle.rd_server.specs.Words.{count_of, from_one}
 use Rattle.rd_server.specs.serving.Plans.{
   HasPlan,
   IsPlan,
   ReadsPlan,
   max_port,
   max_turns,
-  number_found,
   plan_found,
   words_of,
 }
@@ -94,29 +91,14 @@ reads_plan command words (Err error) e matches passes plan is =
     ∙ subst (λ (ws : List Text). takes app ws ≡ true) (sym is)
     (reads_three (decimal plan.port) (decimal plan.workers) (decimal plan.turns)).taken)
 
--- ---- numbers
-
-counted : (limit n : ℕ) → 1 ≤ n → n ≤ limit → limit < 2 ^ 64
-    → count_of limit (decimal n) ≡ Some n
-counted limit n some most small =
-    ap (option_and_then from_one) (number_of-decimal limit n most small) ∙ positive
-  where
-    positive : from_one n ≡ Some n
-    positive = grind (arith, nat_tests)
-
-found : (limit n : ℕ) (name : Text) (matches : ArgMatches) → 1 ≤ n → n ≤ limit → limit < 2 ^ 64
-    → first_value (found_of matches) name ≡ Some (decimal n)
-    → number_found limit name matches ≡ Some n
-found limit n name matches some most small e =
-    ap (option_and_then (count_of limit)) e ∙ counted limit n some most small
-
 -- the plan is found
 pub plan_found-plan : (plan : ServePlan) (matches : ArgMatches) → IsPlan plan
     → HasPlan plan matches → plan_found matches ≡ Some plan
 plan_found-plan plan matches is has = rw (
-  found max_port plan.port (codes "port") matches is.some_port is.last_port (omega arith) has.port,
-  found max_workers plan.workers (codes "workers") matches is.some_workers is.most_workers
-      (omega arith) has.workers,
-  found max_turns plan.turns (codes "turns") matches is.some_turns is.most_turns
-      (omega arith) has.turns,
+  found max_port (codes "port") matches (Some plan.port) (omega arith)
+      (is.some_port, is.last_port) has.port,
+  found max_workers (codes "workers") matches (Some plan.workers) (omega arith)
+      (is.some_workers, is.most_workers) has.workers,
+  found max_turns (codes "turns") matches (Some plan.turns) (omega arith)
+      (is.some_turns, is.most_turns) has.turns,
 ) refl

@@ -12,7 +12,7 @@ use Rattle.std.specs.Prelude.{
   unwrap_or,
   ⊤,
 }
-use Rattle.std.specs.Prelude.{option_and_then, if◌then◌else◌}
+use Rattle.std.specs.Prelude.{if◌then◌else◌}
 use Rattle.clap.specs.Words.{first_value, found_of, kind_of}
 use Rattle.clap.specs.declared.parser.matches.ArgMatches.{ArgMatches}
 use Rattle.clap.specs.declared.error.Error.{Error}
@@ -26,7 +26,7 @@ use Rattle.rd_server.specs.declared.serving.plans.ServeOption.{ServeOption}
 use Rattle.rd_server.specs.declared.serving.plans.ServeOption.TheVariants as serve_option
 use Rattle.rd_server.specs.Fields.{◌>>=◌}
 use Rattle.rd_server.specs.Options.{words_after}
-use Rattle.rd_server.specs.Words.{count_of, once}
+use Rattle.rd_server.specs.Words.{count_of, number_found, once}
 
 -- the last port of UDP (RFC 768)
 abbrev pub max_port : ℕ
@@ -113,11 +113,6 @@ pub record HasPlan (plan : ServePlan) (matches : ArgMatches) : Type 0 where
 abbrev pub ReadsPlan : ServePlan → Result ArgMatches Error → Type 0
 ReadsPlan plan (Ok matches) = HasPlan plan matches
 ReadsPlan plan (Err error) = kind_of error ≡ OutOfMemory
-
--- the number that was found for an option, from 1 to a limit
-abbrev pub number_found : ℕ → List ℕ → ArgMatches → Option ℕ
-number_found limit name matches =
-    option_and_then (count_of limit) (first_value (found_of matches) name)
 
 -- the plan whose numbers were found
 abbrev pub plan_found : ArgMatches → Option ServePlan
