@@ -92,12 +92,11 @@ fn a_receive_that_fails_ends_it_after_what_was_done(rt: HostRuntime) -> Result<(
     let mut link = link_of(rt.alloc(), &[REGISTRATION, LOOKUP], b"\x01", b"")?;
     let mut clock = clock_of(rt.alloc());
     let (hall, mut seat) = one_seat(rt.alloc(), &rt)?;
-    for turns in [3, 1] {
-        let gate = &OpenGate;
-        let outcome = serve_worker(&rt, &hall, &mut seat, &mut link, &mut clock, gate, turns);
-        assert!(rt; outcome.is_ok() == (turns == 1));
-    }
-    assert!(rt; went(&link, 0, CREATED) && went(&link, 1, LISTED));
+    let gate = &OpenGate;
+    let failed = serve_worker(&rt, &hall, &mut seat, &mut link, &mut clock, gate, 3);
+    let resumed = serve_worker(&rt, &hall, &mut seat, &mut link, &mut clock, gate, 1);
     hall.end(&rt);
+    assert_eq!(rt; failed, Err(ServeFault::Link));
+    assert!(rt; resumed.is_ok() && went(&link, 0, CREATED) && went(&link, 1, LISTED));
     Ok(())
 }
