@@ -1,0 +1,177 @@
+//! A capture, read as a recording.
+ghost use Rattle.std.specs.Prelude.{◌≤◌, length};
+
+use crate::endings::Stop;
+use crate::lines::{MAX_DATAGRAM, WORKER, come_line, go_line, is_request};
+use crate::pages::Pages;
+use crate::servers::{Server, Way};
+use crate::timelines::Timeline;
+use capture_file::{CaptureFault, Datagram, Found, MAX_PART, Packet, PacketFault, Reader};
+use capture_file::datagram_of;
+use rd_base::{Bytes, Moment, Peer, Starved};
+use std::alloc::Global;
+use std::mem;
+use trace_text::{line_print, out_print};
+
+/// A capture in the middle of being read.
+#[derive(Drop)]
+pub(crate) struct Recorder {
+    /// Where its memory comes from.
+    alloc: Global,
+    /// Which datagrams are written: those that came as lines of a trace, or those that were sent as
+    /// lines of its output.
+    written: Way,
+    /// The server of the recording.
+    server: Server,
+    /// The time of the recording.
+    timeline: Timeline,
+    /// How many packets were read.
+    packets: u64,
+    /// What reads the capture.
+    reader: Reader,
+    /// What has come of the next part of the capture, as far as it is kept.
+    part: Bytes,
+    /// How many octets are still to come of that part.
+    missing: usize,
+    ghost present: { 1 ≤ missing },
+}
+
+/// Why a packet is not read, as it is said.
+fn name_of(fault: PacketFault) -> &'static str {
+    match fault {
+        PacketFault::Interface => "interface",
+        PacketFault::LinkLayer => "link layer",
+        PacketFault::Cut => "cut",
+        PacketFault::Version => "version",
+        PacketFault::Fragment => "fragment",
+        PacketFault::Length => "length",
+        PacketFault::TooLong => "too long",
+    }
+}
+
+/// What is said of a block behind which nothing can be found.
+const BLOCK: &str = "block";
+
+/// What is said of a datagram from or to port 0, which no line names.
+const PORT: &str = "port";
+
+impl Recorder {
+    /// A recorder before a capture, of what came to a port or of what was sent from it.
+    pub(crate) fn new(alloc: Global, port: u16, written: Way) -> Recorder {
+        let reader = Reader::new(alloc);
+        let missing = reader.wanted();
+        Recorder {
+            alloc,
+            written,
+            server: Server::new(alloc, port),
+            timeline: Timeline::new(alloc),
+            packets: 0,
+            reader,
+            part: Bytes::new(alloc),
+            missing,
+        }
+    }
+
+    /// A datagram that came to the server is written, with the end of its job where it may leave one.
+    fn write_come(
+        &mut self,
+        moment: Moment,
+        peer: Peer,
+        payload: &[u8],
+        pages: &mut Pages,
+    ) -> Result<(), Starved>
+        requires port { 1 ≤ peer.port }
+        requires payload { length payload.now ≤ MAX_DATAGRAM }
+    {
+        let moment = self.timeline.hear(moment, pages)?;
+        let line = come_line(self.alloc, moment, peer, payload)?;
+        pages.put_line(line_print(self.alloc, &line)?.as_slice())?;
+        if is_request(payload) {
+            let line = line_print(self.alloc, &go_line(moment))?;
+            pages.put_line(line.as_slice())?;
+        }
+        Ok(())
+    }
+
+    /// A datagram that can stand in a line is written, where those on its way are. Others let time
+    /// pass.
+    fn write_datagram(
+        &mut self,
+        moment: Moment,
+        way: Way,
+        peer: Peer,
+        payload: &[u8],
+        pages: &mut Pages,
+    ) -> Result<(), Starved>
+        requires port { 1 ≤ peer.port }
+        requires payload { length payload.now ≤ MAX_DATAGRAM }
+    {
+        match (self.written, way) {
+            (Way::Came, Way::Came) => self.write_come(moment, peer, payload, pages),
+            (Way::Came, Way::Sent) => {
+                let _ = self.timeline.reach(moment, pages)?;
+                Ok(())
+            }
+            (Way::Sent, Way::Sent) => {
+                let line = out_print(self.alloc, WORKER, &peer, payload)?;
+                pages.put_line(line.as_slice())
+            }
+            (Way::Sent, Way::Came) => Ok(()),
+        }
+    }
+
+    /// A datagram to or from the port of the server is met.
+    fn meet_datagram(
+        &mut self,
+        moment: Moment,
+        datagram: &Datagram<'_>,
+        pages: &mut Pages,
+    ) -> Result<(), Starved> {
+        let way = self.server.way(datagram)?;
+        let peer = match way {
+            Way::Came => datagram.source,
+            Way::Sent => datagram.destination,
+        };
+        if datagram.payload.len() > MAX_DATAGRAM {
+            return self.say(name_of(PacketFault::TooLong), pages);
+        }
+        if peer.port == 0 {
+            return self.say(PORT, pages);
+        }
+        self.write_datagram(moment, way, peer, datagram.payload, pages)
+    }
+
+    /// Says of the last packet why it was not read.
+    fn say(&self, why: &str, pages: &mut Pages) -> Result<(), Starved> {
+        pages.say(self.alloc, self.packets, why)
+    }
+
+    /// A packet is met.
+    fn meet_packet(&mut self, packet: Packet<'_>, pages: &mut Pages) -> Result<(), Starved> {
+        match datagram_of(self.server.port(), packet) {
+            Ok(Some(datagram)) => self.meet_datagram(packet.moment, &datagram, pages),
+            Ok(None) => Ok(()),
+            Err(fault) => self.say(name_of(fault), pages),
+        }
+    }
+
+    /// A packet is counted.
+    fn count(&mut self) {
+        self.packets = self.packets.saturating_add(1);
+    }
+
+    /// What a part of the capture is.
+    fn meet(&mut self, found: Found<'_>, pages: &mut Pages) -> Result<(), Starved> {
+        match found {
+            Found::NoPacket => Ok(()),
+            Found::Packet(packet) => {
+                self.count();
+                self.meet_packet(packet, pages)
+            }
+            Found::Unread(fault) => {
+                self.count();
+                self.say(name_of(fault), pages)
+            }
+        }
+    }
+}
