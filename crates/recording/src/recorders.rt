@@ -33,6 +33,8 @@ pub(crate) struct Recorder {
     part: Bytes,
     /// How many octets are still to come of that part.
     missing: usize,
+    /// Whether nothing is read any more.
+    is_over: bool,
     ghost present: { 1 ≤ missing },
 }
 
@@ -69,6 +71,7 @@ impl Recorder {
             reader,
             part: Bytes::new(alloc),
             missing,
+            is_over: false,
         }
     }
 
@@ -173,5 +176,73 @@ impl Recorder {
                 self.say(name_of(fault), pages)
             }
         }
+    }
+}
+
+impl Recorder {
+    /// The first octets of a part, as far as it is kept, come behind those that came before.
+    fn keep(&mut self, octets: &[u8]) -> Result<(), Starved> {
+        let room = MAX_PART.saturating_sub(self.part.len());
+        self.part.append(&octets[..octets.len().min(room)])
+    }
+
+    /// Behind what was read no packet can be found: the capture is over, and it is said why.
+    fn give_up(&mut self, why: &str, pages: &mut Pages) -> Result<(), Starved> {
+        self.is_over = true;
+        self.count();
+        self.say(why, pages)
+    }
+
+    /// Reads a part.
+    fn read(&mut self, part: &[u8], pages: &mut Pages) -> Result<(), Stop> {
+        match self.reader.read(part) {
+            Ok(found) => Ok(self.meet(found, pages)?),
+            Err(CaptureFault::NoCapture) => Err(Stop::NoCapture),
+            Err(CaptureFault::Block) => Ok(self.give_up(BLOCK, pages)?),
+            Err(CaptureFault::Starved) => Err(Stop::Starved),
+        }
+    }
+
+    /// Reads the part that has come whole.
+    fn read_part(&mut self, pages: &mut Pages) -> Result<(), Stop> {
+        let mut part = mem::replace(&mut self.part, Bytes::new(self.alloc));
+        self.read(part.as_slice(), pages)?;
+        part.truncate(0);
+        self.part = part;
+        self.missing = self.reader.wanted();
+        Ok(())
+    }
+
+    /// The next octets of the capture come.
+    pub(crate) fn feed(&mut self, piece: &[u8], pages: &mut Pages) -> Result<(), Stop> {
+        let mut rest = piece;
+        'parts: while self.missing <= rest.len() {
+            let (octets, behind) = rest.split_at(self.missing);
+            self.keep(octets)?;
+            self.read_part(pages)?;
+            if self.is_over {
+                return Ok(());
+            }
+            rest = behind;
+        }
+        self.keep(rest)?;
+        self.missing -= rest.len();
+        Ok(())
+    }
+
+    /// Whether the capture ends in the middle of something.
+    fn is_cut(&self) -> bool {
+        self.missing != self.reader.wanted() || !self.reader.may_end()
+    }
+
+    /// The capture ends.
+    pub(crate) fn finish(&mut self, pages: &mut Pages) -> Result<(), Stop> {
+        if !self.reader.is_capture() {
+            return Err(Stop::NoCapture);
+        }
+        if !self.is_over && self.is_cut() {
+            self.give_up(name_of(PacketFault::Cut), pages)?;
+        }
+        Ok(self.timeline.end(pages)?)
     }
 }
