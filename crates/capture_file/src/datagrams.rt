@@ -6,7 +6,7 @@ use crate::link_layers::{Carried, behind_link_layer};
 use crate::numbers::ByteOrder::BigEndian;
 use crate::numbers::{number16_at, octets_at};
 use crate::packets::Packet;
-use rd_base::Peer;
+use std::net::SocketAddr;
 
 /// The octets of a UDP header (RFC 768).
 const UDP_HEADER: u16 = 8;
@@ -15,9 +15,9 @@ const UDP_HEADER: u16 = 8;
 #[derive(Clone, Copy, Debug)]
 pub struct Datagram<'p> {
     /// Where it came from.
-    pub source: Peer,
+    pub source: SocketAddr,
     /// Where it went to.
-    pub destination: Peer,
+    pub destination: SocketAddr,
     /// Its octets, without the header.
     pub payload: &'p [u8],
 }
@@ -51,14 +51,8 @@ fn of_port(port: u16, packet: UdpPacket<'_>) -> Result<Option<Datagram<'_>>, Pac
     let payload = payload_at(rest)?;
     Ok(
         Some(Datagram {
-            source: Peer {
-                host: packet.source,
-                port: source,
-            },
-            destination: Peer {
-                host: packet.destination,
-                port: destination,
-            },
+            source: SocketAddr::new(packet.source, source),
+            destination: SocketAddr::new(packet.destination, destination),
             payload,
         }),
     )

@@ -1,10 +1,10 @@
 //! The Internet Protocol, versions 4 and 6: which UDP datagram a packet carries.
-ghost use Rattle.std.specs.Prelude.{◌<◌, length, IfSome, IfOk};
+ghost use Rattle.std.specs.Prelude.{◌<◌, length, IfSome};
 
 use crate::faults::PacketFault;
 use crate::numbers::ByteOrder::BigEndian;
 use crate::numbers::{number16_at, octets_at};
-use rd_base::Host;
+use std::net::{IpAddr, Ipv4Addr, Ipv6Addr};
 
 /// UDP, as the protocol of a packet (RFC 768).
 const UDP: u8 = 17;
@@ -31,6 +31,9 @@ const IPV4_HEADER: u16 = 20;
 /// not begin the packet (RFC 791 section 3.1).
 const IS_FRAGMENT: u16 = 0x3fff;
 
+/// The octets of the version, the traffic class and the flow label of IPv6.
+const IPV6_FLOW: usize = 4;
+
 /// The octets of an extension header that its length does not count, and by which it counts the
 /// others (RFC 8200 section 4.3).
 const EXTENSION_UNIT: usize = 8;
@@ -39,9 +42,9 @@ const EXTENSION_UNIT: usize = 8;
 #[derive(Clone, Copy, Debug)]
 pub(crate) struct UdpPacket<'p> {
     /// The address that the packet came from.
-    pub source: Host,
+    pub source: IpAddr,
     /// The address that it went to.
-    pub destination: Host,
+    pub destination: IpAddr,
     /// The octets of the datagram, as far as they were captured and the packet holds them.
     pub octets: &'p [u8],
 }
@@ -51,11 +54,23 @@ fn at_most(count: usize, octets: &[u8]) -> &[u8] {
     &octets[..count.min(octets.len())]
 }
 
+/// The version of the packet that begins with this octet.
+pub(crate) fn version_of(first: u8) -> u8 {
+    first / 16
+}
+
+/// Whether octets begin a packet of this version. `Cut`: there are none. `Version`: they do not.
+fn check_version(version: u8, octets: &[u8]) -> Result<(), PacketFault> {
+    let first = octets.first().ok_or(PacketFault::Cut)?;
+    if version_of(*first) != version {
+        return Err(PacketFault::Version);
+    }
+    Ok(())
+}
+
 /// The fields of an IPv4 header that are used here (RFC 791 section 3.1).
 #[derive(Clone, Copy, Debug)]
 struct Ipv4Header {
-    /// The version.
-    version: u8,
     /// The octets of the header, with its options.
     header_length: u16,
     /// The octets of the packet, with the header.
@@ -65,17 +80,17 @@ struct Ipv4Header {
     /// What the packet carries.
     protocol: u8,
     /// The address that it came from.
-    source: Host,
+    source: IpAddr,
     /// The address that it went to.
-    destination: Host,
+    destination: IpAddr,
 }
 
 /// The address of IPv4 that octets begin with, and what stands behind it. None: it is cut.
-fn ipv4_address_at(octets: &[u8]) -> Option<(Host, &[u8])> {
+fn ipv4_address_at(octets: &[u8]) -> Option<(IpAddr, &[u8])> {
     let [first, second, third, fourth, rest @ ..] = octets else {
         return None;
     };
-    Some((Host::V4([*first, *second, *third, *fourth]), rest))
+    Some((IpAddr::V4(Ipv4Addr::new(*first, *second, *third, *fourth)), rest))
 }
 
 /// The two octets that octets begin with, and what stands behind them. None: there are fewer.
@@ -97,7 +112,6 @@ fn ipv4_header(octets: &[u8]) -> Option<Ipv4Header> {
     let (source, rest) = ipv4_address_at(rest)?;
     let (destination, _) = ipv4_address_at(rest)?;
     Some(Ipv4Header {
-        version: first / 16,
         header_length: u16::from(first % 16) * WORD,
         total_length,
         fragment,
@@ -109,13 +123,11 @@ fn ipv4_header(octets: &[u8]) -> Option<Ipv4Header> {
 
 /// The UDP datagram of an IPv4 packet. None: it carries another protocol.
 ///
-/// `Cut`: it ends before its header does. `Version`: it is of another version. `Length`: its header
+/// `Version`: it is of another version. `Cut`: it ends before its header does. `Length`: its header
 /// says that it is shorter than the header. `Fragment`: it is one.
 pub(crate) fn ipv4_udp(octets: &[u8]) -> Result<Option<UdpPacket<'_>>, PacketFault> {
+    check_version(4, octets)?;
     let header = ipv4_header(octets).ok_or(PacketFault::Cut)?;
-    if header.version != 4 {
-        return Err(PacketFault::Version);
-    }
     if header.protocol != UDP {
         return Ok(None);
     }
@@ -137,7 +149,7 @@ pub(crate) fn ipv4_udp(octets: &[u8]) -> Result<Option<UdpPacket<'_>>, PacketFau
 }
 
 /// The address of IPv6 that octets begin with, and what stands behind it. None: it is cut.
-fn ipv6_address_at(octets: &[u8]) -> Option<(Host, &[u8])> {
+fn ipv6_address_at(octets: &[u8]) -> Option<(IpAddr, &[u8])> {
     let (first, rest) = number16_at(BigEndian, octets)?;
     let (second, rest) = number16_at(BigEndian, rest)?;
     let (third, rest) = number16_at(BigEndian, rest)?;
@@ -147,34 +159,30 @@ fn ipv6_address_at(octets: &[u8]) -> Option<(Host, &[u8])> {
     let (seventh, rest) = number16_at(BigEndian, rest)?;
     let (eighth, rest) = number16_at(BigEndian, rest)?;
     let groups = [first, second, third, fourth, fifth, sixth, seventh, eighth];
-    Some((Host::V6(groups), rest))
+    Some((IpAddr::V6(Ipv6Addr::from_segments(groups)), rest))
 }
 
 /// The fields of an IPv6 header that are used here, and what it carries (RFC 8200 section 3).
 #[derive(Clone, Copy, Debug)]
 struct Ipv6Packet<'p> {
-    /// The version.
-    version: u8,
     /// What stands behind the header.
     next_header: u8,
     /// The address that the packet came from.
-    source: Host,
+    source: IpAddr,
     /// The address that it went to.
-    destination: Host,
+    destination: IpAddr,
     /// The octets behind the header, as far as they were captured and the packet holds them.
     payload: &'p [u8],
 }
 
 /// The IPv6 packet that octets are. None: its header is cut.
 fn ipv6_packet(octets: &[u8]) -> Option<Ipv6Packet<'_>> {
-    let (first, _, rest) = pair_at(octets)?;
-    let (_, rest) = number16_at(BigEndian, rest)?;
+    let (_, rest) = octets_at(IPV6_FLOW, octets)?;
     let (length, rest) = number16_at(BigEndian, rest)?;
     let (next_header, _, rest) = pair_at(rest)?;
     let (source, rest) = ipv6_address_at(rest)?;
     let (destination, rest) = ipv6_address_at(rest)?;
     Some(Ipv6Packet {
-        version: first / 16,
         next_header,
         source,
         destination,
@@ -217,12 +225,10 @@ fn behind_extensions(header: u8, octets: &[u8]) -> Result<Option<&[u8]>, PacketF
 
 /// The UDP datagram of an IPv6 packet. None: it carries another protocol.
 ///
-/// `Cut`: it ends before its headers do. `Version`: it is of another version. `Fragment`: it is one.
+/// `Version`: it is of another version. `Cut`: it ends before its headers do. `Fragment`: it is one.
 pub(crate) fn ipv6_udp(octets: &[u8]) -> Result<Option<UdpPacket<'_>>, PacketFault> {
+    check_version(6, octets)?;
     let packet = ipv6_packet(octets).ok_or(PacketFault::Cut)?;
-    if packet.version != 6 {
-        return Err(PacketFault::Version);
-    }
     match behind_extensions(packet.next_header, packet.payload)? {
         None => Ok(None),
         Some(octets) => Ok(

@@ -2,6 +2,7 @@
 ghost use Rattle.std.specs.Prelude.{◌≤◌, length, IfSome};
 
 use crate::faults::PacketFault;
+use crate::internet::version_of;
 use crate::numbers::ByteOrder::BigEndian;
 use crate::numbers::{number16_at, number32_at, octets_at};
 
@@ -180,11 +181,12 @@ fn loopback(frame: &[u8]) -> Option<Carried<'_>> {
     })
 }
 
-/// What an IP packet without a link layer is, by the version in its first octet. None: it is cut.
+/// What an IP packet without a link layer is, by the version in its first octet. `Cut`: it has none.
+/// `Version`: it is neither of the two.
 fn raw(frame: &[u8]) -> Result<Carried<'_>, PacketFault> {
     match frame.first() {
         None => Err(PacketFault::Cut),
-        Some(first) => match *first >> 4 {
+        Some(first) => match version_of(*first) {
             4 => Ok(Carried::Ipv4(frame)),
             6 => Ok(Carried::Ipv6(frame)),
             _ => Err(PacketFault::Version),

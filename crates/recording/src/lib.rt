@@ -6,6 +6,7 @@ mod endings;
 mod fields;
 mod lines;
 mod pages;
+mod peers;
 mod recorders;
 mod runs;
 mod servers;

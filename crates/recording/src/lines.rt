@@ -1,5 +1,6 @@
 //! The lines of a recording.
 ghost use Rattle.std.specs.Prelude.{◌≤◌, length, IfOk};
+ghost use Rattle.rd_base.specs.Peers.{IsPeer};
 ghost use Rattle.line_model.specs.Lines.{IsLine};
 
 use rd_base::{Bytes, Moment, Peer, Starved};
@@ -29,7 +30,7 @@ pub(crate) fn come_line(
     payload: &[u8],
 ) -> Result<Line, Starved>
     requires moment { moment.0 ≤ LAST_MOMENT }
-    requires port { 1 ≤ peer.port }
+    requires peer { IsPeer peer }
     requires payload { length payload.now ≤ MAX_DATAGRAM }
     ensures { IfOk result IsLine }
 {

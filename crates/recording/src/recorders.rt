@@ -1,9 +1,11 @@
 //! A capture, read as a recording.
 ghost use Rattle.std.specs.Prelude.{◌≤◌, length};
+ghost use Rattle.rd_base.specs.Peers.{IsPeer};
 
 use crate::endings::Stop;
 use crate::lines::{MAX_DATAGRAM, WORKER, come_line, go_line, is_request};
 use crate::pages::Pages;
+use crate::peers::peer_of;
 use crate::servers::{Server, Way};
 use crate::timelines::Timeline;
 use capture_file::{CaptureFault, Datagram, Found, MAX_PART, Packet, PacketFault, Reader};
@@ -83,7 +85,7 @@ impl Recorder {
         payload: &[u8],
         pages: &mut Pages,
     ) -> Result<(), Starved>
-        requires port { 1 ≤ peer.port }
+        requires peer { IsPeer peer }
         requires payload { length payload.now ≤ MAX_DATAGRAM }
     {
         let moment = self.timeline.hear(moment, pages)?;
@@ -106,7 +108,7 @@ impl Recorder {
         payload: &[u8],
         pages: &mut Pages,
     ) -> Result<(), Starved>
-        requires port { 1 ≤ peer.port }
+        requires peer { IsPeer peer }
         requires payload { length payload.now ≤ MAX_DATAGRAM }
     {
         match (self.written, way) {
@@ -131,10 +133,10 @@ impl Recorder {
         pages: &mut Pages,
     ) -> Result<(), Starved> {
         let way = self.server.way(datagram)?;
-        let peer = match way {
+        let peer = peer_of(match way {
             Way::Came => datagram.source,
             Way::Sent => datagram.destination,
-        };
+        });
         if datagram.payload.len() > MAX_DATAGRAM {
             return self.say(name_of(PacketFault::TooLong), pages);
         }
@@ -225,9 +227,8 @@ impl Recorder {
             }
             rest = behind;
         }
-        self.keep(rest)?;
         self.missing -= rest.len();
-        Ok(())
+        Ok(self.keep(rest)?)
     }
 
     /// Whether the capture ends in the middle of something.

@@ -113,14 +113,19 @@ fn say<E: Sink>(err: &mut E, texts: &[&[u8]]) {
     }
 }
 
-/// Says which line is bad, and why.
-fn say_line<E: Sink>(err: &mut E, bad: LineBad) {
-    let why: &[u8] = match bad.why {
+/// The name of a reason.
+fn name_of(why: Reason) -> &'static [u8] {
+    match why {
         Reason::Long => b"long",
         Reason::Form => b"form",
         Reason::Worker => b"worker",
         Reason::Busy => b"busy",
-    };
+    }
+}
+
+/// Says which line is bad, and why.
+fn say_line<E: Sink>(err: &mut E, bad: LineBad) {
+    let why = name_of(bad.why);
     let mut buffer = Buffer::new();
     let line = buffer.format(bad.line).as_bytes();
     say(err, &[b"line ", line, b": ", why, b"\n"]);

@@ -1,8 +1,9 @@
 //! Which datagrams of a capture came to the server, and which it sent.
 
 use capture_file::Datagram;
-use rd_base::{Host, Starved};
+use rd_base::Starved;
 use std::alloc::Global;
+use std::net::IpAddr;
 
 /// On which way a datagram was.
 #[derive(Clone, Copy, Debug, PartialEq, Eq)]
@@ -19,7 +20,7 @@ pub(crate) struct Server {
     /// Its port.
     port: u16,
     /// Its addresses.
-    hosts: Vec<Host>,
+    addresses: Vec<IpAddr>,
 }
 
 impl Server {
@@ -27,7 +28,7 @@ impl Server {
     pub(crate) fn new(alloc: Global, port: u16) -> Server {
         Server {
             port,
-            hosts: Vec::new(alloc),
+            addresses: Vec::new(alloc),
         }
     }
 
@@ -37,9 +38,9 @@ impl Server {
     }
 
     /// The server is met at an address.
-    fn meet(&mut self, host: Host) -> Result<(), Starved> {
-        if !self.hosts.contains(&host) {
-            self.hosts.push(host)?;
+    fn meet(&mut self, address: IpAddr) -> Result<(), Starved> {
+        if !self.addresses.contains(&address) {
+            self.addresses.push(address)?;
         }
         Ok(())
     }
@@ -47,10 +48,10 @@ impl Server {
     /// On which way a datagram is both of whose ports are that of the server: it was sent where it
     /// comes from an address that the server was met at, and does not go to one.
     fn way_between(&self, datagram: &Datagram<'_>) -> Way {
-        if self.hosts.contains(&datagram.destination.host) {
+        if self.addresses.contains(&datagram.destination.ip()) {
             return Way::Came;
         }
-        if self.hosts.contains(&datagram.source.host) {
+        if self.addresses.contains(&datagram.source.ip()) {
             return Way::Sent;
         }
         Way::Came
@@ -58,10 +59,10 @@ impl Server {
 
     /// On which way a datagram to or from the port of the server is.
     fn way_by_port(&self, datagram: &Datagram<'_>) -> Way {
-        if datagram.destination.port != self.port {
+        if datagram.destination.port() != self.port {
             return Way::Sent;
         }
-        if datagram.source.port != self.port {
+        if datagram.source.port() != self.port {
             return Way::Came;
         }
         self.way_between(datagram)
@@ -71,8 +72,8 @@ impl Server {
     pub(crate) fn way(&mut self, datagram: &Datagram<'_>) -> Result<Way, Starved> {
         let way = self.way_by_port(datagram);
         match way {
-            Way::Came => self.meet(datagram.destination.host)?,
-            Way::Sent => self.meet(datagram.source.host)?,
+            Way::Came => self.meet(datagram.destination.ip())?,
+            Way::Sent => self.meet(datagram.source.ip())?,
         }
         Ok(way)
     }
