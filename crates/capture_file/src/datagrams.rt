@@ -49,13 +49,11 @@ fn of_port(port: u16, packet: UdpPacket<'_>) -> Result<Option<Datagram<'_>>, Pac
         return Ok(None);
     }
     let payload = payload_at(rest)?;
-    Ok(
-        Some(Datagram {
-            source: SocketAddr::new(packet.source, source),
-            destination: SocketAddr::new(packet.destination, destination),
-            payload,
-        }),
-    )
+    Ok(Some(Datagram {
+        source: SocketAddr::new(packet.source, source),
+        destination: SocketAddr::new(packet.destination, destination),
+        payload,
+    }))
 }
 
 /// The UDP packet that a captured packet carries. None: it carries something else.

@@ -90,7 +90,10 @@ fn ipv4_address_at(octets: &[u8]) -> Option<(IpAddr, &[u8])> {
     let [first, second, third, fourth, rest @ ..] = octets else {
         return None;
     };
-    Some((IpAddr::V4(Ipv4Addr::new(*first, *second, *third, *fourth)), rest))
+    Some((
+        IpAddr::V4(Ipv4Addr::new(*first, *second, *third, *fourth)),
+        rest,
+    ))
 }
 
 /// The two octets that octets begin with, and what stands behind them. None: there are fewer.
@@ -139,13 +142,11 @@ pub(crate) fn ipv4_udp(octets: &[u8]) -> Result<Option<UdpPacket<'_>>, PacketFau
     }
     let (_, rest) = octets_at(usize::from(header.header_length), octets).ok_or(PacketFault::Cut)?;
     let carried = usize::from(header.total_length - header.header_length);
-    Ok(
-        Some(UdpPacket {
-            source: header.source,
-            destination: header.destination,
-            octets: at_most(carried, rest),
-        }),
-    )
+    Ok(Some(UdpPacket {
+        source: header.source,
+        destination: header.destination,
+        octets: at_most(carried, rest),
+    }))
 }
 
 /// The address of IPv6 that octets begin with, and what stands behind it. None: it is cut.
@@ -231,12 +232,10 @@ pub(crate) fn ipv6_udp(octets: &[u8]) -> Result<Option<UdpPacket<'_>>, PacketFau
     let packet = ipv6_packet(octets).ok_or(PacketFault::Cut)?;
     match behind_extensions(packet.next_header, packet.payload)? {
         None => Ok(None),
-        Some(octets) => Ok(
-            Some(UdpPacket {
-                source: packet.source,
-                destination: packet.destination,
-                octets,
-            }),
-        ),
+        Some(octets) => Ok(Some(UdpPacket {
+            source: packet.source,
+            destination: packet.destination,
+            octets,
+        })),
     }
 }

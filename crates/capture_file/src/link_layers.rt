@@ -196,7 +196,10 @@ fn raw(frame: &[u8]) -> Result<Carried<'_>, PacketFault> {
 
 /// What a packet with this link type carries. `LinkLayer`: the link type is not read. `Cut`: the
 /// packet ends before its link layer does. `Version`: it is an IP packet of neither version.
-pub(crate) fn behind_link_layer(link_type: LinkType, frame: &[u8]) -> Result<Carried<'_>, PacketFault> {
+pub(crate) fn behind_link_layer(
+    link_type: LinkType,
+    frame: &[u8],
+) -> Result<Carried<'_>, PacketFault> {
     match link_type {
         LinkType::Loopback => loopback(frame).ok_or(PacketFault::Cut),
         LinkType::Ethernet => ethernet(frame).ok_or(PacketFault::Cut),

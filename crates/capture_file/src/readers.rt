@@ -2,8 +2,9 @@
 //! (draft-ietf-opsawg-pcapng).
 ghost use Rattle.std.specs.Prelude.{◌<◌, ◌≤◌, IfSome};
 
-use crate::blocks::{Block, BlockPacket, SECTION_HEADER};
-use crate::blocks::{enhanced_packet, obsolete_packet, simple_frame};
+use crate::blocks::{
+    Block, BlockPacket, SECTION_HEADER, enhanced_packet, obsolete_packet, simple_frame,
+};
 use crate::faults::{CaptureFault, PacketFault};
 use crate::interfaces::{Interface, interface_of};
 use crate::link_layers::LinkType;
@@ -204,7 +205,11 @@ impl Reader {
     }
 
     /// The header of a classic capture.
-    fn read_file_header(&mut self, resolution: Resolution, part: &[u8]) -> Result<(), CaptureFault> {
+    fn read_file_header(
+        &mut self,
+        resolution: Resolution,
+        part: &[u8],
+    ) -> Result<(), CaptureFault> {
         let Some(interface) = self.classic_interface(resolution, part) else {
             return Err(CaptureFault::NoCapture);
         };

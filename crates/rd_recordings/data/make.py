@@ -706,7 +706,7 @@ def transcripts():
 
 def recordings():
     say("recordings of examples: what the directory sends when their traces are replayed is what was captured")
-    for name in ["register", "discovery", "lookup", "filters", "two-filters", "pages", "update", "repeat", "blocks",
+    for name in ["register", "discovery", "lookup", "filters", "two-filters", "pages", "update", "blocks",
                  "refused", "malformed", "simple"]:
         with open(os.path.join(EXAMPLES, name + ".trace")) as file:
             steps = [line.split(" ") for line in file.read().splitlines()]

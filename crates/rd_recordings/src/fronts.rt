@@ -42,7 +42,10 @@ pub(crate) fn fronts_text(alloc: Global, words: &[String], file: &[u8]) -> Resul
         }
         last = Some(ending);
         let Ending { code, lines, said } = ending;
-        writeln!(text, "from {length}: status {code}, {lines} lines, {said} said")?;
+        writeln!(
+            text,
+            "from {length}: status {code}, {lines} lines, {said} said"
+        )?;
     }
     Ok(text)
 }

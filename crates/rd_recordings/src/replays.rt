@@ -28,24 +28,24 @@ fn replies(alloc: Global, file: &[u8]) -> Result<MemSink, Fault> {
     Ok(sent.out)
 }
 
-/// The first line at which what was sent and what a replay sends differ, if there is one. The line
-/// that ends the output of a replay is left out.
-fn difference(alloc: Global, sent: &str, replayed: &str) -> Result<Option<String>, Fault> {
+/// The number, from 1, of the first line in which what was sent and what a replay sends differ, if
+/// there is one. The line that ends the output of a replay is left out.
+fn first_difference(sent: &str, replayed: &str) -> Option<u64> {
     let mut came = replayed.lines().filter(|line| !line.starts_with(END));
+    let mut number = 0u64;
     'lines: for line in sent.lines() {
-        let replayed = came.next().unwrap_or("nothing");
-        if replayed != line {
-            return Ok(Some(format!(in alloc; "sent {line}, replayed {replayed}\n")?));
+        number = number.saturating_add(1);
+        if came.next() != Some(line) {
+            return Some(number);
         }
     }
-    match came.next() {
-        Some(line) => Ok(Some(format!(in alloc; "sent nothing, replayed {line}\n")?)),
-        None => Ok(None),
+    if came.next().is_some() {
+        return Some(number.saturating_add(1));
     }
+    None
 }
 
-/// Whether what the server of a capture sent is what the replay of its trace sends, and how many
-/// lines that are.
+/// Whether what the server of a capture sent is what the replay of its trace sends.
 pub(crate) fn replay_text(alloc: Global, file: &[u8]) -> Result<String, Fault> {
     let trace = run(alloc, &[], file)?;
     let out = replayed(alloc, trace.out.as_slice())?;
@@ -53,8 +53,8 @@ pub(crate) fn replay_text(alloc: Global, file: &[u8]) -> Result<String, Fault> {
     let sent = String::from_utf8_lossy(alloc, sent.as_slice())?;
     let replayed = String::from_utf8_lossy(alloc, out.as_slice())?;
     let sent = sent.as_str();
-    match difference(alloc, sent, replayed.as_str())? {
-        Some(difference) => Ok(difference),
+    match first_difference(sent, replayed.as_str()) {
+        Some(number) => Ok(format!(in alloc; "reply {number} differs\n")?),
         None => {
             let count = sent.lines().count();
             Ok(format!(in alloc; "{count} replies, as they were sent\n")?)

@@ -10,7 +10,7 @@ const LINE: usize = 32;
 
 /// What came of a run.
 #[derive(Drop)]
-pub(crate) struct Run {
+pub(crate) struct Outcome {
     /// How it ended.
     pub status: Status,
     /// What was written.
@@ -25,12 +25,12 @@ pub(crate) fn source_of(alloc: Global, octets: &[u8]) -> Result<MemSource, Starv
 }
 
 /// Runs words over a file.
-pub(crate) fn run(alloc: Global, words: &[String], file: &[u8]) -> Result<Run, Starved> {
+pub(crate) fn run(alloc: Global, words: &[String], file: &[u8]) -> Result<Outcome, Starved> {
     let mut source = source_of(alloc, file)?;
     let mut out = MemSink::of(alloc, Bytes::new(alloc));
     let mut err = MemSink::of(alloc, Bytes::new(alloc));
     let status = record(alloc, words, &mut source, &mut out, &mut err);
-    Ok(Run { status, out, err })
+    Ok(Outcome { status, out, err })
 }
 
 /// Whether words ask for a capture.

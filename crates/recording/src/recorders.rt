@@ -8,8 +8,9 @@ use crate::pages::Pages;
 use crate::peers::peer_of;
 use crate::servers::{Server, Way};
 use crate::timelines::Timeline;
-use capture_file::{CaptureFault, Datagram, Found, MAX_PART, Packet, PacketFault, Reader};
-use capture_file::datagram_of;
+use capture_file::{
+    CaptureFault, Datagram, Found, MAX_PART, Packet, PacketFault, Reader, datagram_of,
+};
 use rd_base::{Bytes, Moment, Peer, Starved};
 use std::alloc::Global;
 use std::mem;
