@@ -22,15 +22,16 @@ pub struct Datagram<'p> {
     pub payload: &'p [u8],
 }
 
-/// The two ports that a UDP datagram begins with, and what stands behind them. None: they are cut.
+/// The two ports that a UDP datagram begins with, and what stands behind them. None: they are
+/// cut.
 fn ports_at(octets: &[u8]) -> Option<(u16, u16, &[u8])> {
     let (source, rest) = number16_at(BigEndian, octets)?;
     let (destination, rest) = number16_at(BigEndian, rest)?;
     Some((source, destination, rest))
 }
 
-/// The payload behind the ports of a UDP datagram. `Cut`: it has fewer octets than its header says.
-/// `Length`: the header says that it is shorter than the header.
+/// The payload behind the ports of a UDP datagram. `Cut`: it has fewer octets than its header
+/// says. `Length`: the header says that it is shorter than the header.
 fn payload_at(octets: &[u8]) -> Result<&[u8], PacketFault> {
     let (length, rest) = number16_at(BigEndian, octets).ok_or(PacketFault::Cut)?;
     let (_, rest) = number16_at(BigEndian, rest).ok_or(PacketFault::Cut)?;
@@ -65,15 +66,15 @@ fn udp_of(packet: Packet<'_>) -> Result<Option<UdpPacket<'_>>, PacketFault> {
     }
 }
 
-/// The UDP datagram to or from a port that a captured packet carries (RFC 768, RFC 791, RFC 8200).
-/// None: it carries something else. Checksums are not looked at, and what stands behind the IP
-/// packet is cut off.
+/// The UDP datagram to or from a port that a captured packet carries (RFC 768, RFC 791, RFC
+/// 8200). None: it carries something else. Checksums are not looked at, and what stands behind
+/// the IP packet is cut off.
 ///
 /// `LinkLayer`: its link type is not read. `Cut`: it has fewer octets than its headers say.
-/// `Version`: it is of another version of IP than the link layer says. `Length`: a header says that
-/// it is shorter than itself. `Fragment`: it is one. The first of these that is met on the way from
-/// the link layer to the payload is answered, and none where another protocol or other ports were
-/// met before.
+/// `Version`: it is of another version of IP than the link layer says. `Length`: a header says
+/// that it is shorter than itself. `Fragment`: it is one. The first of these that is met on the
+/// way from the link layer to the payload is answered, and none where another protocol or other
+/// ports were met before.
 pub fn datagram_of(port: u16, packet: Packet<'_>) -> Result<Option<Datagram<'_>>, PacketFault> {
     match udp_of(packet)? {
         None => Ok(None),

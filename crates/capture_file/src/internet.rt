@@ -126,8 +126,8 @@ fn ipv4_header(octets: &[u8]) -> Option<Ipv4Header> {
 
 /// The UDP datagram of an IPv4 packet. None: it carries another protocol.
 ///
-/// `Version`: it is of another version. `Cut`: it ends before its header does. `Length`: its header
-/// says that it is shorter than the header. `Fragment`: it is one.
+/// `Version`: it is of another version. `Cut`: it ends before its header does. `Length`: its
+/// header says that it is shorter than the header. `Fragment`: it is one.
 pub(crate) fn ipv4_udp(octets: &[u8]) -> Result<Option<UdpPacket<'_>>, PacketFault> {
     check_version(4, octets)?;
     let header = ipv4_header(octets).ok_or(PacketFault::Cut)?;
@@ -196,7 +196,8 @@ fn is_passed(header: u8) -> bool {
     header == HOP_BY_HOP || header == ROUTING || header == DESTINATION
 }
 
-/// What stands behind the extension header that octets begin with, and what it is. None: it is cut.
+/// What stands behind the extension header that octets begin with, and what it is. None: it is
+/// cut.
 fn behind_extension(octets: &[u8]) -> Option<(u8, &[u8])>
     ensures { IfSome result (λ next. length next.1.now < length octets.now) }
 {
@@ -226,7 +227,8 @@ fn behind_extensions(header: u8, octets: &[u8]) -> Result<Option<&[u8]>, PacketF
 
 /// The UDP datagram of an IPv6 packet. None: it carries another protocol.
 ///
-/// `Version`: it is of another version. `Cut`: it ends before its headers do. `Fragment`: it is one.
+/// `Version`: it is of another version. `Cut`: it ends before its headers do. `Fragment`: it is
+/// one.
 pub(crate) fn ipv6_udp(octets: &[u8]) -> Result<Option<UdpPacket<'_>>, PacketFault> {
     check_version(6, octets)?;
     let packet = ipv6_packet(octets).ok_or(PacketFault::Cut)?;

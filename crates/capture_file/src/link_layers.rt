@@ -181,8 +181,8 @@ fn loopback(frame: &[u8]) -> Option<Carried<'_>> {
     })
 }
 
-/// What an IP packet without a link layer is, by the version in its first octet. `Cut`: it has none.
-/// `Version`: it is neither of the two.
+/// What an IP packet without a link layer is, by the version in its first octet. `Cut`: it has
+/// none. `Version`: it is neither of the two.
 fn raw(frame: &[u8]) -> Result<Carried<'_>, PacketFault> {
     match frame.first() {
         None => Err(PacketFault::Cut),

@@ -347,7 +347,8 @@ impl Reader {
         interface.packet(self.latest, packet.frame)
     }
 
-    /// The packet of a simple packet block. It has no moment: it is given that of the packet before.
+    /// The packet of a simple packet block. It has no moment: it is given that of the packet
+    /// before.
     fn found_simple<'p>(&self, body: &'p [u8]) -> Found<'p> {
         let Some(interface) = self.interface(0) else {
             return Found::Unread(PacketFault::Interface);
@@ -392,10 +393,10 @@ impl Reader {
 
     /// Reads the next part: its octets, or the first [`MAX_PART`] of them where it has more.
     ///
-    /// `NoCapture`: what was read is not what a capture begins with. `Block`: a block has a length
-    /// that no block has, the description of an interface is cut, or a section is of an unknown
-    /// version; then what stands behind it cannot be found. `Starved`: out of memory. After either the
-    /// reader is not to be used any more.
+    /// `NoCapture`: what was read is not what a capture begins with. `Block`: a block has a
+    /// length that no block has, the description of an interface is cut, or a section is of an
+    /// unknown version; then what stands behind it cannot be found. `Starved`: out of memory.
+    /// After either the reader is not to be used any more.
     pub fn read<'p>(&mut self, part: &'p [u8]) -> Result<Found<'p>, CaptureFault> {
         match self.part {
             Part::Magic => self.read_magic(part)?,

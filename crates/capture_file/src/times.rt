@@ -61,7 +61,8 @@ impl Resolution {
         }
     }
 
-    /// The whole milliseconds of seconds and a part of one in ticks, as classic captures have them.
+    /// The whole milliseconds of seconds and a part of one in ticks, as classic captures have
+    /// them.
     pub(crate) fn with_seconds(self, seconds: u32, ticks: u32) -> u64 {
         let part = self.milliseconds(u64::from(ticks));
         (u64::from(seconds) * SECOND).saturating_add(part)

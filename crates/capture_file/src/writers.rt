@@ -1,7 +1,7 @@
 //! Classic captures, written (draft-ietf-opsawg-pcap): UDP datagrams in IP packets without a link
 //! layer.
 ghost use Rattle.std.specs.Prelude.{◌≡◌, ◌+◌, ◌≤◌, length, IfOk};
-ghost use Rattle.capture_file.specs.Written.{address_octets, header_octets};
+ghost use Rattle.capture_file.specs.Written.{address_octets, header_octets, packet_octets};
 
 use crate::checksums::summed;
 use rd_base::{Bytes, Moment, Starved};
@@ -9,8 +9,8 @@ use std::alloc::Global;
 
 /// What a capture begins with, in numbers of the order in which the least significant octet comes
 /// first: the number that says so and that times have microseconds, the version 2.4, eight octets
-/// that are not used, the most octets of a packet (262,144), and the link type 101, which is none:
-/// IP packets alone.
+/// that are not used, the most octets of a packet (262,144), and the link type 101, which is
+/// none: IP packets alone.
 pub const FILE_HEADER: [u8; 24] = [
     0xd4, 0xc3, 0xb2, 0xa1, 2, 0, 4, 0, 0, 0, 0, 0, 0, 0, 0, 0, 0, 0, 4, 0, 101, 0, 0, 0,
 ];
@@ -195,7 +195,7 @@ fn append_ip_header(
 /// The packet of a datagram.
 fn ip_packet(alloc: Global, route: &Route, ports: Ports, payload: &[u8]) -> Result<Bytes, Starved>
     requires { length payload.now ≤ MAX_PAYLOAD }
-    ensures { IfOk result (λ packet. length packet ≡ header_octets route.now + address_octets route.now + 8 + length payload.now) }
+    ensures { IfOk result (λ packet. length packet ≡ packet_octets route.now (length payload.now)) }
 {
     let addresses = addresses(alloc, route)?;
     let length = payload.len() as u16 + UDP_HEADER;
@@ -226,7 +226,7 @@ pub fn packet_record(
     payload: &[u8],
 ) -> Result<Bytes, Starved>
     requires { length payload.now ≤ MAX_PAYLOAD }
-    ensures { IfOk result (λ octets. length octets ≡ 16 + (header_octets route.now + address_octets route.now + 8 + length payload.now)) }
+    ensures { IfOk result (λ octets. length octets ≡ 16 + packet_octets route.now (length payload.now)) }
 {
     let (seconds, microseconds) = time_of(moment);
     let packet = ip_packet(alloc, route, ports, payload)?;

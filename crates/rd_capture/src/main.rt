@@ -1,4 +1,5 @@
-//! `rd_capture`: reads a capture of what a server heard and sent as a trace and its output, and writes these as a capture.
+//! `rd_capture`: reads a capture of what a server heard and sent as a trace and its output, and
+//! writes these as a capture.
 #![tactic(auto)]
 
 use rd_base::{StdSink, StdSource};
@@ -6,7 +7,8 @@ use recording::{Status, record, report};
 use std::process::ExitCode;
 use std::{env, io};
 
-/// The words of the command line, without the program's name. One that is not UTF-8 is none of the program's words.
+/// The words of the command line, without the program's name. One that is not UTF-8 is none of
+/// the program's words.
 fn words_of(rt: &HostRuntime) -> Result<Vec<String>, Status> {
     let mut args = match env::args(rt) {
         Ok(args) => args,

@@ -1,12 +1,12 @@
 //! `rd_recordings`: runs stored captures through what `rd_capture` does, and prints what comes of
 //! each.
 //!
-//! Standard input names the cases, one a line; their files lie in the folder where the program runs.
-//! Empty lines and those that begin with `#` are passed over. `read FILE WORDS` prints what is
-//! written for the file and these words of the command line, a capture in hexadecimal digits;
-//! `fronts FILE` prints for each length how what comes of so many octets of the file ends, where it
-//! differs from one octet less; `replay FILE` replays the trace of a capture and compares what the
-//! directory sends with what was captured.
+//! Standard input names the cases, one a line; their files lie in the folder where the program
+//! runs. Empty lines and those that begin with `#` are passed over. `read FILE WORDS` prints what
+//! is written for the file and these words of the command line, a capture in hexadecimal digits;
+//! `fronts FILE` prints for each length how what comes of so many octets of the file ends, where
+//! it differs from one octet less; `replay FILE` replays the trace of a capture and compares what
+//! the directory sends with what was captured.
 #![tactic(auto)]
 
 mod case;

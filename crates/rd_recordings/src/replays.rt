@@ -28,8 +28,8 @@ fn replies(alloc: Global, file: &[u8]) -> Result<MemSink, Fault> {
     Ok(sent.out)
 }
 
-/// The number, from 1, of the first line in which what was sent and what a replay sends differ, if
-/// there is one. The line that ends the output of a replay is left out.
+/// The number, from 1, of the first line in which what was sent and what a replay sends differ,
+/// if there is one. The line that ends the output of a replay is left out.
 fn first_difference(sent: &str, replayed: &str) -> Option<u64> {
     let mut came = replayed.lines().filter(|line| !line.starts_with(END));
     let mut number = 0u64;

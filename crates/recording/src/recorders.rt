@@ -21,8 +21,8 @@ use trace_text::{line_print, out_print};
 pub(crate) struct Recorder {
     /// Where its memory comes from.
     alloc: Global,
-    /// Which datagrams are written: those that came as lines of a trace, or those that were sent as
-    /// lines of its output.
+    /// Which datagrams are written: those that came as lines of a trace, or those that were sent
+    /// as lines of its output.
     written: Way,
     /// The server of the recording.
     server: Server,
@@ -78,7 +78,8 @@ impl Recorder {
         }
     }
 
-    /// A datagram that came to the server is written, with the end of its job where it may leave one.
+    /// A datagram that came to the server is written, with the end of its job where it may leave
+    /// one.
     fn write_come(
         &mut self,
         moment: Moment,
@@ -99,8 +100,8 @@ impl Recorder {
         Ok(())
     }
 
-    /// A datagram that can stand in a line is written, where those on its way are. Others let time
-    /// pass.
+    /// A datagram that can stand in a line is written, where those on its way are. Others let
+    /// time pass.
     fn write_datagram(
         &mut self,
         moment: Moment,

@@ -164,9 +164,9 @@ fn run<S: Source, K: Sink, E: Sink>(
 }
 
 /// Reads a capture from `source` and writes to `out` the trace of what came to a port, or with
-/// `--replies` the lines of the output for what was sent from it; with `--pcap` it reads a trace and
-/// its output and writes a capture. `--port` names the port, 5683 where it is not named. What cannot
-/// be read is said on `err`, and so is how the run ends.
+/// `--replies` the lines of the output for what was sent from it; with `--pcap` it reads a trace
+/// and its output and writes a capture. `--port` names the port, 5683 where it is not named. What
+/// cannot be read is said on `err`, and so is how the run ends.
 ///
 /// `words` are those of the command line, without the program's name.
 pub fn record<S: Source, K: Sink, E: Sink>(

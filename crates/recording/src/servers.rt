@@ -45,8 +45,8 @@ impl Server {
         Ok(())
     }
 
-    /// On which way a datagram is both of whose ports are that of the server: it was sent where it
-    /// comes from an address that the server was met at, and does not go to one.
+    /// On which way a datagram is both of whose ports are that of the server: it was sent where
+    /// it comes from an address that the server was met at, and does not go to one.
     fn way_between(&self, datagram: &Datagram<'_>) -> Way {
         if self.addresses.contains(&datagram.destination.ip()) {
             return Way::Came;

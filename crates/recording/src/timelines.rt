@@ -105,7 +105,8 @@ impl Timeline {
         Ok(now)
     }
 
-    /// The recording ends: a second passes, and a tick comes. Nothing passes where nothing was met.
+    /// The recording ends: a second passes, and a tick comes. Nothing passes where nothing was
+    /// met.
     pub(crate) fn end(&mut self, pages: &mut Pages) -> Result<(), Starved> {
         if !self.is_begun {
             return Ok(());

@@ -96,8 +96,8 @@ fn as_come(alloc: Global, worker: &[u8], rest: &[u8]) -> Result<Bytes, Starved> 
     Ok(line)
 }
 
-/// What a line of the output says behind its first word, read as the line of a datagram that comes
-/// from where it goes to.
+/// What a line of the output says behind its first word, read as the line of a datagram that
+/// comes from where it goes to.
 fn sent_read(alloc: Global, fields: &[u8]) -> Result<Line, LineFault>
     ensures { IfOk result IsLine }
 {
