@@ -1,17 +1,20 @@
 #!/usr/bin/env python3
-"""Makes the stored captures of this folder, the list of cases (../stdin) and what is to come of them
-(../stdout). It knows the forms of captures from their documents (draft-ietf-opsawg-pcap,
-draft-ietf-opsawg-pcapng, the registry of link types) and shares nothing with the program: what is to
-come is written down beside each packet, and not read back from it.
+"""Makes the stored captures of this folder, the list of cases (../stdin) and what is to come of
+them (../stdout), and the stored run of rd_capture. It knows the forms of captures from their
+documents (draft-ietf-opsawg-pcap, draft-ietf-opsawg-pcapng, the registry of link types) and shares
+nothing with the program: what is to come is written down beside each packet, and not read back
+from it.
 
     python3 make.py        writes all files anew
 """
 import ipaddress
 import os
+import re
 import struct
 
 HERE = os.path.dirname(os.path.abspath(__file__))
-EXAMPLES = os.path.join(HERE, "..", "..", "..", "examples")
+EXAMPLES = os.path.join(HERE, "..", "..", "rd_rows", "data", "examples")
+RECORDED = []  # captures of a running server, which are not made here, and their replies
 PORT = 5683
 CAP = 86_400  # seconds with a tick at most behind one moment
 LAST = 999_999_999_999_999
@@ -41,7 +44,8 @@ def udp(src, dst, payload, length=None):
     return struct.pack(">HHHH", src[1], dst[1], size & 0xFFFF, value) + payload
 
 
-def ipv4(src, dst, payload, protocol=17, options=b"", flags=0x4000, version=4, words=None, total=None):
+def ipv4(src, dst, payload, protocol=17, options=b"", flags=0x4000, version=4, words=None,
+         total=None):
     words = 5 + len(options) // 4 if words is None else words
     total = 20 + len(options) + len(payload) if total is None else total
     head = struct.pack(">BBHHHBBH", version << 4 | words, 0, total, 7, flags, 64, protocol, 0)
@@ -52,7 +56,8 @@ def ipv4(src, dst, payload, protocol=17, options=b"", flags=0x4000, version=4, w
 
 def ipv6(src, dst, payload, header=17, version=6, length=None):
     length = len(payload) if length is None else length
-    return struct.pack(">IHBB", version << 28, length, header, 64) + addr(src) + addr(dst) + payload
+    head = struct.pack(">IHBB", version << 28, length, header, 64)
+    return head + addr(src) + addr(dst) + payload
 
 
 def packet(src, dst, payload, **more):
@@ -83,7 +88,8 @@ def cooked(data, kind=None, tags=()):
 
 def cooked2(data, kind=None):
     kind = (0x86DD if data[0] >> 4 == 6 else 0x0800) if kind is None else kind
-    return struct.pack(">HHIHBB8s", kind, 0, 3, 1, 0, 6, bytes.fromhex("0200000000010000")) + data
+    address = bytes.fromhex("0200000000010000")
+    return struct.pack(">HHIHBB8s", kind, 0, 3, 1, 0, 6, address) + data
 
 
 # ---------------------------------------------------------------- what is to come
@@ -91,7 +97,9 @@ def cooked2(data, kind=None):
 
 def peer(where):
     address, port = where
-    return f"[{ipaddress.ip_address(address).compressed}]:{port}" if ":" in address else f"{address}:{port}"
+    if ":" in address:
+        address = f"[{ipaddress.ip_address(address).compressed}]"
+    return f"{address}:{port}"
 
 
 def digits(payload):
@@ -137,13 +145,15 @@ class Story:
         return lines + [f"tick 0 {m}" for m in left]
 
     def replies(self):
-        return [f"out 0 {peer(where)} {digits(payload)}" for _, way, where, payload in self.met if way == "out"]
+        sent = [(where, payload) for _, way, where, payload in self.met if way == "out"]
+        return [f"out 0 {peer(where)} {digits(payload)}" for where, payload in sent]
 
 
 class Pcap(Story):
     """A classic capture."""
 
-    def __init__(self, link, order="<", nanoseconds=False, magic=None, version=(2, 4), snap=262144):
+    def __init__(self, link, order="<", nanoseconds=False, magic=None, version=(2, 4),
+                 snap=1 << 18):
         super().__init__()
         self.order, self.unit = order, 1_000_000 if nanoseconds else 1_000
         magic = (0xA1B23C4D if nanoseconds else 0xA1B2C3D4) if magic is None else magic
@@ -154,7 +164,8 @@ class Pcap(Story):
         """A packet at so many milliseconds; event: what is to come of it."""
         data = frame if captured is None else frame[:captured]
         size = len(data) if claimed is None else claimed
-        self.octets += struct.pack(self.order + "IIII", at // 1000, at % 1000 * self.unit, size, len(frame)) + data
+        time = (at // 1000, at % 1000 * self.unit)
+        self.octets += struct.pack(self.order + "IIII", *time, size, len(frame)) + data
         self.note(at, event)
         return self
 
@@ -184,7 +195,8 @@ class Pcapng(Story):
     def options(self, *options):
         data = b""
         for code, value in options:
-            data += struct.pack(self.order + "HH", code, len(value)) + value + b"\0" * (-len(value) % 4)
+            data += struct.pack(self.order + "HH", code, len(value)) + value
+            data += b"\0" * (-len(value) % 4)
         return data + (struct.pack(self.order + "HH", 0, 0) if options else b"")
 
     def section(self, order, version=(1, 0), magic=0x1A2B3C4D, options=()):
@@ -193,7 +205,8 @@ class Pcapng(Story):
         return self.block(0x0A0D0D0A, body)
 
     def interface(self, link, snap=0, options=()):
-        return self.block(1, struct.pack(self.order + "HHI", link, 0, snap) + self.options(*options))
+        body = struct.pack(self.order + "HHI", link, 0, snap)
+        return self.block(1, body + self.options(*options))
 
     def note(self, at, event):
         self.packets += 1
@@ -203,15 +216,18 @@ class Pcapng(Story):
             self.met.append((at, *event))
         return self
 
-    def enhanced(self, interface, ticks, frame, at, event, captured=None, options=(), claimed=None):
+    def enhanced(self, interface, ticks, frame, at, event, captured=None, options=(),
+                 claimed=None):
         data = frame if captured is None else frame[:captured]
         size = len(data) if claimed is None else claimed
-        body = struct.pack(self.order + "IIIII", interface, ticks >> 32, ticks & 0xFFFFFFFF, size, len(frame))
+        time = (ticks >> 32, ticks & 0xFFFFFFFF)
+        body = struct.pack(self.order + "IIIII", interface, *time, size, len(frame))
         self.block(6, body + data + b"\0" * (-len(data) % 4) + self.options(*options))
         return self.note(at, event)
 
     def obsolete(self, interface, ticks, frame, at, event):
-        body = struct.pack(self.order + "HHIIII", interface, 0, ticks >> 32, ticks & 0xFFFFFFFF, len(frame), len(frame))
+        time = (ticks >> 32, ticks & 0xFFFFFFFF)
+        body = struct.pack(self.order + "HHIIII", interface, 0, *time, len(frame), len(frame))
         self.block(2, body + frame)
         return self.note(at, event)
 
@@ -303,17 +319,19 @@ def link_layers():
     read("ethernet.pcap", story)
     replies("ethernet.pcap", story)
 
-    say("the number of an address family, in either order; IPv6 as the systems number it; another family")
+    say("the number of an address family, in either order; IPv6 as systems number it; another one")
     story = Pcap(0)
     for place, family in enumerate(["02000000", "00000002"]):
-        story.add(BASE + place, bytes.fromhex(family) + packet(DEVICE, SERVER, GET), in_of(DEVICE, GET))
+        frame = bytes.fromhex(family) + packet(DEVICE, SERVER, GET)
+        story.add(BASE + place, frame, in_of(DEVICE, GET))
     for place, family in enumerate(["0a000000", "18000000", "1c000000", "1e000000", "0000001e"]):
-        story.add(BASE + 5 + place, bytes.fromhex(family) + packet(DEVICE6, SERVER6, GET), in_of(DEVICE6, GET))
+        frame = bytes.fromhex(family) + packet(DEVICE6, SERVER6, GET)
+        story.add(BASE + 5 + place, frame, in_of(DEVICE6, GET))
     story.add(BASE + 20, bytes.fromhex("17000000") + packet(DEVICE, SERVER, GET))
     read("null.pcap", story)
     story = Pcap(108)
-    story.add(BASE, bytes.fromhex("00000002") + packet(DEVICE, SERVER, GET), in_of(DEVICE, GET))
-    story.add(BASE + 1, bytes.fromhex("0000001c") + packet(DEVICE6, SERVER6, GET), in_of(DEVICE6, GET))
+    story.add(BASE, b"\0\0\0\x02" + packet(DEVICE, SERVER, GET), in_of(DEVICE, GET))
+    story.add(BASE + 1, b"\0\0\0\x1c" + packet(DEVICE6, SERVER6, GET), in_of(DEVICE6, GET))
     read("loop.pcap", story)
 
     say("Linux, cooked, both versions; a VLAN tag")
@@ -328,7 +346,7 @@ def link_layers():
     story.add(BASE + 22, cooked2(bytes(28), kind=0x0806))
     read("cooked2.pcap", story)
 
-    say("IP packets without a link layer; a version that is neither; one that is not what was said")
+    say("IP packets without a link layer; of a version that is neither, or not what was said")
     for name, link in [("raw.pcap", 101), ("raw12.pcap", 12)]:
         story = pairs(Pcap(link), lambda data: data)
         story.add(BASE + 9, packet(DEVICE6, SERVER6, GET), in_of(DEVICE6, GET))
@@ -343,7 +361,8 @@ def link_layers():
 
     say("Ethernet frames that end in a check sequence, which the upper bits of the link type say")
     story = Pcap(0x2400_0001)
-    story.add(BASE, ethernet(packet(DEVICE, SERVER, GET)) + b"\x01\x02\x03\x04", in_of(DEVICE, GET))
+    frame = ethernet(packet(DEVICE, SERVER, GET)) + b"\x01\x02\x03\x04"
+    story.add(BASE, frame, in_of(DEVICE, GET))
     read("check-sequence.pcap", story)
 
     say("another link layer, of which each packet is named")
@@ -356,7 +375,8 @@ def orders():
     say("classic captures in the other order, with nanoseconds, and both")
     read("big-endian.pcap", pairs(Pcap(101, ">"), lambda data: data))
     story = pairs(Pcap(101, "<", True), lambda data: data)
-    story.octets += struct.pack("<IIII", BASE // 1000, 8_999_999, 32, 32) + packet(DEVICE, SERVER, GET)
+    story.octets += struct.pack("<IIII", BASE // 1000, 8_999_999, 32, 32)
+    story.octets += packet(DEVICE, SERVER, GET)
     story.note(BASE + 8, in_of(DEVICE, GET))
     read("nanoseconds.pcap", story)
     read("nanoseconds-big-endian.pcap", pairs(Pcap(101, ">", True), lambda data: data))
@@ -366,7 +386,7 @@ def internet():
     def extension(following, size, kind=None):
         return struct.pack(">BB", following, size) + bytes(6 + 8 * size)
 
-    say("IPv6 extension headers: hop-by-hop, routing, destination; others; fragments; headers that are cut")
+    say("IPv6 extension headers: those that are passed over, others, fragments, some that are cut")
     story = Pcap(229)
     data = udp(DEVICE6, SERVER6, GET)
 
@@ -376,7 +396,8 @@ def internet():
     add(0, extension(17, 0) + data, in_of(DEVICE6, GET), BASE)
     add(43, extension(17, 2) + data, in_of(DEVICE6, GET), BASE + 1)
     add(60, extension(17, 1) + data, in_of(DEVICE6, GET), BASE + 2)
-    add(0, extension(43, 0) + extension(60, 2) + extension(17, 0) + data, in_of(DEVICE6, GET), BASE + 3)
+    three = extension(43, 0) + extension(60, 2) + extension(17, 0)
+    add(0, three + data, in_of(DEVICE6, GET), BASE + 3)
     add(0, extension(6, 0) + bytes(20), None, BASE + 4)
     add(59, b"", None, BASE + 5)
     add(51, extension(17, 1) + data, None, BASE + 6)
@@ -406,12 +427,14 @@ def internet():
     story.add(BASE, ipv4("192.0.2.10", "192.0.2.1", udp(DEVICE, SERVER, GET, 13)), "cut")
     story.add(BASE, packet(DEVICE, SERVER, GET, total=31), "cut")
     story.add(BASE, packet(DEVICE, SERVER, GET, total=20), "cut")
-    story.add(BASE + 1, ipv4("192.0.2.10", "192.0.2.1", udp(DEVICE, SERVER, GET, 11)), in_of(DEVICE, GET[:3]))
-    story.add(BASE + 2, ipv4("192.0.2.10", "192.0.2.1", udp(DEVICE, SERVER, GET, 8)), in_of(DEVICE, b""))
+    shorter = ipv4("192.0.2.10", "192.0.2.1", udp(DEVICE, SERVER, GET, 11))
+    story.add(BASE + 1, shorter, in_of(DEVICE, GET[:3]))
+    shorter = ipv4("192.0.2.10", "192.0.2.1", udp(DEVICE, SERVER, GET, 8))
+    story.add(BASE + 2, shorter, in_of(DEVICE, b""))
     story.add(BASE + 3, ipv4("192.0.2.10", "192.0.2.1", udp(DEVICE, OTHER, GET, 7)))
     read("lengths.pcap", story)
 
-    say("packets that are cut in each of their headers; those that are known before are passed over")
+    say("packets that are cut in each header; what is known to be none before is passed over")
     story = Pcap(1)
     whole = ethernet(packet(DEVICE, SERVER, GET))
     other = ethernet(packet(DEVICE, OTHER, GET))
@@ -459,7 +482,8 @@ def internet():
 def times():
     say("ticks: each whole second, 50 ms behind a datagram, one a moment; moments that go back")
     story = Pcap(101)
-    steps = [950, 1000, 1049, 1050, 1100, 1149, 1100, 1200, 1250, 1900, 1950, 2000, 2000, 2001, 5950, 8020]
+    steps = [950, 1000, 1049, 1050, 1100, 1149, 1100, 1200, 1250, 1900, 1950, 2000, 2000, 2001,
+             5950, 8020]
     for place, at in enumerate(steps):
         event = bytes([0x40, 1, 0, place])
         story.add(BASE + at, packet(DEVICE, SERVER, event), in_of(DEVICE, event))
@@ -500,7 +524,7 @@ def fronts(*stories):
 
 
 def blocks():
-    say("blocks: sections in both orders, the ticks of interfaces, each kind of packet block, blocks passed over")
+    say("blocks: sections in both orders, ticks of interfaces, packet blocks of each kind, others")
     story = Pcapng().section("<", options=[(1, b"made for a case"), (4, b"by hand")])
     story.interface(101)
     story.interface(1, 0, [(2, b"eth0"), (9, b"\x09"), (11, b"\0udp port 5683")])
@@ -512,27 +536,24 @@ def blocks():
     story.interface(127)
     raw, framed = packet(DEVICE, SERVER, GET), ethernet(packet(DEVICE, SERVER, GET))
     story.enhanced(0, (BASE + 1) * 1000 + 999, raw, BASE + 1, in_of(DEVICE, GET))
-    story.block(4, struct.pack("<HH", 1, 9) + addr("192.0.2.10") + b"node\0" + bytes(3) + bytes(4))
-    story.enhanced(1, (BASE + 2) * 1_000_000 + 1, framed, BASE + 2, in_of(DEVICE, GET), options=[(2, b"\0\0\0\1")])
+    name = struct.pack("<HH", 1, 9) + addr("192.0.2.10") + b"node\0"
+    story.block(4, name + bytes(3) + bytes(4))
+    ticks, flags = (BASE + 2) * 1_000_000 + 1, (2, b"\0\0\0\1")
+    story.enhanced(1, ticks, framed, BASE + 2, in_of(DEVICE, GET), options=[flags])
     ticks = (BASE * 1024 // 1000) + 3
     story.enhanced(2, ticks, raw, ticks * 1000 // 1024, in_of(DEVICE, GET))
     story.enhanced(3, BASE // 1000 + 4, raw, BASE + 1000, in_of(DEVICE, GET))
     story.enhanced(4, BASE - 500, raw, BASE + 1500, in_of(DEVICE, GET))
     story.simple(raw, BASE + 1500, in_of(DEVICE, GET))
-    ticks = (BASE // 1000 + 2 << 64 - 1) % (1 << 64)
     story.enhanced(5, 1 << 63, raw, 500, in_of(DEVICE, GET))
     story.enhanced(6, 17 * 10**18, raw, 1700, in_of(DEVICE, GET))
     story.enhanced(7, BASE * 1000, raw, BASE, "link layer")
-    story.enhanced(8, BASE * 1000, raw, BASE, "interface")
     story.obsolete(0, (BASE + 1600) * 1000, raw, BASE + 1600, in_of(DEVICE, GET))
-    story.obsolete(9, BASE * 1000, raw, BASE, "interface")
     story.block(5, struct.pack("<III", 0, 0, 0) + story.options((4, bytes(8))))
     story.block(0x00000BAD, b"\0\0\x7d\x00what another program says")
-    story.block(0x40000BAD, b"")
+    story.block(0x40000BAD, b"\0\0\x7d\0")
     story.enhanced(0, (BASE + 1700) * 1000, raw, BASE, "cut", captured=31)
-    story.enhanced(0, (BASE + 1700) * 1000, raw, BASE, "cut", claimed=33)
     story.section(">")
-    story.simple(raw, BASE, "interface")
     story.interface(101, 32)
     story.interface(1)
     story.enhanced(0, (BASE + 1800) * 1000, raw, BASE + 1800, in_of(DEVICE, GET))
@@ -540,22 +561,43 @@ def blocks():
     story.simple(packet(DEVICE, SERVER, POST), BASE, "cut", captured=32)
     story.simple(raw, BASE + 1801, in_of(DEVICE, GET))
     story.obsolete(1, (BASE + 1802) * 1000, framed, BASE + 1802, in_of(DEVICE, GET))
-    story.enhanced(1, (BASE + 1803) * 1000, ethernet(packet(SERVER, DEVICE, CONTENT)), BASE + 1803, out_of(DEVICE, CONTENT))
+    answer = ethernet(packet(SERVER, DEVICE, CONTENT))
+    story.enhanced(1, (BASE + 1803) * 1000, answer, BASE + 1803, out_of(DEVICE, CONTENT))
     read("blocks.pcapng", story)
     replies("blocks.pcapng", story)
 
-    say("blocks of lengths that no block has, and a section of an unknown form: nothing behind them is found")
-    for name, length in [("length-8.pcapng", 8), ("length-14.pcapng", 14), ("length-0.pcapng", 0)]:
+    say("packets of interfaces that no block of the section describes; packets past their blocks")
+    story = Pcapng().section("<").interface(101)
+    story.enhanced(0, BASE * 1000, raw, BASE, in_of(DEVICE, GET))
+    story.enhanced(1, BASE * 1000, raw, BASE, "interface")
+    story.enhanced(0xFFFFFFFF, BASE * 1000, raw, BASE, "interface")
+    story.obsolete(9, BASE * 1000, raw, BASE, "interface")
+    story.enhanced(0, BASE * 1000, raw, BASE, "cut", claimed=33)
+    story.enhanced(0, BASE * 1000, raw, BASE, "cut", claimed=0xFFFFFFFF)
+    story.block(6, bytes(19)).note(BASE, "cut")
+    story.block(3, b"").note(BASE, "cut")
+    story.block(6, b"").note(BASE, "cut")
+    story.section(">")
+    story.simple(raw, BASE, "interface")
+    story.enhanced(0, BASE * 1000, raw, BASE, "interface")
+    story.interface(101)
+    story.enhanced(0, BASE * 1000 + 7000, raw, BASE + 7, in_of(DEVICE, GET))
+    read("interfaces.pcapng", story)
+
+    say("blocks of lengths that no block has, and a section of an unknown form, end the capture")
+    for length in [0, 8, 14]:
+        name = f"length-{length}.pcapng"
         story = Pcapng().section("<").interface(101)
         story.enhanced(0, BASE * 1000, raw, BASE, in_of(DEVICE, GET))
         story.block(0x0BAD, b"", length).note(BASE, "block")
         story.enhanced(0, BASE * 1000, raw, BASE, None)
         read(name, story)
-    for name, form in [("section-magic.pcapng", {"magic": 0x1A2B3C4E}), ("section-version.pcapng", {"version": (2, 0)})]:
+    forms = [("section-magic", {"magic": 0x1A2B3C4E}), ("section-version", {"version": (2, 0)})]
+    for name, form in forms:
         story = Pcapng().section("<").interface(101)
         story.enhanced(0, BASE * 1000, raw, BASE, in_of(DEVICE, GET))
         story.section(">", **form).note(BASE, "block")
-        read(name, story)
+        read(name + ".pcapng", story)
     story = Pcapng().section("<").block(1, bytes(4)).note(BASE, "block")
     read("interface-cut.pcapng", story)
 
@@ -584,12 +626,13 @@ def blocks():
         if count > 2:
             part.add(BASE + 990, ethernet(packet(DEVICE6, SERVER6, POST)), in_of(DEVICE6, POST))
         if count > 3:
-            part.add(BASE + 1990, ethernet(packet(SERVER6, DEVICE6, CREATED)), out_of(DEVICE6, CREATED))
+            created = ethernet(packet(SERVER6, DEVICE6, CREATED))
+            part.add(BASE + 1990, created, out_of(DEVICE6, CREATED))
         parts.append(part)
     FILES["small.pcap"] = parts[-1].octets
     case("fronts small.pcap", fronts(*parts))
 
-    say("a packet longer than the rest of the file; one of more than a mebibyte")
+    say("a packet longer than the rest of the file")
     story = Pcap(101)
     story.add(BASE, packet(DEVICE, SERVER, GET), in_of(DEVICE, GET))
     story.add(BASE, packet(DEVICE, SERVER, GET), "cut", claimed=1000)
@@ -612,8 +655,9 @@ def words():
     usage = "usage: rd_capture [--port P] [--replies | --pcap]"
     name = "empty.pcap"
     for said in [
-        "--port", "--port 0", "--port 65536", "--port 05683", "--port +1", "--port=", "--port 1 --port 1",
-        "--port=1 --port=1", "--replies --pcap", "--pcap --pcap", "--replies --replies", "--help", "-", "trace",
+        "--port", "--port 0", "--port 65536", "--port 05683", "--port +1", "--port=", "--port=a",
+        "--port 1 --port 1", "--port=1 --port=1", "--replies --pcap", "--pcap --pcap",
+        "--replies --replies", "--replies=1", "--help", "-", "trace",
     ]:
         refused(name, FILES[name], usage, 3, said)
     story = Pcap(101)
@@ -652,7 +696,8 @@ def written(lines, port=PORT):
                 frame = frame[:4] + b"\0\0" + frame[6:10] + b"\0\0" + frame[12:]
                 frame = frame[:10] + struct.pack(">H", checksum(frame[:20])) + frame[12:]
             second = min(latest // 1000, 0xFFFFFFFF)
-            octets += struct.pack("<IIII", second, latest % 1000 * 1000, len(frame), len(frame)) + frame
+            octets += struct.pack("<II", second, latest % 1000 * 1000)
+            octets += struct.pack("<II", len(frame), len(frame)) + frame
     return octets
 
 
@@ -690,9 +735,10 @@ def transcripts():
     say("lines that are bad: those before them are written")
     good = "in 0 5 192.0.2.10:40000 40010101"
     bad = {
-        "form": ["", "out", "out 0", "out 0 192.0.2.10:40000", "out 0 192.0.2.10:0 40", "out 0 192.0.2.10:1 4",
-                 "out 256 192.0.2.10:1 40", "out 0 192.0.2.10:1 40 ", "out 0 1 192.0.2.10:1 40", "end", "end 1 1",
-                 "end 1 1 01", "end 1 1 1 1", "out 0 192.0.2.10:1 " + "40" * 4097, "IN 0 5 192.0.2.10:1 40"],
+        "form": ["", "out", "out 0", "out 0 192.0.2.10:40000", "out 0 192.0.2.10:0 40",
+                 "out 0 192.0.2.10:1 4", "out 256 192.0.2.10:1 40", "out 0 192.0.2.10:1 40 ",
+                 "out 0 1 192.0.2.10:1 40", "end", "end 1 1", "end 1 1 01", "end 1 1 1 1",
+                 "out 0 192.0.2.10:1 " + "40" * 4097, "IN 0 5 192.0.2.10:1 40"],
         "long": ["in 0 5 192.0.2.10:1 " + "40" * 4300],
     }
     count = 0
@@ -705,38 +751,32 @@ def transcripts():
 
 
 def recordings():
-    say("recordings of examples: what the directory sends when their traces are replayed is what was captured")
-    for name in ["register", "discovery", "lookup", "filters", "two-filters", "pages", "update", "blocks",
-                 "refused", "malformed", "simple"]:
-        with open(os.path.join(EXAMPLES, name + ".trace")) as file:
-            steps = [line.split(" ") for line in file.read().splitlines()]
-        with open(os.path.join(EXAMPLES, name + ".out")) as file:
-            sent = [line.split(" ") for line in file.read().splitlines() if line.startswith("out ")]
-        capture = Pcapng().section("<", options=[(1, f"examples/{name}".encode())]).interface(1, 262144)
-        heard = [step for step in steps if step[0] == "in"]
-        count = 0
-        for place, step in enumerate(heard):
-            _, _, at, where, data = step
-            there = place_of(where)
+    say("recordings of examples: a replay of what came sends what was sent")
+    names = ["register", "discovery", "lookup", "filters", "two_filters", "pages", "update",
+             "lapse", "upload", "blocks", "simple", "refused", "malformed"]
+    for name in names:
+        capture = Pcapng().section("<", options=[(1, f"examples/{name}".encode())])
+        capture.interface(1, 1 << 18)
+        now = sent = 0
+        with open(os.path.join(EXAMPLES, name + ".case")) as file:
+            lines = [line.split(" ") for line in file.read().splitlines()]
+        for kind, verb, *fields in [line for line in lines if line[0] in ("<", ">")]:
+            if kind == "<":
+                now = BASE + int(fields[1])
+            if verb not in ("in", "out"):
+                continue
+            text = re.sub(r"\{(\w+)\*(\d+)\}", lambda m: m[1] * int(m[2]), fields[-1])
+            there, payload = place_of(fields[-2]), bytes.fromhex(text.replace("-", ""))
             here = SERVER6 if ":" in there[0] else SERVER
-            payload = bytes.fromhex(data.replace("-", ""))
-            moment = BASE + int(at)
-            capture.enhanced(0, moment * 1000, ethernet(packet(there, here, payload)), moment, None)
-            # what was sent to whom asked, in the order of the output
-            last = place + 1 == len(heard)
-            while count < len(sent) and (last or sent[count][2] == where and not later(sent[count:], heard[place + 1 :], where)):
-                back = place_of(sent[count][2])
-                answer = bytes.fromhex(sent[count][3].replace("-", ""))
-                source = SERVER6 if ":" in back[0] else SERVER
-                capture.enhanced(0, moment * 1000 + 500, ethernet(packet(source, back, answer)), moment, None)
-                count += 1
+            ends = (there, here) if verb == "in" else (here, there)
+            ticks = now * 1000 + (500 if verb == "out" else 0)
+            capture.enhanced(0, ticks, ethernet(packet(*ends, payload)), now, None)
+            sent += verb == "out"
         FILES[f"example-{name}.pcapng"] = capture.octets
-        case(f"replay example-{name}.pcapng", [f"{len(sent)} replies, as they were sent"])
-
-
-def later(sent, heard, where):
-    """Whether more is asked by this peer than was answered so far."""
-    return len([step for step in heard if step[3] == where]) >= len([line for line in sent if line[2] == where])
+        case(f"replay example-{name}.pcapng", [f"{sent} replies, as they were sent"])
+    for name, sent in RECORDED:
+        FILES[name] = None
+        case(f"replay {name}", [f"{sent} replies, as they were sent"])
 
 
 def place_of(text):
@@ -744,13 +784,35 @@ def place_of(text):
     return (host.strip("[]"), int(port))
 
 
+def stored_run():
+    """The stored run of rd_capture: a registration, a lookup, and a packet that is cut."""
+    story = Pcap(1, snap=96)
+    link = b"\xff</temp>;rt=\"temperature\""
+    post = bytes.fromhex("4102000ba1b2726411283865703d6e6f646531") + link
+    get = bytes.fromhex("4101000cb2b972642d6c6f6f6b7570037265734e72743d74656d7065726174757265")
+    there, seeker = ("192.0.2.10", PORT), ("192.0.2.30", 40000)
+    story.add(BASE + 120, ethernet(packet(there, SERVER, post)), in_of(there, post))
+    created = bytes.fromhex("6141000ba18272640131")
+    story.add(BASE + 124, ethernet(packet(SERVER, there, created)), out_of(there, created))
+    story.add(BASE + 1310, ethernet(packet(seeker, SERVER, get)), in_of(seeker, get))
+    story.add(BASE + 1500, ethernet(packet(there, SERVER, post * 2)), "cut", captured=96)
+    return story
+
+
 def main():
-    for group in [link_layers, orders, internet, times, blocks, no_captures, words, transcripts, recordings]:
+    story = stored_run()
+    with open(os.path.join(HERE, "..", "..", "rd_capture", "stdin"), "wb") as file:
+        file.write(story.octets)
+    with open(os.path.join(HERE, "..", "..", "rd_capture", "stdout"), "w") as file:
+        file.write("\n".join(story.trace()) + "\n")
+    groups = [link_layers, orders, internet, times, blocks, no_captures, words, transcripts]
+    for group in groups + [recordings]:
         group()
-    for name in os.listdir(HERE):
-        if name != os.path.basename(__file__) and name not in FILES and not name.startswith("recorded"):
-            os.remove(os.path.join(HERE, name))
+    for name in set(os.listdir(HERE)) - set(FILES) - {os.path.basename(__file__)}:
+        os.remove(os.path.join(HERE, name))
     for name, octets in FILES.items():
+        if octets is None:
+            continue
         with open(os.path.join(HERE, name), "wb") as file:
             file.write(octets)
     with open(os.path.join(HERE, "..", "stdin"), "w") as file:
