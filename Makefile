@@ -1,6 +1,6 @@
 # What a newcomer needs: `make demo` shows a trace as a conversation, `make build` makes the proved programs, `make examples` runs all stored cases, the
 # examples among them, `make bench` measures what calls cost, `make test` is the gate.
-PROGRAMS = rd_replay rd_show rd_rows
+PROGRAMS = rd_replay rd_show rd_capture rd_rows
 
 .PHONY: demo build examples bench test
 
@@ -13,7 +13,8 @@ demo:
 build:
 	@mkdir -p bin
 	@for program in $(PROGRAMS); do \
-		(cd crates/$$program && rt run -- $$(cat args 2>/dev/null) < /dev/null > /dev/null) || exit 1; \
+		input=stdin; [ -d crates/$$program/data ] && input=/dev/null; \
+		(cd crates/$$program && rt run -- $$(cat args 2>/dev/null) < $$input > /dev/null) || exit 1; \
 		cp crates/$$program/out/$$program bin/; echo "bin/$$program"; \
 	done
 
