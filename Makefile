@@ -1,7 +1,7 @@
 # What a newcomer needs: `make demo` shows a trace as a conversation, `make serve` starts the server, `make build` makes the proved programs,
 # `make clients` runs real clients against the server, `make examples` runs all stored cases, the examples among them, `make bench` measures what
 # calls and the server cost, `make test` is the gate.
-PROGRAMS = rd_serve rd_replay rd_show rd_rows
+PROGRAMS = rd_serve rd_replay rd_show rd_capture rd_rows
 
 # The numbers of workers with which `make clients` runs the server.
 WORKERS = 1 4
@@ -25,7 +25,8 @@ build: $(PROGRAMS:%=build-%)
 
 build-%:
 	@mkdir -p bin
-	@cd crates/$* && rt run -- $$(cat args 2>/dev/null) < /dev/null > /dev/null
+	@cd crates/$*; input=stdin; [ -d data ] && input=/dev/null; \
+		rt run -- $$(cat args 2>/dev/null) < $$input > /dev/null
 	@cp crates/$*/out/$* bin/ && echo "bin/$*"
 
 clients: build-rd_serve

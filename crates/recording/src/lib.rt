@@ -1,0 +1,18 @@
+//! Recordings: what a server heard and sent, read from a capture as a trace and its output, and a
+//! trace and its output written as a capture.
+#![tactic(auto)]
+
+mod endings;
+mod fields;
+mod lines;
+mod pages;
+mod peers;
+mod recorders;
+mod runs;
+mod servers;
+mod timelines;
+mod transcripts;
+mod words;
+
+pub use endings::Status;
+pub use runs::{record, report};

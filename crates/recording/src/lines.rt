@@ -1,0 +1,72 @@
+//! The lines of a recording.
+ghost use Rattle.std.specs.Prelude.{◌≤◌, length, IfOk};
+ghost use Rattle.rd_base.specs.Peers.{IsPeer};
+ghost use Rattle.line_model.specs.Lines.{IsLine};
+
+use rd_base::{Bytes, Moment, Peer, Starved};
+use std::alloc::Global;
+use trace_text::Line;
+
+/// The one worker of a recording.
+pub(crate) const WORKER: u8 = 0;
+
+/// The greatest moment of a line, in milliseconds.
+pub(crate) const LAST_MOMENT: u64 = 999_999_999_999_999;
+
+/// The most octets of a datagram that stands in a line.
+pub(crate) const MAX_DATAGRAM: usize = 4_096;
+
+/// The first code of a request (RFC 7252 section 12.1.1).
+const FIRST_REQUEST: u8 = 1;
+
+/// The last code of a request.
+const LAST_REQUEST: u8 = 31;
+
+/// The line of a datagram that comes.
+pub(crate) fn come_line(
+    alloc: Global,
+    moment: Moment,
+    peer: Peer,
+    payload: &[u8],
+) -> Result<Line, Starved>
+    requires moment { moment.0 ≤ LAST_MOMENT }
+    requires peer { IsPeer peer }
+    requires payload { length payload.now ≤ MAX_DATAGRAM }
+    ensures { IfOk result IsLine }
+{
+    let datagram = Bytes::copy_of(alloc, payload)?;
+    Ok(Line::Come {
+        worker: WORKER,
+        moment,
+        peer,
+        datagram,
+    })
+}
+
+/// The line of time that passes.
+pub(crate) fn tick_line(moment: Moment) -> Line
+    requires { moment.0 ≤ LAST_MOMENT }
+    ensures { IsLine result }
+{
+    Line::Tick {
+        worker: WORKER,
+        moment,
+        word: 0,
+    }
+}
+
+/// The line of a job that is done.
+pub(crate) fn go_line(moment: Moment) -> Line
+    requires { moment.0 ≤ LAST_MOMENT }
+    ensures { IsLine result }
+{
+    Line::Go(WORKER, moment)
+}
+
+/// Whether a datagram is a request by its code, so that it may leave a job (RFC 7252 section 3).
+pub(crate) fn is_request(payload: &[u8]) -> bool {
+    match payload {
+        [_, code, ..] => *code >= FIRST_REQUEST && *code <= LAST_REQUEST,
+        _ => false,
+    }
+}

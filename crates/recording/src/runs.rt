@@ -1,0 +1,182 @@
+//! A run: from words and octets to an output and a status.
+
+use crate::endings::{Status, Stop};
+use crate::pages::{Pages, write_all};
+use crate::recorders::Recorder;
+use crate::servers::Way;
+use crate::transcripts::Transcript;
+use crate::words::{Output, Words, words_read};
+use itoa::Buffer;
+use rd_base::{Got, Sink, Source};
+use std::alloc::Global;
+use trace_text::{LineBad, Reason};
+
+/// How many octets of the input are read at once.
+const PIECE: usize = 4_096;
+
+/// What is done with the input.
+#[derive(Drop)]
+enum Task {
+    /// A capture is read as a recording.
+    Record(Recorder),
+    /// A trace and its output are written as a capture.
+    Transcribe(Transcript),
+}
+
+impl Task {
+    /// What words ask for.
+    fn of(alloc: Global, words: Words) -> Task {
+        match words.output {
+            Output::Trace => Task::Record(Recorder::new(alloc, words.port, Way::Came)),
+            Output::Replies => Task::Record(Recorder::new(alloc, words.port, Way::Sent)),
+            Output::Pcap => Task::Transcribe(Transcript::new(alloc, words.port)),
+        }
+    }
+
+    /// The input begins.
+    fn begin(&self, pages: &mut Pages) -> Result<(), Stop> {
+        match self {
+            Task::Record(_) => Ok(()),
+            Task::Transcribe(transcript) => transcript.begin(pages),
+        }
+    }
+
+    /// The next octets of the input come.
+    fn feed(&mut self, piece: &[u8], pages: &mut Pages) -> Result<(), Stop> {
+        match self {
+            Task::Record(recorder) => recorder.feed(piece, pages),
+            Task::Transcribe(transcript) => transcript.feed(piece, pages),
+        }
+    }
+
+    /// The input ends.
+    fn finish(&mut self, pages: &mut Pages) -> Result<(), Stop> {
+        match self {
+            Task::Record(recorder) => recorder.finish(pages),
+            Task::Transcribe(transcript) => transcript.finish(pages),
+        }
+    }
+}
+
+/// Writes what is to be written after a step, and answers how the run ends if it does.
+fn write_pages<K: Sink, E: Sink>(
+    step: Result<(), Stop>,
+    pages: &mut Pages,
+    out: &mut K,
+    err: &mut E,
+) -> Option<Status> {
+    let is_written = pages.write(out, err);
+    match step {
+        _ if !is_written => Some(Status::WriteFault),
+        Ok(()) => None,
+        Err(stop) => Some(Status::from(stop)),
+    }
+}
+
+/// Does a task with the input, piece by piece.
+fn do_task<S: Source, K: Sink, E: Sink>(
+    task: &mut Task,
+    pages: &mut Pages,
+    source: &mut S,
+    out: &mut K,
+    err: &mut E,
+) -> Status {
+    let begun = task.begin(pages);
+    if let Some(status) = write_pages(begun, pages, out, err) {
+        return status;
+    }
+    let mut buffer = [0u8; PIECE];
+    'pieces: loop {
+        match source.read(&mut buffer) {
+            Got::Failed => return Status::ReadFault,
+            Got::Bytes(count) => {
+                if count == 0 {
+                    break;
+                }
+                let fed = task.feed(&buffer[..count], pages);
+                if let Some(status) = write_pages(fed, pages, out, err) {
+                    return status;
+                }
+            }
+        }
+    }
+    let finished = task.finish(pages);
+    write_pages(finished, pages, out, err).unwrap_or(Status::Done)
+}
+
+/// Says texts one after the other, or a front of them where the sink fails.
+fn say<E: Sink>(err: &mut E, texts: &[&[u8]]) {
+    'texts: for text in texts {
+        if !write_all(err, text) {
+            return;
+        }
+    }
+}
+
+/// The name of a reason.
+fn name_of(why: Reason) -> &'static [u8] {
+    match why {
+        Reason::Long => b"long",
+        Reason::Form => b"form",
+        Reason::Worker => b"worker",
+        Reason::Busy => b"busy",
+    }
+}
+
+/// Says which line is bad, and why.
+fn say_line<E: Sink>(err: &mut E, bad: LineBad) {
+    let why = name_of(bad.why);
+    let mut buffer = Buffer::new();
+    let line = buffer.format(bad.line).as_bytes();
+    say(err, &[b"line ", line, b": ", why, b"\n"]);
+}
+
+/// Says on the error sink how a run ended: nothing for `Done`. Takes no memory.
+pub fn report<E: Sink>(err: &mut E, status: Status) {
+    match status {
+        Status::Done => {}
+        Status::ReadFault => say(err, &[b"read failed\n"]),
+        Status::WriteFault => say(err, &[b"write failed\n"]),
+        Status::Usage => say(
+            err,
+            &[b"usage: rd_capture [--port P] [--replies | --pcap]\n"],
+        ),
+        Status::NoCapture => say(err, &[b"no capture\n"]),
+        Status::Line(bad) => say_line(err, bad),
+        Status::Memory => say(err, &[b"memory\n"]),
+    }
+}
+
+/// Does what the words ask for with the input.
+fn run<S: Source, K: Sink, E: Sink>(
+    alloc: Global,
+    words: &[String],
+    source: &mut S,
+    out: &mut K,
+    err: &mut E,
+) -> Status {
+    let Some(words) = words_read(words) else {
+        return Status::Usage;
+    };
+    let mut task = Task::of(alloc, words);
+    let mut pages = Pages::new(alloc);
+    do_task(&mut task, &mut pages, source, out, err)
+}
+
+/// Reads a capture from `source` and writes to `out` the trace of what came to a port, or with
+/// `--replies` the lines of the output for what was sent from it; with `--pcap` it reads a trace
+/// and its output and writes a capture. `--port` names the port, 5683 where it is not named. What
+/// cannot be read is said on `err`, and so is how the run ends.
+///
+/// `words` are those of the command line, without the program's name.
+pub fn record<S: Source, K: Sink, E: Sink>(
+    alloc: Global,
+    words: &[String],
+    source: &mut S,
+    out: &mut K,
+    err: &mut E,
+) -> Status {
+    let status = run(alloc, words, source, out, err);
+    report(err, status);
+    status
+}
