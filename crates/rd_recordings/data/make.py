@@ -14,7 +14,8 @@ import struct
 
 HERE = os.path.dirname(os.path.abspath(__file__))
 EXAMPLES = os.path.join(HERE, "..", "..", "rd_rows", "data", "examples")
-RECORDED = []  # captures of a running server, which are not made here, and their replies
+# captures of a running server, which are not made here, and how many datagrams it sent
+RECORDED = [("clients.pcap", 34)]
 PORT = 5683
 CAP = 86_400  # seconds with a tick at most behind one moment
 LAST = 999_999_999_999_999
