@@ -32,12 +32,12 @@ pub(crate) struct Interface {
     pub offset: i64,
 }
 
-/// An option: its code, and its value.
+/// An option of a block (draft-ietf-opsawg-pcapng section 3.5).
 #[derive(Clone, Copy, Debug)]
 struct BlockOption<'p> {
-    /// What it says.
+    /// What it is about.
     code: u16,
-    /// What it says of that.
+    /// What it says, without what fills it up.
     value: &'p [u8],
 }
 

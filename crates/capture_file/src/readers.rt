@@ -26,6 +26,9 @@ const CLASSIC_NANOSECONDS: u32 = 0xa1b2_3c4d;
 /// The first number of the version of a classic capture.
 const CLASSIC_VERSION: u16 = 2;
 
+/// How many numbers there are for link types.
+const LINK_TYPES: u32 = 0x1_0000;
+
 /// What a section has in its own order of octets.
 const BYTE_ORDER_MAGIC: u32 = 0x1a2b_3c4d;
 
@@ -157,7 +160,7 @@ impl Reader {
     }
 
     /// This part comes next.
-    fn expect(&mut self, part: Part, wanted: usize)
+    fn set_next(&mut self, part: Part, wanted: usize)
         requires { 1 ≤ wanted }
     {
         self.part = part;
@@ -167,17 +170,17 @@ impl Reader {
     /// The number that a file begins with.
     fn read_magic(&mut self, part: &[u8]) -> Result<(), CaptureFault> {
         if order_of(SECTION_HEADER, part).is_some() {
-            self.expect(Part::SectionStart, SECTION_START);
+            self.set_next(Part::SectionStart, SECTION_START);
             return Ok(());
         }
         if let Some(order) = order_of(CLASSIC, part) {
             self.order = order;
-            self.expect(Part::FileHeader(Resolution::MICROSECONDS), FILE_HEADER);
+            self.set_next(Part::FileHeader(Resolution::MICROSECONDS), FILE_HEADER);
             return Ok(());
         }
         if let Some(order) = order_of(CLASSIC_NANOSECONDS, part) {
             self.order = order;
-            self.expect(Part::FileHeader(Resolution::NANOSECONDS), FILE_HEADER);
+            self.set_next(Part::FileHeader(Resolution::NANOSECONDS), FILE_HEADER);
             return Ok(());
         }
         Err(CaptureFault::NoCapture)
@@ -197,7 +200,7 @@ impl Reader {
         }
         Some(Interface {
             // The upper bits say how a frame is checked.
-            link_type: LinkType::of((link_type % 0x1_0000) as u16),
+            link_type: LinkType::of((link_type % LINK_TYPES) as u16),
             snap_length,
             resolution,
             offset: 0,
@@ -215,7 +218,7 @@ impl Reader {
         };
         self.interfaces.push(interface)?;
         self.is_capture = true;
-        self.expect(Part::RecordHeader, RECORD_HEADER);
+        self.set_next(Part::RecordHeader, RECORD_HEADER);
         Ok(())
     }
 
@@ -243,7 +246,7 @@ impl Reader {
         if captured == 0 {
             return Found::Unread(PacketFault::Cut);
         }
-        self.expect(Part::Record(moment), captured as usize);
+        self.set_next(Part::Record(moment), captured as usize);
         Found::NoPacket
     }
 
@@ -258,7 +261,7 @@ impl Reader {
     /// A packet of a classic capture.
     fn read_record<'p>(&mut self, moment: Moment, part: &'p [u8]) -> Found<'p> {
         let is_whole = self.wanted == part.len();
-        self.expect(Part::RecordHeader, RECORD_HEADER);
+        self.set_next(Part::RecordHeader, RECORD_HEADER);
         if !is_whole {
             return Found::Unread(PacketFault::TooLong);
         }
@@ -269,8 +272,8 @@ impl Reader {
     fn read_block_type(&mut self, part: &[u8]) {
         let number = number32_at(self.order, part).map_or(0, |read| read.0);
         match Block::of(number) {
-            Block::Section => self.expect(Part::SectionStart, SECTION_START),
-            block => self.expect(Part::BlockLength(block), NUMBER),
+            Block::Section => self.set_next(Part::SectionStart, SECTION_START),
+            block => self.set_next(Part::BlockLength(block), NUMBER),
         }
     }
 
@@ -301,7 +304,7 @@ impl Reader {
             return Err(self.fault());
         };
         self.order = order;
-        self.expect(Part::Body(Block::Section), left);
+        self.set_next(Part::Body(Block::Section), left);
         Ok(())
     }
 
@@ -311,7 +314,7 @@ impl Reader {
         let Some(left) = left_of_block(length, LEAST_BLOCK, BLOCK_START) else {
             return Err(self.fault());
         };
-        self.expect(Part::Body(block), left);
+        self.set_next(Part::Body(block), left);
         Ok(())
     }
 
@@ -327,7 +330,7 @@ impl Reader {
         }
     }
 
-    /// An interface is described. One whose description is cut is of no link type that is read.
+    /// An interface is described. `Block`: its description is cut.
     fn read_interface(&mut self, body: &[u8]) -> Result<(), CaptureFault> {
         match interface_of(self.order, body) {
             Some(interface) => Ok(self.interfaces.push(interface)?),
@@ -372,7 +375,7 @@ impl Reader {
     /// What stands in a block behind its length, before its length again.
     fn read_body<'p>(&mut self, block: Block, part: &'p [u8]) -> Result<Found<'p>, CaptureFault> {
         let is_whole = self.wanted == part.len();
-        self.expect(Part::BlockType, NUMBER);
+        self.set_next(Part::BlockType, NUMBER);
         let body = &part[..part.len().saturating_sub(NUMBER)];
         match block {
             Block::Packet | Block::SimplePacket | Block::EnhancedPacket if !is_whole => {

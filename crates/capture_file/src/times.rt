@@ -19,7 +19,7 @@ pub(crate) enum Resolution {
     Binary(u8),
 }
 
-/// So many milliseconds, which ticks of a millionth of a second are, with other digits.
+/// The whole milliseconds of ticks of which ten to this power are a second.
 fn decimal_milliseconds(digits: u8, ticks: u64) -> u64 {
     let mut milliseconds = ticks;
     'more: for _ in digits..MILLISECOND_DIGITS {
