@@ -1,1 +1,2 @@
 mod WordExamples
+mod ServingExamples
