@@ -107,11 +107,11 @@ fn write_unread(page: &mut String, datagram: &[u8], why: Unread) -> Result<(), S
 /// message, and why (RFC 7252 section 3).
 ///
 /// Nothing in a datagram looks like something else. In text a percent sign, and what is not seen
-/// (control and format characters, ends of lines and paragraphs, spaces other than the one of
-/// ASCII), is percent-encoded (RFC 3986 section 2.1). So are a space, a comma and parentheses on
-/// the line of the message, a slash, a question mark and an ampersand in a part of a path or a
-/// query, and octets there that are no text. A payload that is no text in UTF-8 is written in
-/// hexadecimal, after the word `octets` in place of the bar.
+/// (control, format and other ignored characters, ends of lines and paragraphs, spaces other than
+/// the one of ASCII), is percent-encoded (RFC 3986 section 2.1). So are a space, a comma and
+/// parentheses on the line of the message, a slash, a question mark and an ampersand in a part of a
+/// path or a query, and octets there that are no text. A payload that is no text in UTF-8 is
+/// written in hexadecimal, after the word `octets` in place of the bar.
 ///
 /// `Starved`: out of memory.
 pub fn write_datagram(page: &mut String, indent: &str, datagram: &[u8]) -> Result<(), Starved> {

@@ -1,7 +1,7 @@
 //! Octets as text, or in hexadecimal.
 
 use rd_base::Starved;
-use unicode::properties::GeneralCategory;
+use unicode::properties::{GeneralCategory, is_default_ignorable_code_point};
 
 /// Where text of a message stands. That decides which characters the line uses itself, and which
 /// are therefore percent-encoded (RFC 3986 section 2.1).
@@ -25,8 +25,9 @@ pub(crate) fn write_hexadecimal(page: &mut String, octets: &[u8]) -> Result<(), 
     Ok(())
 }
 
-/// Whether a character stands between others without being seen itself: a space other than the
-/// one of ASCII, the end of a line or a paragraph, a control character or a format character.
+/// Whether a character stands among others without being seen itself: a space other than the one
+/// of ASCII, the end of a line or a paragraph, a control or format character, or any other that is
+/// ignored where it is shown.
 fn is_unseen(character: char) -> bool {
     match GeneralCategory::for_char(character) {
         GeneralCategory::Control
@@ -34,7 +35,7 @@ fn is_unseen(character: char) -> bool {
         | GeneralCategory::LineSeparator
         | GeneralCategory::ParagraphSeparator => true,
         GeneralCategory::SpaceSeparator => character != ' ',
-        _ => false,
+        _ => is_default_ignorable_code_point(character),
     }
 }
 

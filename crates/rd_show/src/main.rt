@@ -34,7 +34,7 @@ fn show_trace<S: Source>(
     let mut buffer = [0u8; 4096];
     'pieces: loop {
         match source.read(&mut buffer) {
-            Got::Failed => return Err(Stop::Unread),
+            Got::Failed => return Err(Stop::ReadFault),
             Got::Bytes(0) => break,
             Got::Bytes(n) => rt.print(shown.hear(&buffer[..n])?)?,
         }

@@ -6,7 +6,7 @@ use std::alloc::Global;
 use trace_text::Line;
 
 /// The most workers of a directory.
-const MOST_WORKERS: usize = 16;
+pub(crate) const MOST_WORKERS: usize = 16;
 
 /// A request: who sent it, and under which Message ID (RFC 7252 section 4.4).
 #[derive(Clone, Copy, Debug)]

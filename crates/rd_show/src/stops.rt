@@ -8,11 +8,11 @@ use std::io::{self, ErrorKind};
 #[derive(Clone, Copy, Debug, PartialEq, Eq)]
 pub(crate) enum Stop {
     /// The trace cannot be read.
-    Unread,
+    ReadFault,
     /// The conversation cannot be written.
-    Unwritten,
+    WriteFault,
     /// Nobody reads the conversation any more.
-    Alone,
+    ReaderGone,
     /// Memory ran out.
     Starved,
 }
@@ -26,9 +26,9 @@ impl From<Starved> for Stop {
 impl From<io::Error> for Stop {
     fn from(error: io::Error) -> Stop {
         match error.kind() {
-            ErrorKind::BrokenPipe => Stop::Alone,
+            ErrorKind::BrokenPipe => Stop::ReaderGone,
             ErrorKind::OutOfMemory => Stop::Starved,
-            _ => Stop::Unwritten,
+            _ => Stop::WriteFault,
         }
     }
 }
@@ -37,9 +37,9 @@ impl Stop {
     /// How the program ends: a reader that goes away has seen what it wanted.
     pub(crate) fn status(self) -> Status {
         match self {
-            Stop::Unread => Status::ReadFault,
-            Stop::Unwritten => Status::WriteFault,
-            Stop::Alone => Status::Done,
+            Stop::ReadFault => Status::ReadFault,
+            Stop::WriteFault => Status::WriteFault,
+            Stop::ReaderGone => Status::Done,
             Stop::Starved => Status::Memory,
         }
     }

@@ -1,16 +1,14 @@
 //! The words of the command line.
 ghost use Rattle.std.specs.Prelude.{◌≤◌, IfSome};
 
+use super::serving::MOST_WORKERS;
 use trace_text::number_read;
-
-/// The most workers of a directory, and as many as there are where none are named.
-const MOST_WORKERS: u8 = 16;
 
 /// The number of workers that a text prints, from 1 to the most.
 fn count_of(text: &str) -> Option<u8>
     ensures { IfSome result (λ workers. workers ≤ 16) }
 {
-    match number_read(u64::from(MOST_WORKERS), text.as_bytes())? {
+    match number_read(MOST_WORKERS as u64, text.as_bytes())? {
         0 => None,
         workers => Some(workers as u8),
     }
@@ -22,7 +20,7 @@ pub(crate) fn workers_asked(words: &[String]) -> Option<u8>
     ensures { IfSome result (λ workers. workers ≤ 16) }
 {
     match words {
-        [] => Some(MOST_WORKERS),
+        [] => Some(MOST_WORKERS as u8),
         [joined] => count_of(joined.as_str().strip_prefix("--workers=")?),
         [name, count] if name.as_str() == "--workers" => count_of(count.as_str()),
         _ => None,
