@@ -25,7 +25,7 @@ build: $(PROGRAMS:%=build-%)
 
 build-%:
 	@mkdir -p bin
-	@cd crates/$*; input=stdin; [ -d data ] && input=/dev/null; \
+	@cd crates/$*; input=stdin; { [ -d data ] || [ -f status ]; } && input=/dev/null; \
 		rt run -- $$(cat args 2>/dev/null) < $$input > /dev/null
 	@cp crates/$*/out/$* bin/ && echo "bin/$*"
 

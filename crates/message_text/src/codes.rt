@@ -12,9 +12,15 @@ pub(crate) fn kind_name(kind: Kind4) -> &'static str {
     }
 }
 
-/// The method of a request, and `Empty` of a message with the code 0.00 (RFC 7252 section 12.1.1, RFC 8132 section 6).
-pub(crate) fn method_name(detail: u8) -> &'static str {
-    match detail {
+/// Whether a code is that of a request (RFC 7252 section 12.1).
+pub(crate) fn is_request(code: u8) -> bool {
+    (1..32).contains(&code)
+}
+
+/// The method of a request, and `Empty` of a message with the code 0.00; none of a method without a
+/// name (RFC 7252 section 12.1.1, RFC 8132 section 6).
+pub(crate) fn method_name(detail: u8) -> Option<&'static str> {
+    Some(match detail {
         0 => "Empty",
         1 => "GET",
         2 => "POST",
@@ -23,8 +29,8 @@ pub(crate) fn method_name(detail: u8) -> &'static str {
         5 => "FETCH",
         6 => "PATCH",
         7 => "iPATCH",
-        _ => "unknown method",
-    }
+        _ => return None,
+    })
 }
 
 /// What a response of class 2 says (RFC 7252 section 12.1.2, RFC 7959 section 6).
@@ -40,7 +46,8 @@ fn success_name(detail: u8) -> &'static str {
     }
 }
 
-/// What a response of class 4 says (RFC 7252 section 12.1.2, RFC 7959 section 6).
+/// What a response of class 4 says (RFC 7252 section 12.1.2, RFC 7959 section 6, RFC 8132 section
+/// 6, RFC 8516 section 5).
 fn client_error_name(detail: u8) -> &'static str {
     match detail {
         0 => "Bad Request",
@@ -51,14 +58,17 @@ fn client_error_name(detail: u8) -> &'static str {
         5 => "Method Not Allowed",
         6 => "Not Acceptable",
         8 => "Request Entity Incomplete",
+        9 => "Conflict",
         12 => "Precondition Failed",
         13 => "Request Entity Too Large",
         15 => "Unsupported Content-Format",
+        22 => "Unprocessable Entity",
+        29 => "Too Many Requests",
         _ => "client error",
     }
 }
 
-/// What a response of class 5 says (RFC 7252 section 12.1.2).
+/// What a response of class 5 says (RFC 7252 section 12.1.2, RFC 8768 section 4).
 fn server_error_name(detail: u8) -> &'static str {
     match detail {
         0 => "Internal Server Error",
@@ -67,6 +77,7 @@ fn server_error_name(detail: u8) -> &'static str {
         3 => "Service Unavailable",
         4 => "Gateway Timeout",
         5 => "Proxying Not Supported",
+        8 => "Hop Limit Reached",
         _ => "server error",
     }
 }

@@ -2,6 +2,7 @@
 #![tactic(auto)]
 
 mod codes;
+mod faults;
 mod messages;
 mod octets;
 mod options;

@@ -1,6 +1,19 @@
 //! Octets as text, or in hexadecimal.
 
 use rd_base::Starved;
+use unicode::properties::{GeneralCategory, is_default_ignorable_code_point};
+
+/// Where text of a message stands. That decides which characters the line uses itself, and which
+/// are therefore percent-encoded (RFC 3986 section 2.1).
+#[derive(Clone, Copy, Debug, PartialEq, Eq)]
+pub(crate) enum Place {
+    /// A segment of a path or an argument of a query, among others on the line of the message.
+    Part,
+    /// The value of an option, on the line of the message.
+    Value,
+    /// The payload, on a line of its own.
+    Payload,
+}
 
 /// Writes octets in hexadecimal.
 pub(crate) fn write_hexadecimal(page: &mut String, octets: &[u8]) -> Result<(), Starved> {
@@ -12,21 +25,74 @@ pub(crate) fn write_hexadecimal(page: &mut String, octets: &[u8]) -> Result<(), 
     Ok(())
 }
 
-/// The text that octets are, in UTF-8 and without control characters.
-fn readable(octets: &[u8]) -> Option<&str> {
-    let Ok(text) = str::from_utf8(octets) else {
-        return None;
-    };
-    if text.chars().any(|c| c.is_control()) {
-        return None;
+/// Whether a character stands among others without being seen itself: a space other than the one
+/// of ASCII, the end of a line or a paragraph, a control or format character, or any other that is
+/// ignored where it is shown.
+fn is_unseen(character: char) -> bool {
+    match GeneralCategory::for_char(character) {
+        GeneralCategory::Control
+        | GeneralCategory::Format
+        | GeneralCategory::LineSeparator
+        | GeneralCategory::ParagraphSeparator => true,
+        GeneralCategory::SpaceSeparator => character != ' ',
+        _ => is_default_ignorable_code_point(character),
     }
-    Some(text)
 }
 
-/// Writes octets as the text that they are, else in hexadecimal.
-pub(crate) fn write_octets(page: &mut String, octets: &[u8]) -> Result<(), Starved> {
-    match readable(octets) {
-        Some(text) => Ok(page.push_str(text)?),
-        None => write_hexadecimal(page, octets),
+impl Place {
+    /// Whether a character is one of those that the line uses here itself.
+    fn uses(self, character: char) -> bool {
+        match character {
+            '%' => true,
+            ' ' | ',' | '(' | ')' => self != Place::Payload,
+            '/' | '?' | '&' => self == Place::Part,
+            _ => false,
+        }
     }
+}
+
+/// Writes an octet percent-encoded (RFC 3986 section 2.1).
+fn write_encoded(page: &mut String, octet: u8) -> Result<(), Starved> {
+    Ok(write!(page, "%{octet:02X}")?)
+}
+
+/// Writes a character, percent-encoded where it would not be seen for what it is.
+fn write_character(page: &mut String, place: Place, character: char) -> Result<(), Starved> {
+    if !place.uses(character) && !is_unseen(character) {
+        return Ok(page.push(character)?);
+    }
+    let mut buffer = [0; 4];
+    let spelled = character.encode_utf8(&mut buffer);
+    'octets: for octet in spelled.as_bytes() {
+        write_encoded(page, *octet)?;
+    }
+    Ok(())
+}
+
+/// Writes text in UTF-8 as it is read here.
+pub(crate) fn write_text(page: &mut String, place: Place, text: &str) -> Result<(), Starved> {
+    'characters: for character in text.chars() {
+        write_character(page, place, character)?;
+    }
+    Ok(())
+}
+
+/// Writes an octet of a value that is no text.
+fn write_octet(page: &mut String, place: Place, octet: u8) -> Result<(), Starved> {
+    if octet.is_ascii() {
+        return write_character(page, place, char::from(octet));
+    }
+    write_encoded(page, octet)
+}
+
+/// Writes octets as the text that they are; where they are no text in UTF-8, with each octet that
+/// is not ASCII percent-encoded.
+pub(crate) fn write_octets(page: &mut String, place: Place, octets: &[u8]) -> Result<(), Starved> {
+    if let Ok(text) = str::from_utf8(octets) {
+        return write_text(page, place, text);
+    }
+    'octets: for octet in octets {
+        write_octet(page, place, *octet)?;
+    }
+    Ok(())
 }

@@ -1,8 +1,9 @@
 //! The options of a message, as text.
 
-use super::octets::{write_hexadecimal, write_octets};
+use super::codes::is_request;
+use super::octets::{Place, write_hexadecimal, write_octets};
 use super::table::{Form, named};
-use block_wise::{block_read, block_size, uint_of};
+use block_wise::{block_read, block_size};
 use coap_message::{Opt, View, options_of};
 use rd_base::Starved;
 
@@ -14,7 +15,13 @@ fn lead<'a>(begun: bool, first: &'a str, next: &'a str) -> &'a str {
     first
 }
 
-/// Writes the values of the options of a number one after the other: before the first stands `first`, before each other `next`.
+/// Whether a message has an option of a number.
+pub(crate) fn holds(view: &View<'_>, number: u32) -> bool {
+    options_of(view).any(|option| option.number == number)
+}
+
+/// Writes the values of the options of a number one after the other: before the first stands
+/// `first`, before each other `next`.
 pub(crate) fn write_joined(
     page: &mut String,
     view: &View<'_>,
@@ -26,23 +33,54 @@ pub(crate) fn write_joined(
     'options: for option in options_of(view) {
         if option.number == number {
             page.push_str(lead(begun, first, next))?;
-            write_octets(page, option.value)?;
+            write_octets(page, Place::Part, option.value)?;
             begun = true;
         }
     }
     Ok(())
 }
 
-/// Writes a number, or the octets of a value that is too long for it here.
-fn write_number(page: &mut String, value: &[u8]) -> Result<(), Starved> {
-    if value.len() > 3 {
-        return write_hexadecimal(page, value);
+/// The most octets of a number (RFC 7252 section 5.10, RFC 7959 section 4).
+const LONGEST_NUMBER: usize = 4;
+
+/// The Content-Format of a list of links (RFC 7252 section 12.3).
+const LINK_FORMAT: u32 = 40;
+
+/// The number of a value, most significant octet first (RFC 7252 section 3.2); none where the value
+/// is longer than that of any option that is a number.
+fn number_of(value: &[u8]) -> Option<u32> {
+    if value.len() > LONGEST_NUMBER {
+        return None;
     }
-    let number = uint_of(value);
-    Ok(write!(page, "{number}")?)
+    let mut octets = [0; LONGEST_NUMBER];
+    octets[LONGEST_NUMBER - value.len()..].copy_from_slice(value);
+    Some(u32::from_be_bytes(octets))
 }
 
-/// Writes a block as its number, whether more follow, and its size (RFC 7959 section 3), or the octets of a value that is none.
+/// What a number says by name: a Content-Format (RFC 7252 section 12.3), or what a request asks of
+/// an observation (RFC 7641 section 2).
+fn name_of(code: u8, form: Form, number: u32) -> Option<&'static str> {
+    match (form, number) {
+        (Form::ContentFormat, LINK_FORMAT) => Some("link-format"),
+        (Form::Observe, 0) if is_request(code) => Some("register"),
+        (Form::Observe, 1) if is_request(code) => Some("deregister"),
+        _ => None,
+    }
+}
+
+/// Writes a number or what it says by name, or the octets of a value that is too long for one.
+fn write_number(page: &mut String, code: u8, form: Form, value: &[u8]) -> Result<(), Starved> {
+    let Some(number) = number_of(value) else {
+        return write_hexadecimal(page, value);
+    };
+    match name_of(code, form, number) {
+        Some(name) => Ok(page.push_str(name)?),
+        None => Ok(write!(page, "{number}")?),
+    }
+}
+
+/// Writes a block as its number, whether more follow, and its size (RFC 7959 section 3), or the
+/// octets of a value that is none.
 fn write_block(page: &mut String, value: &[u8]) -> Result<(), Starved> {
     if value.len() > 3 {
         return write_hexadecimal(page, value);
@@ -56,34 +94,37 @@ fn write_block(page: &mut String, value: &[u8]) -> Result<(), Starved> {
     Ok(write!(page, "{number}/{more}/{size}")?)
 }
 
-/// Writes a value in its form.
-fn write_value(page: &mut String, form: Form, value: &[u8]) -> Result<(), Starved> {
+/// Writes the value of an option of a message with this code, in its form.
+fn write_value(page: &mut String, code: u8, form: Form, value: &[u8]) -> Result<(), Starved> {
     match form {
-        Form::Number => write_number(page, value),
+        Form::Number | Form::ContentFormat | Form::Observe => write_number(page, code, form, value),
         Form::Block => write_block(page, value),
-        Form::Text => write_octets(page, value),
+        Form::Text => write_octets(page, Place::Value, value),
         Form::Opaque | Form::Part => write_hexadecimal(page, value),
     }
 }
 
-/// Writes an option with its name; one that has no name here with its number.
-fn write_option(page: &mut String, option: &Opt<'_>) -> Result<(), Starved> {
-    let (name, form) = named(option.number);
-    if form == Form::Part {
-        return Ok(());
+/// Writes an option of a message with this code: by its name, or by its number where it has none
+/// here.
+fn write_option(page: &mut String, code: u8, option: &Opt<'_>) -> Result<(), Starved> {
+    match named(option.number) {
+        Some((_, Form::Part)) => Ok(()),
+        Some((name, form)) => {
+            write!(page, ", {name} ")?;
+            write_value(page, code, form, option.value)
+        }
+        None => {
+            let number = option.number;
+            write!(page, ", Option {number} ")?;
+            write_hexadecimal(page, option.value)
+        }
     }
-    write!(page, ", {name} ")?;
-    if name == "Option" {
-        let number = option.number;
-        write!(page, "{number} ")?;
-    }
-    write_value(page, form, option.value)
 }
 
 /// Writes all options but those of which paths and queries are made.
 pub(crate) fn write_options(page: &mut String, view: &View<'_>) -> Result<(), Starved> {
     'options: for option in options_of(view) {
-        write_option(page, &option)?;
+        write_option(page, view.code, &option)?;
     }
     Ok(())
 }

@@ -1,26 +1,31 @@
 //! The conversation of a trace with the directory, line by line.
-ghost use Rattle.std.specs.Prelude.{IfOk};
+ghost use Rattle.std.specs.Prelude.{◌≤◌, IfOk};
 ghost use Rattle.line_model.specs.Lines.{IsLine};
 ghost use Rattle.rd_server.specs.Machines.{IsMachine};
 
-use super::lines::{write_bad, write_line, write_sent};
+use super::lines::{write_bad, write_end, write_line, write_sent};
+use super::pending::Pending;
+use super::serving::{Change, Serving};
 use rd_base::Starved;
-use rd_server::{Machine, Trouble};
+use rd_server::{Machine, Status, Trouble};
 use std::alloc::Global;
-use trace_text::{Line, LineFault, Reason, line_read};
-
-/// The workers of the directory: the most that a trace may name.
-const WORKERS: u8 = 16;
+use trace_text::{Line, LineBad, LineFault, Reason, line_read};
 
 /// A trace in the middle of being shown.
 #[derive(Drop)]
-pub struct Conversation {
+pub(crate) struct Conversation {
     /// Where its memory comes from.
     alloc: Global,
     /// The directory that answers.
     machine: Machine,
+    /// The request that each worker serves.
+    serving: Serving,
+    /// What has come of the next line.
+    pending: Pending,
     /// How many lines were shown.
     lines: u64,
+    /// The first line that was bad.
+    first_bad: Option<LineBad>,
 }
 
 /// Does what a line says, and answers why it is bad where it is.
@@ -37,45 +42,147 @@ fn done(machine: &mut Machine, line: Line) -> Result<Option<Reason>, Starved>
 }
 
 impl Conversation {
-    /// A conversation that nobody began yet. `Starved`: out of memory.
-    pub fn make(alloc: Global) -> Result<Conversation, Starved>
+    /// A conversation with a directory of so many workers that nobody began yet. `Starved`: out of
+    /// memory.
+    pub(crate) fn make(alloc: Global, workers: u8) -> Result<Conversation, Starved>
+        requires { workers ≤ 16 }
         ensures { IfOk result (λ conversation. IsMachine conversation.machine) }
     {
         Ok(Conversation {
             alloc,
-            machine: Machine::make(alloc, WORKERS)?,
+            machine: Machine::make(alloc, workers)?,
+            serving: Serving::nothing(),
+            pending: Pending::make(alloc),
             lines: 0,
+            first_bad: None,
         })
     }
 
-    /// Writes what a line says, does it, and writes what the directory sends.
+    /// Writes that the line with the number that is reached is bad, and remembers the first.
+    fn tell_bad(&mut self, page: &mut String, why: Reason) -> Result<(), Starved>
+        requires { IsMachine self.old.machine }
+        ensures { IfOk result (λ _. IsMachine self.new.machine) }
+    {
+        let bad = LineBad {
+            line: self.lines,
+            why,
+        };
+        self.first_bad = self.first_bad.or(Some(bad));
+        write_bad(page, bad)
+    }
+
+    /// Writes what a line says that was done, and what the directory sent.
+    fn tell_done(
+        &mut self,
+        page: &mut String,
+        said: &str,
+        change: Option<Change>,
+    ) -> Result<(), Starved>
+        requires { IsMachine self.old.machine }
+        ensures { IfOk result (λ _. IsMachine self.new.machine) }
+    {
+        if let Some(change) = change {
+            let is_busy = self.machine.is_busy(change.worker());
+            self.serving.note(change, is_busy);
+        }
+        page.push_str(said)?;
+        write_sent(page, self.alloc, self.machine.sent())
+    }
+
+    /// Does what a line says, and writes that and what the directory sends; of a bad line only that
+    /// it is one.
     fn tell(&mut self, page: &mut String, line: Line) -> Result<(), Starved>
         requires stands { IsMachine self.old.machine }
         requires line { IsLine line }
         ensures { IfOk result (λ _. IsMachine self.new.machine) }
     {
-        write_line(page, self.alloc, &line)?;
+        let mut said = String::new(self.alloc);
+        write_line(&mut said, self.alloc, &self.serving, &line)?;
+        let change = Change::of(&line);
         match done(&mut self.machine, line)? {
-            None => write_sent(page, self.alloc, self.machine.sent())?,
-            Some(why) => write_bad(page, self.lines, why)?,
+            None => self.tell_done(page, said.as_str(), change),
+            Some(why) => self.tell_bad(page, why),
         }
-        Ok(())
     }
 
-    /// What a line of the trace says and what the directory sends then; of a bad line its number and why. The conversation goes on after a bad line, which changes nothing. `Starved`: out of memory;
-    /// then it is not to be used any more.
-    pub fn show(&mut self, line: &[u8]) -> Result<String, Starved>
+    /// Writes what a line of the trace says and what the directory sends then; of a bad line its
+    /// number and why. The conversation goes on after a bad line, which changes nothing.
+    fn show(&mut self, page: &mut String, line: &[u8]) -> Result<(), Starved>
         requires { IsMachine self.old.machine }
         ensures { IfOk result (λ _. IsMachine self.new.machine) }
     {
         self.lines = self.lines.saturating_add(1);
-        let mut page = String::new(self.alloc);
         match line_read(self.alloc, line) {
-            Ok(said) => self.tell(&mut page, said)?,
-            Err(LineFault::Form) => write_bad(&mut page, self.lines, Reason::Form)?,
-            Err(LineFault::Long) => write_bad(&mut page, self.lines, Reason::Long)?,
-            Err(LineFault::Starved) => return Err(Starved),
+            Ok(said) => self.tell(page, said),
+            Err(LineFault::Form) => self.tell_bad(page, Reason::Form),
+            Err(LineFault::Long) => self.tell_bad(page, Reason::Long),
+            Err(LineFault::Starved) => Err(Starved),
+        }
+    }
+
+    /// More of a line comes, which is bad as soon as it is too long.
+    fn go_on(&mut self, page: &mut String, part: &[u8]) -> Result<(), Starved>
+        requires { IsMachine self.old.machine }
+        ensures { IfOk result (λ _. IsMachine self.new.machine) }
+    {
+        if !self.pending.add(part)? {
+            return Ok(());
+        }
+        self.lines = self.lines.saturating_add(1);
+        self.tell_bad(page, Reason::Long)
+    }
+
+    /// A line feed comes.
+    fn end_line(&mut self, page: &mut String) -> Result<(), Starved>
+        requires { IsMachine self.old.machine }
+        ensures { IfOk result (λ _. IsMachine self.new.machine) }
+    {
+        match self.pending.end(self.alloc) {
+            Some(line) => self.show(page, line.as_slice()),
+            None => Ok(()),
+        }
+    }
+
+    /// What the lines say that end in a piece of the trace, and what the directory sends then. The
+    /// beginning of the next line is kept. `Starved`: out of memory; then the conversation is not
+    /// to be used any more.
+    pub(crate) fn hear(&mut self, piece: &[u8]) -> Result<String, Starved>
+        requires { IsMachine self.old.machine }
+        ensures { IfOk result (λ _. IsMachine self.new.machine) }
+    {
+        let mut page = String::new(self.alloc);
+        let mut is_first = true;
+        'parts: for part in piece.split(|octet| *octet == b'\n') {
+            if !is_first {
+                self.end_line(&mut page)?;
+            }
+            self.go_on(&mut page, part)?;
+            is_first = false;
         }
         Ok(page)
+    }
+
+    /// The trace ends: what its last line says, if it lacks its line feed, and what the line that
+    /// ends the output of a replay tells. `Starved`: out of memory.
+    pub(crate) fn finish(&mut self) -> Result<String, Starved>
+        requires { IsMachine self.old.machine }
+    {
+        let mut page = String::new(self.alloc);
+        if !self.pending.is_empty() {
+            self.end_line(&mut page)?;
+        }
+        let end = self.machine.end_line()?;
+        if let Ok(line) = str::from_utf8(end.as_slice()) {
+            write_end(&mut page, line)?;
+        }
+        Ok(page)
+    }
+
+    /// How the program ends where all was read and shown: by the first bad line, if there is one.
+    pub(crate) fn status(&self) -> Status {
+        match self.first_bad {
+            Some(bad) => Status::Line(bad),
+            None => Status::Done,
+        }
     }
 }

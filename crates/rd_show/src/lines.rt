@@ -1,44 +1,57 @@
 //! What a line of a trace says, and what the directory sends, as text.
 
 use super::moments::write_moment;
+use super::serving::Serving;
 use message_text::write_datagram;
 use rd_base::{Moment, Peer, Starved, peer_text};
 use rd_desk::Outbox;
 use std::alloc::Global;
-use trace_text::{Line, Reason};
+use trace_text::{Line, LineBad, Reason};
 
 /// What stands before the lines of a message.
 const INDENT: &str = "    ";
 
-/// Writes a datagram that comes.
-fn write_come(
-    page: &mut String,
-    alloc: Global,
-    moment: Moment,
-    peer: &Peer,
-    datagram: &[u8],
-) -> Result<(), Starved> {
-    let from = peer_text(alloc, peer)?;
-    let from = from.as_str();
-    write_moment(page, moment)?;
-    write!(page, "{from} → directory\n{INDENT}")?;
+/// Writes a datagram on lines of its own.
+fn write_message(page: &mut String, datagram: &[u8]) -> Result<(), Starved> {
+    page.push_str(INDENT)?;
     write_datagram(page, INDENT, datagram)?;
     Ok(page.push_str("\n")?)
 }
 
-/// Writes what a line says.
-pub(crate) fn write_line(page: &mut String, alloc: Global, line: &Line) -> Result<(), Starved> {
+/// Writes who sends a datagram to which worker, and when.
+fn write_sender(
+    page: &mut String,
+    alloc: Global,
+    worker: u8,
+    moment: Moment,
+    peer: &Peer,
+) -> Result<(), Starved> {
+    let from = peer_text(alloc, peer)?;
+    let from = from.as_str();
+    write_moment(page, moment)?;
+    Ok(writeln!(page, "{from} → directory (worker {worker})")?)
+}
+
+/// Writes what a line says, by what each worker serves before it.
+pub(crate) fn write_line(
+    page: &mut String,
+    alloc: Global,
+    serving: &Serving,
+    line: &Line,
+) -> Result<(), Starved> {
     match line {
         Line::Come {
+            worker,
             moment,
             peer,
             datagram,
-            ..
-        } => write_come(page, alloc, *moment, peer, datagram.as_slice()),
+        } => {
+            write_sender(page, alloc, *worker, *moment, peer)?;
+            write_message(page, datagram.as_slice())
+        }
         Line::Go(worker, moment) => {
-            let worker = *worker;
             write_moment(page, *moment)?;
-            Ok(writeln!(page, "(worker {worker} serves it)")?)
+            serving.write(page, alloc, *worker)
         }
         Line::Tick { moment, .. } => {
             write_moment(page, *moment)?;
@@ -56,9 +69,8 @@ fn write_answer(
 ) -> Result<(), Starved> {
     let to = peer_text(alloc, peer)?;
     let to = to.as_str();
-    write!(page, "  directory → {to}\n{INDENT}")?;
-    write_datagram(page, INDENT, datagram)?;
-    Ok(page.push_str("\n")?)
+    writeln!(page, "  directory → {to}")?;
+    write_message(page, datagram)
 }
 
 /// Writes what the directory sends.
@@ -72,12 +84,26 @@ pub(crate) fn write_sent(page: &mut String, alloc: Global, sent: &Outbox) -> Res
 }
 
 /// Writes that a line is bad, and why.
-pub(crate) fn write_bad(page: &mut String, line: u64, why: Reason) -> Result<(), Starved> {
-    let why = match why {
+pub(crate) fn write_bad(page: &mut String, bad: LineBad) -> Result<(), Starved> {
+    let line = bad.line;
+    let why = match bad.why {
         Reason::Long => "long",
         Reason::Form => "form",
         Reason::Worker => "worker",
         Reason::Busy => "busy",
     };
     Ok(writeln!(page, "line {line}: {why}")?)
+}
+
+/// Writes what the line that ends the output of a replay tells: three numbers after its name.
+pub(crate) fn write_end(page: &mut String, line: &str) -> Result<(), Starved> {
+    let mut words = line.trim_end().split(' ').skip(1);
+    let changes = words.next().unwrap_or_default();
+    let registrations = words.next().unwrap_or_default();
+    let observers = words.next().unwrap_or_default();
+    write!(page, "(in the end: accepted changes {changes}, ")?;
+    Ok(writeln!(
+        page,
+        "live registrations {registrations}, observers {observers})"
+    )?)
 }

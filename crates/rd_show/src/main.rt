@@ -1,31 +1,85 @@
-//! `rd_show`: shows a recorded trace as a conversation: who sent what to whom, and what the directory answered.
+//! `rd_show`: shows a recorded trace as a conversation: who sent what to whom, and what the
+//! directory answered.
 #![tactic(auto)]
 
+ghost use Rattle.std.specs.Prelude.{◌≤◌};
 ghost use Rattle.rd_server.specs.Machines.{IsMachine};
 
 mod conversation;
 mod lines;
 mod moments;
+mod pending;
+mod serving;
+mod stops;
+mod words;
 
 use conversation::Conversation;
-use std::io::{self, BufRead};
+use rd_base::{Got, Source, StdSink, StdSource};
+use rd_server::{Status, WordsFault, given_words, report};
+use std::process::ExitCode;
+use stops::Stop;
+use words::workers_asked;
 
-/// Shows the lines of the trace one after the other.
-fn show_all(rt: &HostRuntime, shown: &mut Conversation) -> io::Result<()>
+/// What is said where the words are not those of the program.
+const USAGE: &str = "usage: rd_show [--workers N]\n";
+
+/// Shows the trace piece by piece.
+fn show_trace<S: Source>(
+    rt: &HostRuntime,
+    shown: &mut Conversation,
+    source: &mut S,
+) -> Result<(), Stop>
     requires { IsMachine shown.old.machine }
 {
-    'lines: for line in rt.reader().split(rt.alloc(), b'\n') {
-        let Ok(page) = shown.show(line?.as_slice()) else {
-            return Err(io::Error::from(io::ErrorKind::OutOfMemory));
-        };
-        rt.print(page)?;
+    let mut buffer = [0u8; 4096];
+    'pieces: loop {
+        match source.read(&mut buffer) {
+            Got::Failed => return Err(Stop::ReadFault),
+            Got::Bytes(0) => break,
+            Got::Bytes(n) => rt.print(shown.hear(&buffer[..n])?)?,
+        }
     }
-    Ok(())
+    Ok(rt.print(shown.finish()?)?)
 }
 
-fn main(rt: HostRuntime) -> io::Result<()> {
-    let Ok(mut shown) = Conversation::make(rt.alloc()) else {
-        return Err(io::Error::from(io::ErrorKind::OutOfMemory));
+/// Shows the trace of standard input to a directory of so many workers.
+fn show_all(rt: &HostRuntime, workers: u8) -> Status
+    requires { workers ≤ 16 }
+{
+    let Ok(mut shown) = Conversation::make(rt.alloc(), workers) else {
+        return Status::Memory;
     };
-    show_all(&rt, &mut shown)
+    let mut source = StdSource::of(rt.stdin());
+    match show_trace(rt, &mut shown, &mut source) {
+        Ok(()) => shown.status(),
+        Err(stop) => stop.status(),
+    }
+}
+
+/// Does what the words of the command line ask for.
+fn run(rt: &HostRuntime) -> Status {
+    match given_words(rt) {
+        Ok(words) => match workers_asked(words.as_slice()) {
+            Some(workers) => show_all(rt, workers),
+            None => Status::Usage,
+        },
+        Err(WordsFault::Usage) => Status::Usage,
+        Err(WordsFault::Starved) => Status::Memory,
+    }
+}
+
+/// Says on standard error how the program ended.
+fn say(rt: &HostRuntime, status: Status) {
+    match status {
+        Status::Usage => {
+            let _ = rt.eprint(USAGE);
+        }
+        _ => report(&mut StdSink::of(rt.stderr()), status),
+    }
+}
+
+fn main(rt: HostRuntime) -> ExitCode {
+    let status = run(&rt);
+    say(&rt, status);
+    ExitCode::from(status.code())
 }

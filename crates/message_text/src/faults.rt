@@ -1,0 +1,122 @@
+//! Which rule of the form of a message octets break.
+ghost use Rattle.std.specs.Prelude.{◌≤◌, IfOk, length};
+
+/// The greatest number of an option (RFC 7252 section 3.1).
+const LAST_NUMBER: usize = 65_535;
+
+/// The octet before a payload (RFC 7252 section 3).
+const MARKER: u8 = 255;
+
+/// The most octets of a token (RFC 7252 section 3).
+const LONGEST_TOKEN: usize = 8;
+
+/// The rule that octets with the header of a message break (RFC 7252 sections 3, 3.1 and 4.1).
+#[derive(Clone, Copy, Debug, PartialEq, Eq)]
+pub(crate) enum FormatFault {
+    /// The class of the code is reserved.
+    Class,
+    /// The token has more octets than one may have.
+    TokenLength,
+    /// The token is cut off.
+    TokenEnd,
+    /// An Empty message is more than a header.
+    Filled,
+    /// The delta or the length of an option is the reserved nibble 15.
+    Nibble,
+    /// An option is cut off.
+    OptionEnd,
+    /// The number of an option is above the greatest.
+    Number,
+    /// No payload follows the marker.
+    Payload,
+}
+
+impl FormatFault {
+    /// What is wrong, in words.
+    pub(crate) fn text(self) -> &'static str {
+        match self {
+            FormatFault::Class => "reserved class of code",
+            FormatFault::TokenLength => "token longer than 8 octets",
+            FormatFault::TokenEnd => "token cut off",
+            FormatFault::Filled => "Empty message with more than a header",
+            FormatFault::Nibble => "reserved nibble 15 in an option",
+            FormatFault::OptionEnd => "option cut off",
+            FormatFault::Number => "option number above 65535",
+            FormatFault::Payload => "marker without a payload",
+        }
+    }
+}
+
+/// A delta or a length: its nibble, extended by the octets after it (RFC 7252 section 3.1).
+fn extended(nibble: u8, octets: &[u8]) -> Result<(usize, &[u8]), FormatFault>
+    ensures { IfOk result (λ x. length x.1.now ≤ length octets.now) }
+{
+    match (nibble, octets) {
+        (0..=12, _) => Ok((usize::from(nibble), octets)),
+        (13, [more, rest @ ..]) => Ok((13 + usize::from(*more), rest)),
+        (14, [high, low, rest @ ..]) => {
+            let more = u16::from_be_bytes([*high, *low]);
+            Ok((269 + usize::from(more), rest))
+        }
+        (13 | 14, _) => Err(FormatFault::OptionEnd),
+        _ => Err(FormatFault::Nibble),
+    }
+}
+
+/// The number of an option after one of the number `before`, and the octets after it.
+fn option_after(before: usize, first: u8, octets: &[u8]) -> Result<(usize, &[u8]), FormatFault>
+    ensures { IfOk result (λ x. length x.1.now ≤ length octets.now) }
+{
+    let (delta, rest) = extended(first / 16, octets)?;
+    let (size, rest) = extended(first % 16, rest)?;
+    if rest.len() < size {
+        return Err(FormatFault::OptionEnd);
+    }
+    let number = before.saturating_add(delta);
+    if number > LAST_NUMBER {
+        return Err(FormatFault::Number);
+    }
+    Ok((number, &rest[size..]))
+}
+
+/// Reads the options and the payload.
+fn tail_read(octets: &[u8]) -> Result<(), FormatFault> {
+    let mut number = 0;
+    let mut rest = octets;
+    'options: while let Some((first, following)) = rest.split_first() {
+        if *first == MARKER && following.is_empty() {
+            return Err(FormatFault::Payload);
+        }
+        if *first == MARKER {
+            return Ok(());
+        }
+        (number, rest) = option_after(number, *first, following)?;
+    }
+    Ok(())
+}
+
+/// Reads what follows the code and the Message ID.
+fn body_read(code: u8, token_length: usize, octets: &[u8]) -> Result<(), FormatFault> {
+    if matches!(code / 32, 1 | 6 | 7) {
+        return Err(FormatFault::Class);
+    }
+    if token_length > LONGEST_TOKEN {
+        return Err(FormatFault::TokenLength);
+    }
+    if code == 0 && (token_length > 0 || !octets.is_empty()) {
+        return Err(FormatFault::Filled);
+    }
+    if octets.len() < token_length {
+        return Err(FormatFault::TokenEnd);
+    }
+    tail_read(&octets[token_length..])
+}
+
+/// The first rule that octets with the header of a message break; none where they break none, or
+/// have no header (RFC 7252 sections 3, 3.1 and 4.1).
+pub(crate) fn format_fault(datagram: &[u8]) -> Option<FormatFault> {
+    match datagram {
+        [first, code, _, _, rest @ ..] => body_read(*code, usize::from(*first % 16), rest).err(),
+        _ => None,
+    }
+}
