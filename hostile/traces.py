@@ -1,5 +1,5 @@
 #!/usr/bin/env python3
-"""Mutated traces: `hostile/traces.py [--seed N] [--count N] [--first N] FOLDER`.
+"""Mutated traces: `hostile/traces.py [--seed N] [--count N] [--first N] [--joined N] FOLDER`.
 
 From the stored cases (crates/rd_rows/data) and the traces of examples/ it makes traces with some
 of their lines changed, cut, doubled, left out, exchanged or taken from another trace, and writes
@@ -7,11 +7,16 @@ each into a file of the folder. They are the same for a seed. An rd_replay that 
 checks of its memory is to go through them without a report: in crates/rd_replay
 
     rt try --cases FOLDER -- --workers=4
+
+Where each run takes long, --joined N puts so many traces into each file, one behind another: each
+up to its first bad line, as bin/rd_replay says, with that line where it is the last of its file;
+each begins more than eleven days later than the one before it, with no job left.
 """
 
 import argparse
 import random
 import re
+import subprocess
 from pathlib import Path
 
 ROOT = Path(__file__).resolve().parent.parent
@@ -22,6 +27,12 @@ MOST_ROUNDS = 12
 
 # The most changes of one trace.
 MOST_CHANGES = 6
+
+# Where traces are joined: workers, the seconds that one may take to be read for its first bad
+# line, the milliseconds between the beginnings of two, and up to which moment they are moved.
+WORKERS, RUN_LIMIT = 4, 20
+BETWEEN = 1_000_000_000
+MOST_MOVED = 1_000_000_000
 
 # Forms of a case (docs/CASES.md): a text so many times, and what stands for the round of a loop.
 TIMES = re.compile(r"\{([^{}*]+)\*(\d+)\}")
@@ -176,18 +187,59 @@ CHANGES = [Mutant.octets] * 6 + [Mutant.leave_out, Mutant.double, Mutant.exchang
                                  Mutant.tick, Mutant.number, Mutant.moment, Mutant.peer]
 
 
+def bad_line(program: Path, text: bytes) -> int:
+    """The number of the first bad line of a trace, 0 where none is."""
+    done = subprocess.run([program, f"--workers={WORKERS}"], input=text, stdout=subprocess.DEVNULL,
+                          stderr=subprocess.PIPE, timeout=RUN_LIMIT, check=False)
+    found = re.match(rb"line (\d+): ", done.stderr)
+    return int(found[1]) if found else 0
+
+
+def later(line: bytes, milliseconds: int) -> bytes:
+    """A good line, so many milliseconds later."""
+    fields = line.split(b" ")
+    moment = int(fields[2])
+    if moment < MOST_MOVED:
+        fields[2] = b"%d" % (moment + milliseconds)
+    return b" ".join(fields)
+
+
+def joined(program: Path, texts: list[bytes]) -> bytes:
+    """Traces one behind another, each up to its first bad line; that of the last one, too."""
+    lines: list[bytes] = []
+    for place, text in enumerate(texts):
+        bad, given = bad_line(program, text), text.split(b"\n")
+        begin = place * BETWEEN
+        lines += [b"go %d %d" % (worker, begin) for worker in range(WORKERS)]
+        lines += [later(line, begin) for line in (given[:bad - 1] if bad else given) if line]
+    leave_out_bad(program, lines)
+    if bad:
+        lines.append(given[bad - 1])
+    return b"\n".join(lines) + b"\n"
+
+
+def leave_out_bad(program: Path, lines: list[bytes]):
+    """Leaves out what is bad behind other traces, as where a datagram leaves a job now."""
+    while bad := bad_line(program, b"\n".join(lines)):
+        del lines[bad - 1]
+
+
 def main():
     parser = argparse.ArgumentParser(description="Mutated traces.")
     parser.add_argument("folder", type=Path)
     parser.add_argument("--seed", type=int, default=1)
     parser.add_argument("--count", type=int, default=20_000)
     parser.add_argument("--first", type=int, default=0, help="the number of the first one")
+    parser.add_argument("--joined", type=int, default=1, help="how many traces a file has")
+    parser.add_argument("--bin", type=Path, default=Path("bin"), help="where the program is")
     words = parser.parse_args()
     words.folder.mkdir(parents=True, exist_ok=True)
-    all_lines = traces()
-    for number in range(words.first, words.first + words.count):
-        mutant = Mutant(random.Random(f"{words.seed} {number}"), all_lines)
-        (words.folder / f"{number:06}.trace").write_bytes(mutant.text())
+    all_lines, end = traces(), words.first + words.count
+    for first in range(words.first, end, words.joined):
+        texts = [Mutant(random.Random(f"{words.seed} {number}"), all_lines).text()
+                 for number in range(first, min(first + words.joined, end))]
+        made = joined(words.bin / "rd_replay", texts) if words.joined > 1 else texts[0]
+        (words.folder / f"{first:06}.trace").write_bytes(made)
     print(f"seed {words.seed}: {words.count} traces from {len(all_lines)}, from {words.first} on")
 
 
