@@ -9,8 +9,8 @@ from dataclasses import dataclass
 
 import wire
 from messages import (ACK, BLOCK2, CON, CONTENT, CONTENT_FORMAT, DELETE, EMPTY, GET, NON, POST,
-                      RST, URI_PATH, URI_QUERY, octets, path, query)
-from wire import ACCEPT, BLOCK1, ETAG, OBSERVE, block, number_octets
+                      RST, URI_QUERY, octets, path, query)
+from wire import ACCEPT, BLOCK1, ETAG, OBSERVE, block
 
 # What the compared lookups filter by, and how many registrations are the driver's own.
 STEADY = "steady"
@@ -114,7 +114,8 @@ class Maker:
 
     def request(self, code: int, options, payload: bytes = b"") -> bytes:
         """A request with a token by chance."""
-        return octets(self.kind(), code, self.mid(), self.some(8), sorted_options(options), payload)
+        ordered = sorted_options(options)
+        return octets(self.kind(), code, self.mid(), self.some(8), ordered, payload)
 
     def text(self, texts: list[str]) -> str:
         """One of some texts."""
@@ -159,7 +160,8 @@ class Maker:
         return octets(self.kind(), POST, self.mid(), b"", REGISTER) + b"\xff"
 
     def last_number(self) -> bytes:
-        return header(self.kind(), 0, GET, self.mid()) + b"\xe0\xff\xff" * self.chance.randint(1, 9)
+        options = b"\xe0\xff\xff" * self.chance.randint(1, 9)
+        return header(self.kind(), 0, GET, self.mid()) + options
 
     def empty_with_content(self) -> bytes:
         length = self.chance.randint(0, 8)
@@ -262,8 +264,9 @@ class Maker:
         """A block of a listing: one that is there, or one far past the end."""
         number = self.chance.choice([0, 1, 2, 3, 30, 1_023, 1_024, 65_535, 0xFFFFF])
         option = (BLOCK2, block(number, self.chance.random() < 0.1, self.chance.randrange(8)))
-        parts = query(*[self.text(["rt=h", "if=s", "count=40", "ep=h*"])] * self.chance.randrange(3))
-        return self.request(GET, self.chance.choice([*LOOKUPS, DISCOVERY]) + parts + [option])
+        part = self.text(["rt=h", "if=s", "count=40", "ep=h*"])
+        place = self.chance.choice([*LOOKUPS, DISCOVERY])
+        return self.request(GET, place + query(*[part] * self.chance.randrange(3)) + [option])
 
     # What fills tables.
 

@@ -131,7 +131,7 @@ def tell(program: str, limit: Limit):
         finally:
             filling.close()
         memory = server.kibibytes("VmHWM") / 1024
-    said = answer.refusal() if answer.code >> 5 in (4, 5) else f"{answer.refusal()} without Observe"
+    said = answer.refusal() + " without Observe" * (answer.code >> 5 == 2)
     print(COLUMNS.format(limit.name, f"{filling.taken:,}", f"{filling.octets:,}", said, lookup,
                          f"{registration:<16}{memory:>6.1f} MiB"), flush=True)
 

@@ -406,7 +406,7 @@ class Fleet:
         return self.chance.choice(list(self.entries.values())) if self.entries else None
 
     def is_as_lives(self, entry: Entry, answer: Answer, code: int) -> bool:
-        """Whether a change of a registration was answered by its code, or by 4.04 as it is gone."""
+        """Whether a change was answered by its code, or by 4.04 where it may be gone."""
         if answer.message.code == code:
             return entry.may_live(answer.sent)
         return answer.message.refusal() == "4.04 registration" and not entry.is_live(answer.came)
@@ -424,7 +424,8 @@ class Fleet:
             return False
         if not entry.is_given:
             entry.base = self.sensor.base()
-        return bool(entry.grant(answer) or True)
+        entry.grant(answer)
+        return True
 
     def forget(self, entry: Entry):
         """A registration is gone."""
@@ -437,7 +438,7 @@ class Fleet:
             await self.change("refreshes", entry, [])
 
     async def update(self):
-        """Changes a registration: its attributes, its lifetime, its base. A lapsed one is gone."""
+        """Changes a registration: its attributes, its lifetime, its base."""
         if not (entry := self.some_entry()):
             return
         version, lifetime = str(next(self.ledger.versions)), self.chance.choice(LIFETIMES)
@@ -445,23 +446,14 @@ class Fleet:
         parts = [f"v={version}", f"lt={lifetime}"] + ([f"base={base}"] if base else [])
         if self.chance.random() < 0.3:
             parts.append("x=y")
-        before = entry.lifetime
-        answered = await self.changed_to(entry, parts, lifetime)
-        if not answered:
-            entry.lifetime = before
+        if not await self.change("updates", entry, parts):
             return
+        entry.lifetime = lifetime
         given = [tuple(part.split("=")) for part in parts if part[0] in "vx"]
         names = [name for name, _ in given]
         entry.pairs = [pair for pair in entry.pairs if pair[0] not in names] + given
         if base:
             entry.base, entry.is_given = base, True
-
-    async def changed_to(self, entry: Entry, parts: list[str], lifetime: int) -> bool:
-        """Updates a registration with a lifetime; whether it was."""
-        is_changed = await self.change("updates", entry, parts)
-        if is_changed:
-            entry.lifetime = lifetime
-        return is_changed
 
     async def remove(self):
         """Removes a registration."""
@@ -475,12 +467,11 @@ class Fleet:
     async def unknown(self):
         """Changes a registration whose number is not there."""
         code = self.chance.choice([POST, DELETE])
-        number = self.chance.choice(["0", "999999999999999"])
-        if number == "0":
+        if self.chance.random() < 0.5:
             answer = await self.client.ask(self.client.request(code, path("rd", "01")))
             self.ledger.judge("other paths", answer.message.refusal() == "4.04 path",
                               answer.octets.hex())
-        elif answer := await self.write(self.client, code, path("rd", number)):
+        elif answer := await self.write(self.client, code, path("rd", "999999999999999")):
             is_right = answer.message.refusal() == "4.04 registration"
             self.ledger.judge("unknown registrations", is_right, answer.octets.hex())
 
@@ -532,9 +523,7 @@ class Fleet:
         while True:
             answer = await self.client.ask(self.client.request(GET, options))
             listed = answer.message.payload.decode(errors="replace")
-            if listed or answer.came > begun + FETCH_LIMIT:
-                break
-            if answer.came > begun + entry.lifetime - MARGIN:
+            if listed or answer.came > begun + min(FETCH_LIMIT, entry.lifetime - MARGIN):
                 break
             await asyncio.sleep(0.01)
         entry.grant(Answer(first.message, b"", begun, answer.came))

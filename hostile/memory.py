@@ -72,8 +72,9 @@ class Trace:
         is_whole = done.returncode != 0 or done.stdout == self.whole
         if TEXTS.get(done.returncode) != said or not is_front or not is_whole:
             self.wrong += 1
-            print(f"    allocation {number}: status {done.returncode} {said.decode(errors='replace').strip()}"
-                  f"{'' if is_front and is_whole else ', other output'}")
+            said_text = said.decode(errors="replace").strip()
+            output = "the output" if is_front and is_whole else "other output"
+            print(f"    allocation {number}: {output}, status {done.returncode} {said_text}")
         return True
 
     def try_all(self) -> int:

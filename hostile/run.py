@@ -70,7 +70,7 @@ def compared_lookups() -> list[bytes]:
     fleet = query(f"fleet={STEADY}")
     asked = [
         resources + query(f"ep={STEADY}17"), endpoints + query(f"ep={STEADY}17"),
-        resources + query("rt=k3", *[f"fleet={STEADY}", "count=9", "page=1"]),
+        resources + query("rt=k3", f"fleet={STEADY}", "count=9", "page=1"),
         resources + query("rt=light", f"fleet={STEADY}", "href=coap://d1.example/1/*"),
         endpoints + query("href=/rd/300"), endpoints + query("base=coap://d299.example"),
         resources + query(f"ep={STEADY}2*", "rt=temp*", "page=2", "count=10"),
@@ -166,7 +166,8 @@ class Strangers:
             name = CLASSES.get(answer.code >> 5, "other")
             is_notice = answer.kind == CON and answer.code >> 5 == 2
             name = "notices" if is_notice else name
-            self.answers[answer.refusal()] += answer.code >= 64 and not is_notice
+            if answer.code >> 5 in (2, 4, 5) and not is_notice:
+                self.answers[answer.refusal()] += 1
         self.classes[name] += 1
 
     def close(self):

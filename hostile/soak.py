@@ -1,5 +1,5 @@
 #!/usr/bin/env python3
-"""Mixed load, each answer of which is judged: `hostile/soak.py [--seconds N] [--seed N] [--bin F]`.
+"""Mixed load, each answer of which is judged: `hostile/soak.py [--seconds N] [--seed N]`.
 
 rd_serve is started with four workers on a free port of 127.0.0.1. Some fleets of devices register,
 whole and in blocks, refresh, change and remove their registrations, whose leases are short and
@@ -19,7 +19,6 @@ import sys
 import time
 from pathlib import Path
 
-import wire
 from fleet import Fleet, Ledger
 from wire import Server, Wrong
 

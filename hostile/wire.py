@@ -1,4 +1,4 @@
-"""What the scripts of this folder share: messages read, numbers of options, the server's process."""
+"""What the scripts of this folder share: reading messages, and the server as it runs."""
 
 import re
 import socket
@@ -28,9 +28,6 @@ SERVER_LIMIT = 5
 PING = messages.octets(messages.CON, messages.EMPTY, 0x4E55)
 PONG = messages.octets(messages.RST, messages.EMPTY, 0x4E55)
 
-# Octets of a mebibyte, and what /proc counts in.
-KIBIBYTE, MEBIBYTE = 1 << 10, 1 << 20
-
 
 class Wrong(Exception):
     """What is not to be: a wrong answer, none in time, or a server that has ended."""
@@ -51,14 +48,10 @@ class Message:
         """The values of the options of one number."""
         return [value for each, value in self.options if each == number]
 
-    def text(self) -> str:
-        """Its code and its diagnostic word, as `4.00 query`."""
-        return f"{self.code >> 5}.{self.code & 31:02}"
-
     def refusal(self) -> str:
         """Its code, with the diagnostic word of a refusal, as `4.00 query`."""
         word = self.payload.decode(errors="replace") if self.code >> 5 in (4, 5) else ""
-        return f"{self.text()} {word}".rstrip()
+        return f"{self.code >> 5}.{self.code & 31:02} {word}".rstrip()
 
     def path(self) -> list[bytes]:
         """The segments of its path."""
