@@ -3,7 +3,8 @@
 
 For each limit a server of its own is started on 127.0.0.1, and sent requests until one is not
 taken any more. A line says how many were taken, of how many octets together, what the next one is
-answered, and whether a lookup and a registration are answered then as before.
+answered, what a lookup and a registration of somebody else are answered then, and how much memory
+the server had at most.
 """
 
 import argparse
@@ -36,6 +37,7 @@ class Limit:
     request: Callable[[int], bytes]
     is_taken: Callable[[Message], bool]
     is_of_ports: bool = False
+    before: "Limit | None" = None
 
 
 def request(number: int, code: int, options, payload: bytes = b"") -> bytes:
@@ -59,18 +61,27 @@ def observation(number: int, queries: int) -> bytes:
     return request(number, GET, [(OBSERVE, b"")] + path("rd-lookup", "res") + parts)
 
 
+def observation_of_all(number: int) -> bytes:
+    """An observation of all resources, which the criterion matches."""
+    parts = query("href=coap*")
+    return request(number, GET, [(OBSERVE, b"")] + path("rd-lookup", "res") + parts)
+
+
+TEXT = Limit("text, by one datagram each",
+             lambda number: request(number, POST, path("rd") + query(f"ep={number}", LONG_BASE),
+                                    MANY_LINKS), is_accepted)
+
 LIMITS = [
     Limit("exchanges, by removals of nothing",
           lambda number: request(number, DELETE, path("rd", "9")), is_accepted),
     Limit("exchanges, by registrations",
           lambda number: request(number, POST, path("rd") + query(f"ep={number}")), is_accepted),
-    Limit("text, by one datagram each",
-          lambda number: request(number, POST, path("rd") + query(f"ep={number}", LONG_BASE),
-                                 MANY_LINKS), is_accepted),
+    TEXT,
     Limit("uploads",
           lambda number: request(number, POST, path("rd") + query(f"ep={number}")
                                  + [(BLOCK1, block(0, True, 0))], b"x" * 16), is_accepted),
     Limit("observers, of one query", lambda number: observation(number, 1), is_observed),
+    Limit("observers, of a full text", observation_of_all, is_observed, before=TEXT),
     Limit("watched queries", lambda number: observation(number, MOST_SENT), is_observed),
     Limit("fetches, of a port each",
           lambda number: request(number, POST, path(".well-known", "rd") + query("ep=f")),
@@ -81,8 +92,8 @@ LIMITS = [
 class Filling:
     """A server that is filled."""
 
-    def __init__(self, server: Server, limit: Limit):
-        self.server, self.limit = server, limit
+    def __init__(self, server: Server):
+        self.server = server
         self.sockets = [wire.open_socket(server.port)]
         self.taken = self.octets = 0
 
@@ -94,16 +105,19 @@ class Filling:
         asking.send(asked)
         return wire.read(asking.recv(wire.MOST_READ))
 
-    def fill(self) -> Message:
+    def fill(self, limit: Limit) -> Message:
         """Sends until one is not taken, which is answered like this."""
+        if limit.before:
+            self.fill(limit.before)
+        self.taken = self.octets = 0
         while self.taken < MOST_SENT:
-            asked = self.limit.request(self.taken)
-            answer = self.ask(asked, self.limit.is_of_ports)
-            if not self.limit.is_taken(answer):
+            asked = limit.request(self.taken)
+            answer = self.ask(asked, limit.is_of_ports)
+            if not limit.is_taken(answer):
                 return answer
             self.taken += 1
             self.octets += len(asked)
-        raise Wrong(f"{self.limit.name}: {MOST_SENT} are taken")
+        raise Wrong(f"{limit.name}: {MOST_SENT} are taken")
 
     def others(self) -> tuple[str, str]:
         """What a lookup and a registration of somebody else are answered."""
@@ -124,9 +138,9 @@ class Filling:
 def tell(program: str, limit: Limit):
     """Fills a limit, and tells a line."""
     with Server(program, WORKERS) as server:
-        filling = Filling(server, limit)
+        filling = Filling(server)
         try:
-            answer = filling.fill()
+            answer = filling.fill(limit)
             lookup, registration = filling.others()
         finally:
             filling.close()
