@@ -26,6 +26,9 @@ TRIES = 4
 NEWS_LIMIT, FETCH_LIMIT = 5, 8
 REFUSED_WAIT = 1.0
 
+# How often each other act comes for one of writing.
+OTHERS = 5
+
 # Registrations of a fleet, their lifetimes in seconds, the types of their links.
 NAMES = 24
 LIFETIMES = [1, 2, 5, 20, 60, 60, 60]
@@ -49,7 +52,7 @@ class Ledger:
 
     def __init__(self):
         self.counts: Counter[str] = Counter()
-        self.wrong = 0
+        self.judged = self.wrong = 0
         self.kept: deque[tuple[float, float]] = deque()
         self.next_write = 0.0
         self.highest = 0
@@ -59,6 +62,7 @@ class Ledger:
     def judge(self, what: str, is_right: bool, told: object = ""):
         """Counts an answer, and tells it where it is wrong."""
         self.counts[what] += 1
+        self.judged += 1
         if not is_right:
             self.wrong += 1
             if self.wrong <= MOST_TOLD:
@@ -298,9 +302,11 @@ class Fleet:
         for port in self.ports:
             await port.open(self.server_port)
         await self.observe()
-        acts = [self.register, self.register, self.upload, self.update, self.update, self.refresh,
-                self.remove, self.simple, self.look, self.look, self.look, self.pages, self.blocks,
-                self.blocks, self.validate, self.refused, self.unknown, self.watch, self.observe]
+        writes = [self.register, self.register, self.upload, self.update, self.update,
+                  self.refresh, self.remove, self.simple, self.unknown]
+        others = [self.look, self.look, self.look, self.blocks, self.blocks, self.pages,
+                  self.validate, self.watch, self.observe, self.refused]
+        acts = writes + others * OTHERS
         while time.monotonic() < until:
             await self.chance.choice(acts)()
             await asyncio.sleep(self.chance.uniform(0, 0.05))
@@ -420,6 +426,7 @@ class Fleet:
         is_right = self.is_as_lives(entry, answer, CHANGED)
         self.ledger.judge(what, is_right, (answer.octets.hex(), entry))
         if answer.message.code != CHANGED:
+            self.ledger.counts["changes of what has lapsed"] += 1
             self.forget(entry)
             return False
         if not entry.is_given:

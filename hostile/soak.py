@@ -51,7 +51,7 @@ async def tell(server: Server, ledger: Ledger):
     begun = time.monotonic()
     while True:
         await asyncio.sleep(TELL_SECONDS)
-        print(f"{time.monotonic() - begun:6.0f} s, {ledger.counts.total()} judged, "
+        print(f"{time.monotonic() - begun:6.0f} s, {ledger.judged} judged, "
               f"{ledger.wrong} wrong, {server.kibibytes('VmRSS') / 1024:.1f} MiB", flush=True)
 
 
@@ -61,7 +61,7 @@ def tell_all(server: Server, ledger: Ledger) -> bool:
     for name, count in sorted(ledger.counts.items()):
         print(f"    {count:>6} {name}")
     print(f"highest memory {most / 1024:.1f} MiB, to stay below {MOST_KIBIBYTES >> 10}")
-    print(f"{ledger.counts.total()} judged, {ledger.wrong} wrong")
+    print(f"{ledger.judged} judged, {ledger.wrong} wrong")
     return ledger.wrong == 0 and most < MOST_KIBIBYTES and server.is_alive()
 
 
