@@ -39,6 +39,7 @@ clients: build-rd_serve
 
 hostile: build-rd_serve build-rd_replay
 	@python3 hostile/run.py --seed $(SEED)
+	@python3 hostile/run.py --seed $(SEED) --starve 997
 	@python3 hostile/each.py --seed $(SEED)
 	@python3 hostile/fill.py
 	@python3 hostile/memory.py

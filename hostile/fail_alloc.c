@@ -1,7 +1,8 @@
-/* Refuses one allocation of a program, where it is loaded before the C library (LD_PRELOAD).
+/* Refuses allocations of a program, where it is loaded before the C library (LD_PRELOAD).
  *
  * FAIL_ALLOC=N refuses the N-th one, counted from 1, of malloc, calloc, realloc (but for one that
  * frees), posix_memalign, aligned_alloc and memalign, and says `refused N` on standard error.
+ * FAIL_EVERY=N refuses each N-th one after the first thousand, and says nothing.
  */
 #define _GNU_SOURCE
 #include <errno.h>
@@ -12,7 +13,7 @@
 #include <string.h>
 #include <unistd.h>
 
-enum { MOST_TEXT = 40 };
+enum { MOST_TEXT = 40, BEGINNING = 1000 };
 
 extern void *__libc_malloc(size_t size);
 extern void *__libc_calloc(size_t count, size_t size);
@@ -20,24 +21,39 @@ extern void *__libc_realloc(void *held, size_t size);
 extern void *__libc_memalign(size_t alignment, size_t size);
 
 static atomic_ulong counted;
-static unsigned long refused;
+static unsigned long refused, every;
 
-__attribute__((constructor)) static void read_number(void)
+static unsigned long number_of(const char *name)
 {
-    const char *number = getenv("FAIL_ALLOC");
-    counted = 0;
-    refused = number ? strtoul(number, NULL, 10) : 0;
+    const char *number = getenv(name);
+    return number ? strtoul(number, NULL, 10) : 0;
 }
 
-/* Whether this allocation is the one that is refused. */
-static bool is_refused(void)
+__attribute__((constructor)) static void read_numbers(void)
 {
-    if (refused == 0 || ++counted != refused)
-        return false;
+    counted = 0;
+    refused = number_of("FAIL_ALLOC");
+    every = number_of("FAIL_EVERY");
+}
+
+static void say_refused(void)
+{
     char text[MOST_TEXT];
     int length = snprintf(text, sizeof text, "refused %lu\n", refused);
     if (write(STDERR_FILENO, text, (size_t)length) != length)
         abort();
+}
+
+/* Whether this allocation is one that is refused. */
+static bool is_refused(void)
+{
+    if (refused == 0 && every == 0)
+        return false;
+    unsigned long number = ++counted;
+    if (number == refused)
+        say_refused();
+    else if (every == 0 || number <= BEGINNING || number % every != 0)
+        return false;
     errno = ENOMEM;
     return true;
 }

@@ -1,5 +1,5 @@
 #!/usr/bin/env python3
-"""Hostile datagrams against the server: `hostile/run.py [--seed N] [--bin FOLDER]`.
+"""Hostile datagrams against the server: `hostile/run.py [--seed N] [--starve N] [--bin FOLDER]`.
 
 rd_serve is started with four workers on a free port of 127.0.0.1, and some hundred devices
 register. Then hostile datagrams come, three times 20,000 (hostile/datagrams.py), from some hundred
@@ -7,22 +7,26 @@ ports. After each thousand lookups are asked, whose answers are to be those that
 for the same registrations and lookups, but for the entity tag, which counts what the hostile
 datagrams registered, too. One line a thousand says what was compared and the server's memory.
 At the end stand what was compared, the highest memory, and how many answers came of each class.
-A second server, of some turns, is to end by itself meanwhile. The status is 1 where an answer
-differs, the server ended, or its memory passed the limit.
+A second server, of some turns, is to end by itself meanwhile. With --starve N each N-th of the
+server's allocations is refused (hostile/fail_alloc.c), and what is answered 5.00 is asked again.
+The status is 1 where an answer differs, the server ended, or its memory passed the limit.
 """
 
 import argparse
+import os
 import re
 import selectors
 import signal
 import socket
 import subprocess
 import sys
+import tempfile
 import time
 from collections import Counter
 from pathlib import Path
 
 import datagrams
+import memory
 import wire
 from datagrams import KEPT, LINK_FORMAT, LOOKUPS, REGISTER, STEADY
 from messages import ACK, BLOCK2, CON, EMPTY, GET, POST, RST, octets, query
@@ -45,6 +49,9 @@ TURNS, MOST_TURNS_SENT = 1_000, 50_000
 
 # Blocks of the long listings that are asked, the last ones past their ends.
 LONG_BLOCKS = 36
+
+# The second octet of 5.00, and how often what is answered so is asked again.
+STARVED, STARVED_TRIES = b"\xa0", 200
 
 SERVED = re.compile(r"served (\d+) (\d+) (\d+)")
 
@@ -108,6 +115,15 @@ def replayed(program: str, registering: int, asking: int, lookups: list[bytes]) 
 
 
 def ask(asking: socket.socket, request: bytes) -> bytes:
+    """The answer to a request, which is asked again where the server found no memory."""
+    for _ in range(STARVED_TRIES):
+        came = ask_once(asking, request)
+        if came[1:2] != STARVED:
+            break
+    return came
+
+
+def ask_once(asking: socket.socket, request: bytes) -> bytes:
     """The answer to a request that is sent again where none comes."""
     for _ in range(3):
         asking.send(request)
@@ -278,16 +294,25 @@ def ends_by_turns(program: str, seed: int) -> bool:
     return status == 0 and SERVED.fullmatch(said) is not None
 
 
+def environment(starve: int, folder: str) -> dict | None:
+    """What the server runs under, where its allocations are refused."""
+    if not starve:
+        return None
+    return os.environ | {"LD_PRELOAD": str(memory.build(folder)), "FAIL_EVERY": str(starve)}
+
+
 def main():
     parser = argparse.ArgumentParser(description="Hostile datagrams against the server.")
     parser.add_argument("--seed", type=int, default=1)
+    parser.add_argument("--starve", type=int, default=0, help="each N-th allocation is refused")
     parser.add_argument("--bin", type=Path, default=Path("bin"), help="where the programs are")
     words = parser.parse_args()
     signal.signal(signal.SIGTERM, lambda *_: sys.exit(1))
     serve, replay = (str((words.bin / name).resolve()) for name in ("rd_serve", "rd_replay"))
     print(f"seed {words.seed}, {WORKERS} workers, {KEPT} devices, {datagrams.PORTS} ports")
     try:
-        with Server(serve, WORKERS) as server:
+        with tempfile.TemporaryDirectory() as folder, \
+                Server(serve, WORKERS, env=environment(words.starve, folder)) as server:
             run = Run(server, replay, words.seed)
             run.rounds()
             is_right = run.tell() and server.is_alive()

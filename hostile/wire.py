@@ -121,11 +121,11 @@ def free_port() -> int:
 class Server:
     """rd_serve as it runs, with its memory."""
 
-    def __init__(self, program: str, workers: int, *words: str):
+    def __init__(self, program: str, workers: int, *words: str, env: dict | None = None):
         self.port = free_port()
         self.process = subprocess.Popen(
             [program, "--port", str(self.port), "--workers", str(workers), *words],
-            stdin=subprocess.DEVNULL, stdout=subprocess.PIPE, stderr=subprocess.PIPE)
+            stdin=subprocess.DEVNULL, stdout=subprocess.PIPE, stderr=subprocess.PIPE, env=env)
         self.asking = open_socket(self.port)
 
     def __enter__(self):
