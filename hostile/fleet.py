@@ -15,9 +15,11 @@ from wire import BLOCK1, ETAG, OBSERVE, Message, Wrong, block
 # Codes of answers (RFC 7252 section 12.1.2, RFC 7959 section 2.9).
 DELETED, VALID, CONTINUE = 0x42, 0x43, 0x5F
 
-# The writes that a server keeps, for how many seconds, and how many are made in a second.
+# The writes that a server keeps, for how many seconds, how many are made in a second, and how many
+# of other fleets may be under way.
 MOST_WRITES, REMEMBERED = 4_096, 247
 WRITES_A_SECOND = 20
+UNDER_WAY = 16
 
 # Seconds: how far the model's time and the server's may be apart, how often an answer is waited
 # for, how long a notice or a fetch may take, and how long a refused write waits.
@@ -74,7 +76,7 @@ class Ledger:
         self.next_write = max(self.next_write + 1 / WRITES_A_SECOND, now)
         await asyncio.sleep(self.next_write - now)
 
-    def is_refused(self, answer: "Answer", flying: int) -> bool:
+    def is_refused(self, answer: "Answer") -> bool:
         """Whether a write was refused since too many are kept; judges that, and keeps others."""
         while self.kept and answer.sent - self.kept[0][1] > REMEMBERED + MARGIN:
             self.kept.popleft()
@@ -82,7 +84,7 @@ class Ledger:
                     for sent, came in self.kept)
         is_refused = answer.message.refusal() == "5.03 exchanges"
         if is_refused:
-            most = len(self.kept) + flying
+            most = len(self.kept) + UNDER_WAY
             self.judge("writes refused: too many are kept", most >= MOST_WRITES, most)
         else:
             self.judge("writes accepted", least < MOST_WRITES, least)
@@ -326,7 +328,7 @@ class Fleet:
         await self.ledger.pace()
         request = port.request(code, options, payload)
         answer = await port.ask(request)
-        if self.ledger.is_refused(answer, len(self.ports) * 2):
+        if self.ledger.is_refused(answer):
             await asyncio.sleep(self.chance.uniform(0, REFUSED_WAIT))
             return None
         if self.chance.random() < 0.1:
