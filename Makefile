@@ -1,12 +1,17 @@
 # What a newcomer needs: `make demo` shows a trace as a conversation, `make serve` starts the server, `make build` makes the proved programs,
-# `make clients` runs real clients against the server, `make examples` runs all stored cases, the examples among them, `make bench` measures what
-# calls and the server cost, `make test` is the gate.
+# `make clients` runs real clients against the server, `make hostile` sends it hostile datagrams and refuses memory, `make soak` judges its answers
+# under mixed load, `make examples` runs all stored cases, the examples among them, `make bench` measures what calls and the server cost, `make test`
+# is the gate.
 PROGRAMS = rd_serve rd_replay rd_show rd_capture rd_rows
 
 # The numbers of workers with which `make clients` runs the server.
 WORKERS = 1 4
 
-.PHONY: demo serve build clients examples bench test
+# The seconds of `make soak`, and the number that `make hostile` and `make soak` begin with: a run of the same number sends the same.
+SECONDS = 600
+SEED = 1
+
+.PHONY: demo serve build clients hostile soak examples bench test
 
 demo:
 	@echo "examples/lookup.trace, a recorded trace, and what the directory answers:"; echo
@@ -31,6 +36,16 @@ build-%:
 
 clients: build-rd_serve
 	@python3 clients/run.py $(WORKERS:%=--workers %) bin/rd_serve
+
+hostile: build-rd_serve build-rd_replay
+	@python3 hostile/run.py --seed $(SEED)
+	@python3 hostile/run.py --seed $(SEED) --starve 997
+	@python3 hostile/each.py --seed $(SEED)
+	@python3 hostile/fill.py
+	@python3 hostile/memory.py
+
+soak: build-rd_serve
+	@python3 hostile/soak.py --seconds $(SECONDS) --seed $(SEED)
 
 examples: build
 	@cd crates/rd_rows/data && ../../../bin/rd_rows < ../stdin

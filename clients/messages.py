@@ -13,8 +13,9 @@ REQUEST = re.compile(r"\w+ [A-Z]")
 LINK_FORMAT = "Content-Format:application/link-format"
 
 # Types (RFC 7252 section 3) and codes (section 12.1) of the messages that are sent as octets.
-CON, ACK, RST = 0, 2, 3
-EMPTY, GET, POST, CREATED, CHANGED, CONTENT = 0x00, 0x01, 0x02, 0x41, 0x44, 0x45
+CON, NON, ACK, RST = 0, 1, 2, 3
+EMPTY, GET, POST, DELETE = 0x00, 0x01, 0x02, 0x04
+CREATED, CHANGED, CONTENT = 0x41, 0x44, 0x45
 
 # Numbers of options (RFC 7252 section 5.10, RFC 7959 section 2.1).
 LOCATION_PATH, URI_PATH, CONTENT_FORMAT, URI_QUERY, BLOCK2 = 8, 11, 12, 15, 23
@@ -104,8 +105,12 @@ def refused(code: str, word: str, kind: str = "ACK") -> str:
 
 
 def extended(number: int) -> tuple[int, bytes]:
-    """The nibble and the further octet that spell an option's delta or length below 269."""
-    return (number, b"") if number < 13 else (13, bytes([number - 13]))
+    """The nibble and the further octets that spell an option's delta or length."""
+    if number < 13:
+        return number, b""
+    if number < 269:
+        return 13, bytes([number - 13])
+    return 14, (number - 269).to_bytes(2, "big")
 
 
 def octets(kind: int, code: int, mid: int, token: bytes = b"", options=(), payload=b"") -> bytes:

@@ -1,0 +1,329 @@
+#!/usr/bin/env python3
+"""Hostile datagrams against the server: `hostile/run.py [--seed N] [--starve N] [--bin FOLDER]`.
+
+rd_serve is started with four workers on a free port of 127.0.0.1, and some hundred devices
+register. Then hostile datagrams come, three times 20,000 (hostile/datagrams.py), from some hundred
+ports. After each thousand lookups are asked, whose answers are to be those that rd_replay gives
+for the same registrations and lookups, but for the entity tag, which counts what the hostile
+datagrams registered, too. One line a thousand says what was compared and the server's memory.
+At the end stand what was compared, the highest memory, and how many answers came of each class.
+A second server, of some turns, is to end by itself meanwhile. With --starve N each N-th of the
+server's allocations is refused (hostile/fail_alloc.c), and what is answered 5.00 is asked again.
+The status is 1 where an answer differs, the server ended, or its memory passed the limit.
+"""
+
+import argparse
+import os
+import re
+import selectors
+import signal
+import socket
+import subprocess
+import sys
+import tempfile
+import time
+from collections import Counter
+from pathlib import Path
+
+import datagrams
+import memory
+import wire
+from datagrams import KEPT, LINK_FORMAT, LOOKUPS, REGISTER, STEADY
+from messages import ACK, BLOCK2, CON, EMPTY, GET, POST, RST, octets, query
+from wire import ETAG, Server, Wrong, block
+
+ROUNDS, IN_ROUND, BETWEEN = 3, 20_000, 1_000
+WORKERS = 4
+
+# Datagrams that are sent before the server is to have taken them off.
+BURST = 50
+
+# The memory that the server may have.
+MOST_KIBIBYTES = 400 << 10
+
+# Seconds: how long all may take, and how long the replay may.
+RUN_LIMIT, REPLAY_LIMIT = 600, 60
+
+# The turns of a server that ends by itself, and the most datagrams that it is sent till then.
+TURNS, MOST_TURNS_SENT = 1_000, 50_000
+
+# Blocks of the long listings that are asked, the last ones past their ends.
+LONG_BLOCKS = 36
+
+# The second octet of 5.00, and how often what is answered so is asked again.
+STARVED, STARVED_TRIES = b"\xa0", 200
+
+SERVED = re.compile(r"served (\d+) (\d+) (\d+)")
+
+# Classes of codes by their first three bits, and other kinds of messages that come.
+CLASSES = {0: "requests (of fetches)", 2: "2.xx", 4: "4.xx", 5: "5.xx"}
+
+
+def kept_registrations() -> list[bytes]:
+    """The registrations of the driver's devices. Every other one names its base."""
+    made = []
+    for number in range(1, KEPT + 1):
+        base = [f"base=coap://d{number}.example"] if number % 2 else []
+        parts = query(f"ep={STEADY}{number}", "lt=90000", *base, f"fleet={STEADY}")
+        links = f'</t>;rt="temperature";ct=0,</{number}/l>;rt="light k{number % 7}";if="sensor"'
+        made.append(octets(CON, POST, number, b"\x01", REGISTER + [LINK_FORMAT] + parts,
+                           links.encode()))
+    return made
+
+
+def compared_lookups() -> list[bytes]:
+    """The lookups that are compared. All list the driver's own registrations alone."""
+    resources, endpoints = LOOKUPS
+    fleet = query(f"fleet={STEADY}")
+    asked = [
+        resources + query(f"ep={STEADY}17"), endpoints + query(f"ep={STEADY}17"),
+        resources + query("rt=k3", f"fleet={STEADY}", "count=9", "page=1"),
+        resources + query("rt=light", f"fleet={STEADY}", "href=coap://d1.example/1/*"),
+        endpoints + query("href=/rd/300"), endpoints + query("base=coap://d299.example"),
+        resources + query(f"ep={STEADY}2*", "rt=temp*", "page=2", "count=10"),
+        resources + query("rt=none", f"fleet={STEADY}"),
+        datagrams.DISCOVERY + query("rt=core.rd*"),
+        resources + query(f"fleet={STEADY}", "page=1"),
+    ]
+    for place in LOOKUPS:
+        asked += [place + fleet + [(BLOCK2, block(number, False, 6))]
+                  for number in range(LONG_BLOCKS)]
+    return [octets(CON, GET, mid, mid.to_bytes(2, "big"), options)
+            for mid, options in enumerate(asked)]
+
+
+def comparable(answer: bytes) -> tuple:
+    """An answer without its entity tag."""
+    came = wire.read(answer)
+    options = tuple(option for option in came.options if option[0] != ETAG)
+    return came.kind, came.code, came.mid, came.token, options, came.payload
+
+
+def replayed(program: str, registering: int, asking: int, lookups: list[bytes]) -> list[bytes]:
+    """What rd_replay answers to the lookups behind the registrations, from these ports."""
+    lines = []
+    for port, asked in [(registering, kept_registrations()), (asking, lookups)]:
+        for datagram in asked:
+            lines += [f"in 0 1 {wire.HOST}:{port} {datagram.hex()}", "go 0 1"]
+    done = subprocess.run([program], input="\n".join(lines), text=True, timeout=REPLAY_LIMIT,
+                          stdout=subprocess.PIPE, check=True)
+    out = [bytes.fromhex(line.split()[3]) for line in done.stdout.splitlines()
+           if line.startswith("out ")]
+    if len(out) != KEPT + len(lookups):
+        raise Wrong(f"rd_replay gives {len(out)} answers")
+    return out[KEPT:]
+
+
+def ask(asking: socket.socket, request: bytes) -> bytes:
+    """The answer to a request, which is asked again where the server found no memory."""
+    for _ in range(STARVED_TRIES):
+        came = ask_once(asking, request)
+        if came[1:2] != STARVED:
+            break
+    return came
+
+
+def ask_once(asking: socket.socket, request: bytes) -> bytes:
+    """The answer to a request that is sent again where none comes."""
+    for _ in range(3):
+        asking.send(request)
+        until = time.monotonic() + wire.ANSWER_LIMIT
+        while time.monotonic() < until:
+            try:
+                came = asking.recv(datagrams.MOST_SENT)
+            except OSError:
+                break
+            if came[2:4] == request[2:4]:
+                return came
+    return b""
+
+
+class Strangers:
+    """The ports from which hostile datagrams go, and what came to them."""
+
+    def __init__(self, port: int, count: int):
+        self.sockets = [wire.open_socket(port) for _ in range(count)]
+        self.selector = selectors.DefaultSelector()
+        self.classes: Counter[str] = Counter()
+        self.answers: Counter[str] = Counter()
+        self.wrong: list[bytes] = []
+        for each in self.sockets:
+            each.setblocking(False)
+            self.selector.register(each, selectors.EVENT_READ)
+
+    def send(self, datagram: datagrams.Datagram):
+        """Sends one."""
+        try:
+            self.sockets[datagram.port].send(datagram.octets)
+        except OSError:
+            self.classes["not sent"] += 1
+
+    def take(self):
+        """Counts all that came."""
+        while ready := self.selector.select(0):
+            for key, _ in ready:
+                self.count(key.fileobj)
+
+    def count(self, socket_: socket.socket):
+        """Counts what came to one port."""
+        try:
+            came = socket_.recv(datagrams.MOST_SENT)
+            answer = wire.read(came)
+        except ValueError:
+            self.wrong.append(came)
+            return
+        except OSError:
+            return
+        if len(came) > wire.MOST_WRITTEN:
+            self.wrong.append(came)
+        if answer.code == EMPTY:
+            name = {ACK: "ACK", RST: "RST"}.get(answer.kind, "empty")
+        else:
+            name = CLASSES.get(answer.code >> 5, "other")
+            is_notice = answer.kind == CON and answer.code >> 5 == 2
+            name = "notices" if is_notice else name
+            if answer.code >> 5 in (2, 4, 5) and not is_notice:
+                self.answers[answer.refusal()] += 1
+        self.classes[name] += 1
+
+    def close(self):
+        """Closes all ports."""
+        for each in self.sockets:
+            each.close()
+
+
+class Run:
+    """The server, what is compared, and how it came out."""
+
+    def __init__(self, server: Server, replay: str, seed: int):
+        self.server, self.maker = server, datagrams.Maker(seed)
+        self.strangers = Strangers(server.port, datagrams.PORTS)
+        self.asking = wire.open_socket(server.port)
+        self.compared = self.differ = 0
+        self.until = time.monotonic() + RUN_LIMIT
+        self.lookups = compared_lookups()
+        registering = self.register()
+        self.wanted = replayed(replay, registering, self.asking.getsockname()[1], self.lookups)
+
+    def register(self) -> int:
+        """Registers the driver's devices; the port from which they come."""
+        with wire.open_socket(self.server.port) as registering:
+            for registration in kept_registrations():
+                if ask(registering, registration)[1:2] != b"\x41":
+                    raise Wrong("a device was not registered")
+            return registering.getsockname()[1]
+
+    def compare(self):
+        """Asks all lookups, and compares what comes with what is wanted."""
+        for lookup, wanted in zip(self.lookups, self.wanted):
+            came = ask(self.asking, lookup)
+            self.compared += 1
+            if not came or comparable(came) != comparable(wanted):
+                self.differ += 1
+                print(f"differs: {lookup.hex()}\n  wanted {wanted.hex()}\n  came   {came.hex()}")
+
+    def check_unreadable(self):
+        """Sends some of each kind that cannot be read: a RST comes to a CON, else nothing."""
+        with wire.open_socket(self.server.port) as asking:
+            asking.settimeout(wire.ANSWER_LIMIT)
+            for kind in datagrams.UNREADABLE:
+                sent = self.maker.one(kind).octets
+                asking.send(sent)
+                asking.send(wire.PING)
+                wanted = {bytes([0x70, 0]) + sent[2:4]} if sent[0] >> 4 == 4 else set()
+                came = {asking.recv(99) for _ in range(len(wanted) + 1)}
+                self.compared += 1
+                if came != wanted | {wire.PONG}:
+                    self.differ += 1
+                    print(f"differs: {sent.hex()} gets {came}")
+
+    def thousand(self):
+        """Sends a thousand hostile datagrams."""
+        for place, datagram in enumerate(self.maker.stream(BETWEEN), 1):
+            self.strangers.send(datagram)
+            if place % BURST == 0:
+                self.settle()
+
+    def settle(self):
+        """Waits until the server has taken off what was sent, and counts what came."""
+        if not any(self.server.is_answering() for _ in range(3)):
+            raise Wrong("the server does not answer a ping")
+        self.strangers.take()
+        if time.monotonic() > self.until:
+            raise Wrong(f"it takes more than {RUN_LIMIT} seconds")
+
+    def rounds(self):
+        """Sends all, and compares after each thousand."""
+        self.compare()
+        for number in range(1, ROUNDS * IN_ROUND // BETWEEN + 1):
+            self.thousand()
+            self.compare()
+            self.check_unreadable()
+            print(f"{number * BETWEEN:>6} sent, {self.compared} compared, {self.differ} differ, "
+                  f"{self.server.kibibytes('VmRSS') / 1024:.1f} MiB", flush=True)
+
+    def tell(self) -> bool:
+        """Tells how all came out, and whether it is as wanted."""
+        most = self.server.kibibytes("VmHWM")
+        print(f"{self.compared} compared, {self.differ} differ")
+        print(f"highest memory {most / 1024:.1f} MiB, to stay below {MOST_KIBIBYTES >> 10}")
+        print(f"dropped before the server {self.server.dropped()}")
+        print("came: " + ", ".join(f"{count} {name}" for name, count in
+                                   sorted(self.strangers.classes.items())))
+        for name, count in self.strangers.answers.most_common():
+            print(f"    {count:>6} {name}")
+        for came in self.strangers.wrong:
+            print(f"unreadable or too long: {came.hex()}")
+        return not self.differ and not self.strangers.wrong and most < MOST_KIBIBYTES
+
+
+def ends_by_turns(program: str, seed: int) -> bool:
+    """Whether a server of some turns ends by itself, with its line, under hostile datagrams."""
+    with Server(program, WORKERS, "--turns", str(TURNS)) as server:
+        strangers = Strangers(server.port, datagrams.PORTS)
+        for place, datagram in enumerate(datagrams.Maker(seed).stream(MOST_TURNS_SENT), 1):
+            strangers.send(datagram)
+            if place % BURST == 0:
+                time.sleep(0.002)
+                strangers.take()
+            if not server.is_alive():
+                break
+        strangers.close()
+        status, said = server.wait()
+    print(f"a server of {TURNS} turns for each worker: status {status}, {said}")
+    return status == 0 and SERVED.fullmatch(said) is not None
+
+
+def environment(starve: int, folder: str) -> dict | None:
+    """What the server runs under, where its allocations are refused."""
+    if not starve:
+        return None
+    return os.environ | {"LD_PRELOAD": str(memory.build(folder)), "FAIL_EVERY": str(starve)}
+
+
+def main():
+    parser = argparse.ArgumentParser(description="Hostile datagrams against the server.")
+    parser.add_argument("--seed", type=int, default=1)
+    parser.add_argument("--starve", type=int, default=0, help="each N-th allocation is refused")
+    parser.add_argument("--bin", type=Path, default=Path("bin"), help="where the programs are")
+    words = parser.parse_args()
+    signal.signal(signal.SIGTERM, lambda *_: sys.exit(1))
+    serve, replay = (str((words.bin / name).resolve()) for name in ("rd_serve", "rd_replay"))
+    print(f"seed {words.seed}, {WORKERS} workers, {KEPT} devices, {datagrams.PORTS} ports")
+    try:
+        with tempfile.TemporaryDirectory() as folder, \
+                Server(serve, WORKERS, env=environment(words.starve, folder)) as server:
+            run = Run(server, replay, words.seed)
+            run.rounds()
+            is_right = run.tell() and server.is_alive()
+            status, said = server.end()
+            print(f"ended by a signal: status {status} {said}".rstrip())
+            is_right = is_right and status == -signal.SIGTERM
+        is_right = ends_by_turns(serve, words.seed) and is_right
+    except (Wrong, OSError, subprocess.SubprocessError) as wrong:
+        sys.exit(f"FAILED: {wrong}")
+    sys.exit(not is_right)
+
+
+if __name__ == "__main__":
+    main()
