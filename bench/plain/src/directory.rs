@@ -1,12 +1,11 @@
 //! The registrations (RFC 9176 sections 5 and 6).
 
-use crate::index::{place_of, put_sorted, take_sorted, Index};
+use crate::index::{Index, Records};
 use crate::kept::Tag;
 use crate::query::Query;
 use crate::record::{Draft, Record};
 use crate::tables::Table;
 use crate::Unhandled;
-use std::borrow::Cow;
 use std::collections::BTreeSet;
 use std::rc::Rc;
 
@@ -19,8 +18,8 @@ const MOST_TEXT: u64 = 1_048_576;
 /// The registrations, and by what they are found.
 #[derive(Default)]
 pub struct Directory {
-    /// All, in ascending number.
-    records: Vec<Rc<Record>>,
+    /// By their numbers.
+    records: Records,
     /// By the name of the endpoint.
     names: Table<Box<[u8]>, Rc<Record>>,
     /// When each lapses, with its number.
@@ -69,7 +68,7 @@ impl Directory {
         self.leases.insert((record.lapse, record.number));
         self.names.insert(record.endpoint().into(), record.clone());
         self.index.put(record);
-        put_sorted(&mut self.records, record);
+        self.records.insert(record.number, record.clone());
     }
 
     /// Takes a registration out of all tables.
@@ -78,7 +77,7 @@ impl Directory {
         self.leases.remove(&(record.lapse, record.number));
         self.names.remove(record.endpoint());
         self.index.take(record);
-        take_sorted(&mut self.records, record.number);
+        self.records.remove(&record.number);
     }
 
     /// Takes out the next registration that has lapsed at a moment.
@@ -87,8 +86,7 @@ impl Directory {
         if lapse > now {
             return None;
         }
-        let place = place_of(&self.records, number).ok()?;
-        let record = self.records[place].clone();
+        let record = self.records.get(&number)?.clone();
         self.take(&record);
         self.lapsed += 1;
         Some(record)
@@ -115,24 +113,16 @@ impl Directory {
         Ok(Registered { old, new })
     }
 
-    /// The registrations that can give a line to a query, in ascending number.
-    fn candidates(&self, query: &Query) -> Cow<'_, [Rc<Record>]> {
-        let criteria = query.criteria().iter();
-        criteria
-            .map(|criterion| self.index.carriers(criterion))
-            .min_by_key(|carriers| carriers.len())
-            .unwrap_or(Cow::Borrowed(&self.records))
-    }
-
-    /// Appends the listing of a query.
-    pub fn list(&self, query: &Query, body: &mut Vec<u8>) {
-        for record in self.candidates(query).iter() {
+    /// Appends the lines of a query, each with a comma before it.
+    pub fn list(&self, query: &Query, text: &mut Vec<u8>) {
+        let put = |record: &Record| {
             for line in record.lines(query) {
-                if !body.is_empty() {
-                    body.push(b',');
-                }
-                body.extend_from_slice(line);
+                text.extend_from_slice(line);
             }
+        };
+        match query.criteria().iter().min_by_key(|criterion| self.index.count(criterion)) {
+            Some(criterion) => self.index.each(criterion, put),
+            None => self.records.values().map(Rc::as_ref).for_each(put),
         }
     }
 }

@@ -2,47 +2,28 @@
 
 use crate::query::Criterion;
 use crate::record::Record;
-use std::borrow::Cow;
+use std::collections::btree_map::Entry;
 use std::collections::BTreeMap;
 use std::ops::Bound;
 use std::rc::Rc;
-use std::slice;
 
-/// Puts a registration among others in ascending number.
-pub fn put_sorted(records: &mut Vec<Rc<Record>>, record: &Rc<Record>) {
-    if records.last().is_none_or(|last| last.number < record.number) {
-        records.push(record.clone());
-    } else if let Err(place) = place_of(records, record.number) {
-        records.insert(place, record.clone());
-    }
-}
+/// Registrations by their numbers.
+pub type Records = BTreeMap<u64, Rc<Record>>;
 
-/// Takes the registration of a number from among others.
-pub fn take_sorted(records: &mut Vec<Rc<Record>>, number: u64) {
-    if let Ok(place) = place_of(records, number) {
-        records.remove(place);
-    }
-}
-
-/// The place of a number among registrations, or the one where it would stand.
-pub fn place_of(records: &[Rc<Record>], number: u64) -> Result<usize, usize> {
-    records.binary_search_by_key(&number, |record| record.number)
-}
-
-/// The registrations that carry a value, in ascending number.
+/// The registrations that carry a value.
 enum Carriers {
     /// One alone.
     One(Rc<Record>),
     /// Some.
-    Many(Vec<Rc<Record>>),
+    Many(Records),
 }
 
 impl Carriers {
-    /// All of them.
-    fn all(&self) -> &[Rc<Record>] {
+    /// How many there are.
+    fn len(&self) -> usize {
         match self {
-            Carriers::One(record) => slice::from_ref(record),
-            Carriers::Many(records) => records,
+            Carriers::One(_) => 1,
+            Carriers::Many(records) => records.len(),
         }
     }
 
@@ -50,11 +31,12 @@ impl Carriers {
     fn put(&mut self, record: &Rc<Record>) {
         match self {
             Carriers::One(one) => {
-                let mut records = vec![one.clone()];
-                put_sorted(&mut records, record);
-                *self = Carriers::Many(records);
+                let both = [one.clone(), record.clone()].map(|record| (record.number, record));
+                *self = Carriers::Many(Records::from(both));
             }
-            Carriers::Many(records) => put_sorted(records, record),
+            Carriers::Many(records) => {
+                records.insert(record.number, record.clone());
+            }
         }
     }
 
@@ -63,9 +45,17 @@ impl Carriers {
         match self {
             Carriers::One(one) => one.number == number,
             Carriers::Many(records) => {
-                take_sorted(records, number);
+                records.remove(&number);
                 records.is_empty()
             }
+        }
+    }
+
+    /// Gives each, in ascending number.
+    fn each<'a>(&'a self, mut give: impl FnMut(&'a Rc<Record>)) {
+        match self {
+            Carriers::One(record) => give(record),
+            Carriers::Many(records) => records.values().for_each(give),
         }
     }
 }
@@ -80,13 +70,26 @@ pub struct Index {
 }
 
 impl Index {
+    /// The values of a name, which is known from now on.
+    fn values(&mut self, name: &[u8]) -> &mut Values {
+        if !self.names.contains_key(name) {
+            self.names.insert(name.into(), Values::new());
+        }
+        self.names.get_mut(name).expect("it is there now")
+    }
+
     /// Puts a registration among the carriers of its values.
     pub fn put(&mut self, record: &Rc<Record>) {
-        for (name, value) in record.carried() {
-            let values = match self.names.get_mut(name) {
-                Some(values) => values,
-                None => self.names.entry(name.into()).or_default(),
-            };
+        for (name, value) in record.names() {
+            match self.values(name).entry(value.into()) {
+                Entry::Occupied(mut carriers) => carriers.get_mut().put(record),
+                Entry::Vacant(place) => {
+                    place.insert(Carriers::One(record.clone()));
+                }
+            }
+        }
+        for (name, value) in record.attributes() {
+            let values = self.values(name);
             match values.get_mut(value) {
                 Some(carriers) => carriers.put(record),
                 None => {
@@ -98,7 +101,7 @@ impl Index {
 
     /// Takes a registration from the carriers of its values.
     pub fn take(&mut self, record: &Record) {
-        for (name, value) in record.carried() {
+        for (name, value) in record.names().into_iter().chain(record.attributes()) {
             let Some(values) = self.names.get_mut(name) else {
                 continue;
             };
@@ -111,23 +114,40 @@ impl Index {
         }
     }
 
-    /// The registrations that carry a value which meets a criterion, in ascending number.
-    pub fn carriers(&self, criterion: &Criterion) -> Cow<'_, [Rc<Record>]> {
-        let Some(values) = self.names.get(criterion.name()) else {
-            return Cow::Borrowed(&[]);
-        };
+    /// The carriers of the values that meet a criterion.
+    fn carriers<'a>(&'a self, criterion: &'a Criterion) -> impl Iterator<Item = &'a Carriers> {
         let text = criterion.text();
-        if !criterion.is_front() {
-            return Cow::Borrowed(values.get(text).map_or(&[], Carriers::all));
+        let values = self.names.get(criterion.name());
+        let from = values.map(|values| {
+            values.range::<[u8], _>((Bound::Included(text), Bound::Unbounded))
+        });
+        from.into_iter()
+            .flatten()
+            .take_while(|(value, _)| criterion.matches(value))
+            .map(|(_, carriers)| carriers)
+    }
+
+    /// How many registrations carry a value that meets a criterion, those with several counted
+    /// once for each.
+    pub fn count(&self, criterion: &Criterion) -> usize {
+        self.carriers(criterion).map(Carriers::len).sum()
+    }
+
+    /// Gives each registration that carries a value which meets a criterion, in ascending number.
+    pub fn each(&self, criterion: &Criterion, mut give: impl FnMut(&Record)) {
+        let mut carriers = self.carriers(criterion);
+        match (carriers.next(), criterion.is_front()) {
+            (None, _) => {}
+            (Some(only), false) => only.each(|record| give(record)),
+            (Some(first), true) => {
+                let mut all = BTreeMap::new();
+                for carriers in std::iter::once(first).chain(carriers) {
+                    carriers.each(|record| {
+                        all.insert(record.number, record);
+                    });
+                }
+                all.values().for_each(|record| give(record));
+            }
         }
-        let mut records: Vec<_> = values
-            .range::<[u8], _>((Bound::Included(text), Bound::Unbounded))
-            .take_while(|(value, _)| value.starts_with(text))
-            .flat_map(|(_, carriers)| carriers.all())
-            .cloned()
-            .collect();
-        records.sort_unstable_by_key(|record| record.number);
-        records.dedup_by_key(|record| record.number);
-        Cow::Owned(records)
     }
 }

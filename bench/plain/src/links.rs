@@ -2,6 +2,7 @@
 
 use crate::characters::{split_class, NAME, PATH, QUOTED, TOKEN};
 use crate::record::{Link, Room, Span, Value};
+use crate::tables::print_of;
 use crate::Unhandled;
 use std::str;
 
@@ -37,9 +38,8 @@ fn put_link<'a>(room: &mut Room, base: Span, text: &'a [u8]) -> Result<&'a [u8],
     };
     check_path(target)?;
     let first = room.values.len();
-    room.text.push(b',');
     let start = room.text.len();
-    room.text.push(b'<');
+    room.text.extend_from_slice(b",<");
     room.text.extend_from_within(..base.len());
     room.text.extend_from_slice(target);
     room.text.push(b'>');
@@ -76,10 +76,11 @@ fn put_parameter<'a>(room: &mut Room, text: &'a [u8]) -> Result<&'a [u8], Unhand
     room.text.extend_from_slice(&text[..text.len() - rest.len()]);
     let name_span = Span::of(name_at, name_at + name.len());
     if matches!(name, b"rel" | b"rev" | b"rt" | b"if") {
-        put_list(room, name_span, value_at, value);
+        put_list(room, name, name_span, value_at, value);
     } else {
+        let print = print_of(name, value);
         let value = Span::of(value_at, value_at + value.len());
-        room.values.push(Value { name: name_span, value });
+        room.values.push(Value { name: name_span, value, print });
     }
     Ok(rest)
 }
@@ -106,12 +107,13 @@ fn value_in(text: &[u8]) -> Result<(usize, &[u8], &[u8]), Unhandled> {
 }
 
 /// Puts the values of a list, which stands at a place of the text.
-fn put_list(room: &mut Room, name: Span, start: usize, list: &[u8]) {
+fn put_list(room: &mut Room, name: &[u8], name_span: Span, start: usize, list: &[u8]) {
     let mut at = start;
     for part in list.split(|octet| *octet == b' ') {
         let end = at + part.len();
         if !part.is_empty() {
-            room.values.push(Value { name, value: Span::of(at, end) });
+            let (value, print) = (Span::of(at, end), print_of(name, part));
+            room.values.push(Value { name: name_span, value, print });
         }
         at = end + 1;
     }

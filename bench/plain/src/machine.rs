@@ -9,7 +9,7 @@ use crate::peer::Peer;
 use crate::query::{query_of, Query};
 use crate::record::{Draft, Room};
 use crate::request::{request, Block, Lookup, Registration, Request};
-use crate::trace::Line;
+use crate::trace::{Digits, Line};
 use crate::watching::{Due, Flight, Given, Joining, Watching};
 use crate::Unhandled;
 use std::fmt;
@@ -58,7 +58,7 @@ pub struct Machine {
     /// Room in which drafts are made.
     room: Room,
     /// Room in which listings are formed.
-    body: Vec<u8>,
+    room_for_lines: Vec<u8>,
 }
 
 /// The line that ends an output.
@@ -83,6 +83,16 @@ fn part_of(body: &[u8], asked: Block) -> Result<(&[u8], bool), Unhandled> {
     let rest = &body[start..];
     let length = rest.len().min(asked.size());
     Ok((&rest[..length], length < rest.len()))
+}
+
+/// The listing of a query now.
+fn listing(directory: &Directory, query: &Query, room: &mut Vec<u8>) -> Rc<[u8]> {
+    room.clear();
+    directory.list(query, room);
+    match room.as_slice() {
+        [_comma, lines @ ..] => lines.into(),
+        [] => Rc::new([]),
+    }
 }
 
 /// Ends an answer or a notice with a block of a listing (RFC 7959 section 2.4).
@@ -188,23 +198,16 @@ impl Machine {
         self.pass(moment);
         let Registered { old, new } = self.directory.register(self.moment, draft)?;
         self.watching.touch(old.as_deref(), Some(&new));
-        let mut digits = Vec::with_capacity(20);
-        crate::trace::put_decimal(&mut digits, new.number);
+        let digits = Digits::of(new.number);
         let reply = self.sent.push(peer, |octets| {
             Writer::start(octets, Kind::Ack, codes::CREATED, mid, token.octets())
                 .option(options::LOCATION_PATH, b"rd")
-                .option(options::LOCATION_PATH, &digits);
+                .option(options::LOCATION_PATH, digits.octets());
         });
         self.exchanges.settle(sequence, reply);
         Ok(())
     }
 
-    /// The listing of a query now.
-    fn listing(&mut self, query: &Query) -> Rc<[u8]> {
-        self.body.clear();
-        self.directory.list(query, &mut self.body);
-        self.body.as_slice().into()
-    }
 
     /// A lookup comes that observes, or asks for a further block.
     fn look(
@@ -224,7 +227,7 @@ impl Machine {
                 return self.answer(peer, message, asked, Given { tag, observe: None }, &body);
             }
         }
-        let body = self.listing(&query);
+        let body = listing(&self.directory, &query, &mut self.room_for_lines);
         let tag = self.directory.tag();
         let block = asked.block.unwrap_or(Block::FIRST);
         if is_later || body.len() > block.size() {
@@ -312,12 +315,10 @@ impl Machine {
 
     /// The listing of the query at a place, which is formed once for all who observe it.
     fn watched_listing(&mut self, place: usize) -> Option<Rc<[u8]>> {
-        let Machine { directory, watching, body, .. } = self;
-        let watch = watching.watch(place)?;
+        let watch = self.watching.watch(place)?;
         if watch.body.is_none() {
-            body.clear();
-            directory.list(&watch.query, body);
-            watch.body = Some(body.as_slice().into());
+            let body = listing(&self.directory, &watch.query, &mut self.room_for_lines);
+            watch.body = Some(body);
         }
         watch.body.clone()
     }

@@ -3,6 +3,7 @@
 use crate::message::codes;
 use crate::record::ENDPOINT_TYPE;
 use crate::request::Lookup;
+use crate::tables::print_of;
 use crate::Unhandled;
 use std::rc::Rc;
 
@@ -29,6 +30,7 @@ pub struct Criterion {
     text: Box<[u8]>,
     is_front: bool,
     own: Own,
+    print: u32,
 }
 
 /// Whether a value is a text, or begins with it.
@@ -53,7 +55,9 @@ impl Criterion {
             "rt" if fits(ENDPOINT_TYPE, text, is_front) => Own::All,
             _ => Own::None,
         };
-        Criterion { name: name.as_bytes().into(), text: text.into(), is_front, own }
+        let name = name.as_bytes();
+        let print = print_of(name, text);
+        Criterion { name: name.into(), text: text.into(), is_front, own, print }
     }
 
     /// The name of the attribute.
@@ -74,6 +78,11 @@ impl Criterion {
     /// Which of its own attributes an endpoint has under the name.
     pub fn own(&self) -> Own {
         self.own
+    }
+
+    /// Whether a value under a name may match, by the print of both.
+    pub fn may_match(&self, print: u32) -> bool {
+        self.is_front || self.print == print
     }
 
     /// Whether a value matches.

@@ -5,6 +5,7 @@ use crate::peer::Peer;
 use crate::query::{Criterion, Own, Query};
 use crate::request::Registration;
 use crate::Unhandled;
+use std::iter;
 use std::ops::Range;
 
 /// The resource type of endpoints (RFC 9176 section 6.4).
@@ -41,12 +42,14 @@ pub struct Value {
     pub name: Span,
     /// The value.
     pub value: Span,
+    /// The print of both.
+    pub print: u32,
 }
 
 /// A link.
 #[derive(Clone, Copy, Debug)]
 pub struct Link {
-    /// Its line in listings.
+    /// Its line in listings, with a comma before it.
     pub line: Span,
     /// Its values, among those of the record.
     pub values: Span,
@@ -130,7 +133,7 @@ impl Draft {
             + quoted_length(self.at(self.base))
             + quoted_length(self.endpoint())
             + ENDPOINT_TYPE.len();
-        let links: usize = self.links.iter().map(|link| link.line.len() + 1).sum();
+        let links: usize = self.links.iter().map(|link| link.line.len()).sum();
         (endpoint + links) as u64
     }
 }
@@ -170,19 +173,24 @@ impl Record {
         self.draft.at(self.draft.base)
     }
 
-    /// The names and values that it carries, those of its links among them.
-    pub fn carried(&self) -> impl Iterator<Item = (&[u8], &[u8])> {
-        let own: [(&[u8], &[u8]); 3] =
-            [(b"base", self.base()), (b"ep", self.endpoint()), (b"rt", ENDPOINT_TYPE)];
+    /// The names and values that tell it from others.
+    pub fn names(&self) -> [(&[u8], &[u8]); 2] {
+        [(b"base", self.base()), (b"ep", self.endpoint())]
+    }
+
+    /// The names and values that others have too: its type, and those of its links.
+    pub fn attributes(&self) -> impl Iterator<Item = (&[u8], &[u8])> {
+        let own: (&[u8], &[u8]) = (b"rt", ENDPOINT_TYPE);
         let draft = &self.draft;
         let of_links = draft.values.iter().map(|pair| (draft.at(pair.name), draft.at(pair.value)));
-        own.into_iter().chain(of_links)
+        iter::once(own).chain(of_links)
     }
 
     /// Whether a link by itself meets a criterion (RFC 6690 section 4.1).
     fn link_meets(&self, link: &Link, criterion: &Criterion) -> bool {
         self.draft.values[link.values.range()].iter().any(|pair| {
-            criterion.matches(self.draft.at(pair.value))
+            criterion.may_match(pair.print)
+                && criterion.matches(self.draft.at(pair.value))
                 && self.draft.at(pair.name) == criterion.name()
         })
     }
@@ -197,7 +205,7 @@ impl Record {
         }
     }
 
-    /// The lines of its links that a query lists.
+    /// The lines of its links that a query lists, each with a comma before it.
     pub fn lines<'a>(&'a self, query: &'a Query) -> impl Iterator<Item = &'a [u8]> {
         let is_listed = |link: &&Link| {
             query.criteria().iter().all(|criterion| {

@@ -35,5 +35,14 @@ impl Hasher for QuickHasher {
     }
 }
 
+/// A number that tells most pairs of texts apart.
+pub fn print_of(first: &[u8], second: &[u8]) -> u32 {
+    let mut hasher = QuickHasher::default();
+    hasher.write(first);
+    hasher.write_usize(first.len());
+    hasher.write(second);
+    hasher.finish() as u32
+}
+
 /// A hash table.
 pub type Table<K, V> = HashMap<K, V, BuildHasherDefault<QuickHasher>>;

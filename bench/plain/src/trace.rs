@@ -27,20 +27,39 @@ const fn worths() -> [u8; 256] {
     worths
 }
 
+/// A number in decimal digits.
+pub struct Digits {
+    /// The digits, behind zeros.
+    octets: [u8; 20],
+    /// Where they begin.
+    start: usize,
+}
+
+impl Digits {
+    /// The digits of a number.
+    pub fn of(number: u64) -> Digits {
+        let mut digits = Digits { octets: [0; 20], start: 20 };
+        let mut rest = number;
+        for place in digits.octets.iter_mut().rev() {
+            *place = b'0' + (rest % 10) as u8;
+            digits.start -= 1;
+            rest /= 10;
+            if rest == 0 {
+                break;
+            }
+        }
+        digits
+    }
+
+    /// The digits.
+    pub fn octets(&self) -> &[u8] {
+        &self.octets[self.start..]
+    }
+}
+
 /// Appends a number in decimal digits.
 pub fn put_decimal(text: &mut Vec<u8>, number: u64) {
-    let mut digits = [0; 20];
-    let mut start = digits.len();
-    let mut rest = number;
-    loop {
-        start -= 1;
-        digits[start] = b'0' + (rest % 10) as u8;
-        rest /= 10;
-        if rest == 0 {
-            break;
-        }
-    }
-    text.extend_from_slice(&digits[start..]);
+    text.extend_from_slice(Digits::of(number).octets());
 }
 
 /// Appends octets in hexadecimal digits.
