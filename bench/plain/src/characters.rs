@@ -35,7 +35,10 @@ const fn classes_of(octet: u8) -> u8 {
     let is_word = octet.is_ascii_alphanumeric();
     let is_quoted = !octet.is_ascii_control() && octet != b'"' && octet != b'\\';
     class_if(is_word || is_among(octet, b"!#$&+-.^_`|~"), NAME)
-        | class_if(is_word || is_among(octet, b"!#$%&'()*+-./:<=>?@[]^_`{|}~"), TOKEN)
+        | class_if(
+            is_word || is_among(octet, b"!#$%&'()*+-./:<=>?@[]^_`{|}~"),
+            TOKEN,
+        )
         | class_if(is_quoted, QUOTED)
         | class_if(is_word || is_among(octet, b"-._~!$&'()*+,;=:@/"), PATH)
 }
@@ -52,6 +55,8 @@ const fn classes() -> [u8; 256] {
 
 /// Cuts a text behind the octets of a class at its beginning.
 pub fn split_class(class: u8, text: &[u8]) -> (&[u8], &[u8]) {
-    let length = text.iter().position(|octet| CLASSES[usize::from(*octet)] & class == 0);
+    let length = text
+        .iter()
+        .position(|octet| CLASSES[usize::from(*octet)] & class == 0);
     text.split_at(length.unwrap_or(text.len()))
 }

@@ -120,7 +120,11 @@ impl Directory {
                 text.extend_from_slice(line);
             }
         };
-        match query.criteria().iter().min_by_key(|criterion| self.index.count(criterion)) {
+        match query
+            .criteria()
+            .iter()
+            .min_by_key(|criterion| self.index.count(criterion))
+        {
             Some(criterion) => self.index.each(criterion, put),
             None => self.records.values().map(Rc::as_ref).for_each(put),
         }

@@ -72,14 +72,23 @@ impl Exchanges {
         if let Some(&sequence) = self.latest.get(&key) {
             let Reply { length, octets } = &self.at(sequence).reply;
             let is_done = *length > 0;
-            return Ok(Admitted::Before(is_done.then(|| &octets[..usize::from(*length)])));
+            return Ok(Admitted::Before(
+                is_done.then(|| &octets[..usize::from(*length)]),
+            ));
         }
         if self.rows.len() == MOST {
             return Err(Unhandled("exchanges"));
         }
         let sequence = self.first + self.rows.len() as u64;
-        let reply = Reply { length: 0, octets: [0; 64] };
-        self.rows.push_back(Exchange { key, admitted: now, reply });
+        let reply = Reply {
+            length: 0,
+            octets: [0; 64],
+        };
+        self.rows.push_back(Exchange {
+            key,
+            admitted: now,
+            reply,
+        });
         self.latest.insert(key, sequence);
         Ok(Admitted::New(sequence))
     }

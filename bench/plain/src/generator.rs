@@ -8,7 +8,10 @@ use crate::trace::{put_decimal, put_hexadecimal};
 const PACE: u64 = 200;
 
 /// Where the observers are.
-const ONLOOKER: Peer = Peer { host: [10, 1, 0, 1], port: 40_000 };
+const ONLOOKER: Peer = Peer {
+    host: [10, 1, 0, 1],
+    port: 40_000,
+};
 
 /// A trace that is being made.
 #[derive(Default)]
@@ -29,7 +32,10 @@ fn lifetime(device: u16) -> u64 {
 /// Where a device is.
 fn place(device: u16) -> Peer {
     let [high, low] = device.to_be_bytes();
-    Peer { host: [10, 0, high, low], port: 5_683 }
+    Peer {
+        host: [10, 0, high, low],
+        port: 5_683,
+    }
 }
 
 impl Maker {
@@ -70,8 +76,18 @@ impl Maker {
         let token = [device as u8];
         Writer::start(&mut self.datagram, Kind::Con, codes::POST, device, &token)
             .option(options::URI_PATH, b"rd");
-        self.put_numbered(options::URI_PATH, options::URI_QUERY, b"ep=dev", device.into());
-        self.put_numbered(options::URI_QUERY, options::URI_QUERY, b"lt=", lifetime(device));
+        self.put_numbered(
+            options::URI_PATH,
+            options::URI_QUERY,
+            b"ep=dev",
+            device.into(),
+        );
+        self.put_numbered(
+            options::URI_QUERY,
+            options::URI_QUERY,
+            b"lt=",
+            lifetime(device),
+        );
         self.datagram.extend_from_slice(b"\xff</t>;rt=\"temp\",</s");
         put_decimal(&mut self.datagram, u64::from(device % 10));
         self.datagram.extend_from_slice(b">;rt=\"kind");
@@ -84,10 +100,16 @@ impl Maker {
     fn observation(&mut self, device: u16) {
         self.datagram.clear();
         let token = device.to_be_bytes();
-        Writer::start(&mut self.datagram, Kind::Con, codes::GET, 20_000 + device, &token)
-            .option(options::OBSERVE, b"")
-            .option(options::URI_PATH, b"rd-lookup")
-            .option(options::URI_PATH, b"res");
+        Writer::start(
+            &mut self.datagram,
+            Kind::Con,
+            codes::GET,
+            20_000 + device,
+            &token,
+        )
+        .option(options::OBSERVE, b"")
+        .option(options::URI_PATH, b"rd-lookup")
+        .option(options::URI_PATH, b"res");
         let kind = u64::from(device % 7);
         self.put_numbered(options::URI_PATH, options::URI_QUERY, b"rt=kind", kind);
         self.come(PACE * u64::from(device) + 2, ONLOOKER);

@@ -70,32 +70,33 @@ pub struct Index {
 }
 
 impl Index {
-    /// The values of a name, which is known from now on.
-    fn values(&mut self, name: &[u8]) -> &mut Values {
-        if !self.names.contains_key(name) {
-            self.names.insert(name.into(), Values::new());
+    /// Puts a registration among the carriers of a value. One that others rarely have is sought
+    /// once, and most others are there.
+    fn put_value(&mut self, name: &[u8], value: &[u8], record: &Rc<Record>, is_rare: bool) {
+        let values = match self.names.get_mut(name) {
+            Some(values) => values,
+            None => self.names.entry(name.into()).or_default(),
+        };
+        if !is_rare {
+            if let Some(carriers) = values.get_mut(value) {
+                return carriers.put(record);
+            }
         }
-        self.names.get_mut(name).expect("it is there now")
+        match values.entry(value.into()) {
+            Entry::Occupied(mut carriers) => carriers.get_mut().put(record),
+            Entry::Vacant(place) => {
+                place.insert(Carriers::One(record.clone()));
+            }
+        }
     }
 
     /// Puts a registration among the carriers of its values.
     pub fn put(&mut self, record: &Rc<Record>) {
         for (name, value) in record.names() {
-            match self.values(name).entry(value.into()) {
-                Entry::Occupied(mut carriers) => carriers.get_mut().put(record),
-                Entry::Vacant(place) => {
-                    place.insert(Carriers::One(record.clone()));
-                }
-            }
+            self.put_value(name, value, record, true);
         }
         for (name, value) in record.attributes() {
-            let values = self.values(name);
-            match values.get_mut(value) {
-                Some(carriers) => carriers.put(record),
-                None => {
-                    values.insert(value.into(), Carriers::One(record.clone()));
-                }
-            }
+            self.put_value(name, value, record, false);
         }
     }
 
@@ -105,7 +106,10 @@ impl Index {
             let Some(values) = self.names.get_mut(name) else {
                 continue;
             };
-            if values.get_mut(value).is_some_and(|carriers| carriers.take(record.number)) {
+            if values
+                .get_mut(value)
+                .is_some_and(|carriers| carriers.take(record.number))
+            {
                 values.remove(value);
             }
             if values.is_empty() {
@@ -118,9 +122,8 @@ impl Index {
     fn carriers<'a>(&'a self, criterion: &'a Criterion) -> impl Iterator<Item = &'a Carriers> {
         let text = criterion.text();
         let values = self.names.get(criterion.name());
-        let from = values.map(|values| {
-            values.range::<[u8], _>((Bound::Included(text), Bound::Unbounded))
-        });
+        let from =
+            values.map(|values| values.range::<[u8], _>((Bound::Included(text), Bound::Unbounded)));
         from.into_iter()
             .flatten()
             .take_while(|(value, _)| criterion.matches(value))

@@ -33,7 +33,9 @@ pub struct Kept {
 impl Kept {
     /// The place of a listing.
     fn place(&self, peer: Peer, key: &[u8]) -> Option<usize> {
-        self.answers.iter().position(|(_, answer)| answer.peer == peer && *answer.key == *key)
+        self.answers
+            .iter()
+            .position(|(_, answer)| answer.peer == peer && *answer.key == *key)
     }
 
     /// Keeps one more, in place of the one under its name or of the one least lately used.

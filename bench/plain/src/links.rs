@@ -48,7 +48,10 @@ fn put_link<'a>(room: &mut Room, base: Span, text: &'a [u8]) -> Result<&'a [u8],
         rest = put_parameter(room, more)?;
     }
     let line = Span::of(start, room.text.len());
-    room.links.push(Link { line, values: Span::of(first, room.values.len()) });
+    room.links.push(Link {
+        line,
+        values: Span::of(first, room.values.len()),
+    });
     Ok(rest)
 }
 
@@ -73,14 +76,19 @@ fn put_parameter<'a>(room: &mut Room, text: &'a [u8]) -> Result<&'a [u8], Unhand
     let name_at = room.text.len() + 1;
     let value_at = name_at + name.len() + marked;
     room.text.push(b';');
-    room.text.extend_from_slice(&text[..text.len() - rest.len()]);
+    room.text
+        .extend_from_slice(&text[..text.len() - rest.len()]);
     let name_span = Span::of(name_at, name_at + name.len());
     if matches!(name, b"rel" | b"rev" | b"rt" | b"if") {
         put_list(room, name, name_span, value_at, value);
     } else {
         let print = print_of(name, value);
         let value = Span::of(value_at, value_at + value.len());
-        room.values.push(Value { name: name_span, value, print });
+        room.values.push(Value {
+            name: name_span,
+            value,
+            print,
+        });
     }
     Ok(rest)
 }
@@ -113,7 +121,11 @@ fn put_list(room: &mut Room, name: &[u8], name_span: Span, start: usize, list: &
         let end = at + part.len();
         if !part.is_empty() {
             let (value, print) = (Span::of(at, end), print_of(name, part));
-            room.values.push(Value { name: name_span, value, print });
+            room.values.push(Value {
+                name: name_span,
+                value,
+                print,
+            });
         }
         at = end + 1;
     }

@@ -70,7 +70,11 @@ pub struct End {
 
 impl fmt::Display for End {
     fn fmt(&self, f: &mut fmt::Formatter<'_>) -> fmt::Result {
-        write!(f, "end {} {} {}", self.entries, self.registrations, self.observers)
+        write!(
+            f,
+            "end {} {} {}",
+            self.entries, self.registrations, self.observers
+        )
     }
 }
 
@@ -139,7 +143,11 @@ impl Machine {
     pub fn perform(&mut self, line: Line<'_>) -> Result<(), Unhandled> {
         self.sent.clear();
         match line {
-            Line::Come { moment, peer, datagram } => self.come(moment, peer, datagram),
+            Line::Come {
+                moment,
+                peer,
+                datagram,
+            } => self.come(moment, peer, datagram),
             Line::Go { moment } => self.go(moment),
             Line::Tick { moment, word } => {
                 self.tick(moment, word);
@@ -180,10 +188,17 @@ impl Machine {
             Admitted::New(sequence) => {
                 let draft = Draft::build(&mut self.room, peer, asked)?;
                 let Message { mid, token, .. } = *message;
-                self.job = Some(Job { peer, mid, token, sequence, draft });
+                self.job = Some(Job {
+                    peer,
+                    mid,
+                    token,
+                    sequence,
+                    draft,
+                });
             }
             Admitted::Before(Some(reply)) => {
-                self.sent.push(peer, |octets| octets.extend_from_slice(reply));
+                self.sent
+                    .push(peer, |octets| octets.extend_from_slice(reply));
             }
             Admitted::Before(None) => {}
         }
@@ -192,7 +207,14 @@ impl Machine {
 
     /// The worker does its job.
     fn go(&mut self, moment: u64) -> Result<(), Unhandled> {
-        let Some(Job { peer, mid, token, sequence, draft }) = self.job.take() else {
+        let Some(Job {
+            peer,
+            mid,
+            token,
+            sequence,
+            draft,
+        }) = self.job.take()
+        else {
             return Ok(());
         };
         self.pass(moment);
@@ -207,7 +229,6 @@ impl Machine {
         self.exchanges.settle(sequence, reply);
         Ok(())
     }
-
 
     /// A lookup comes that observes, or asks for a further block.
     fn look(
@@ -232,12 +253,26 @@ impl Machine {
         let block = asked.block.unwrap_or(Block::FIRST);
         if is_later || body.len() > block.size() {
             let (key, body) = (key.clone(), body.clone());
-            self.kept.keep(self.moment, Answer { peer, key, body, tag });
+            self.kept.keep(
+                self.moment,
+                Answer {
+                    peer,
+                    key,
+                    body,
+                    tag,
+                },
+            );
         }
         if is_later {
             return self.answer(peer, message, asked, Given { tag, observe: None }, &body);
         }
-        let joining = Joining { peer, token: message.token, key, block, body: body.clone() };
+        let joining = Joining {
+            peer,
+            token: message.token,
+            key,
+            block,
+            body: body.clone(),
+        };
         self.watching.join(query, joining)?;
         let observe = Some(self.next_observe());
         self.answer(peer, message, asked, Given { tag, observe }, &body)
@@ -288,7 +323,8 @@ impl Machine {
             let observer = &self.watching.observers[index];
             if let (Due::Again, Some(flight)) = (due, &observer.flight) {
                 let notice = &flight.octets;
-                self.sent.push(observer.peer, |octets| octets.extend_from_slice(notice));
+                self.sent
+                    .push(observer.peer, |octets| octets.extend_from_slice(notice));
             }
             index += 1;
         }
@@ -335,8 +371,12 @@ impl Machine {
         if observer.last == body {
             return false;
         }
-        let (peer, block, token, key) =
-            (observer.peer, observer.block, observer.token, observer.key.clone());
+        let (peer, block, token, key) = (
+            observer.peer,
+            observer.block,
+            observer.token,
+            observer.key.clone(),
+        );
         let tag = self.directory.tag();
         let mid = (self.drawn % MIDS) as u16;
         self.drawn += 1;
@@ -346,11 +386,24 @@ impl Machine {
         let part = (&body[..length], length < body.len());
         let notice = self.sent.push(peer, |octets| {
             let writer = Writer::start(octets, Kind::Con, codes::CONTENT, mid, token.octets());
-            put_listing(writer, Given { tag, observe }, part.1.then_some(first), part);
+            put_listing(
+                writer,
+                Given { tag, observe },
+                part.1.then_some(first),
+                part,
+            );
         });
         let flight = Flight::start(notice.into(), self.moment, word);
         if part.1 {
-            self.kept.keep(self.moment, Answer { peer, key, body: body.clone(), tag });
+            self.kept.keep(
+                self.moment,
+                Answer {
+                    peer,
+                    key,
+                    body: body.clone(),
+                    tag,
+                },
+            );
         }
         let observer = &mut self.watching.observers[index];
         observer.last = body;

@@ -87,7 +87,11 @@ fn words() -> Result<Words, Trouble> {
 }
 
 /// Does the lines of a trace one after the other; `after` is told what each sent.
-fn do_lines(machine: &mut Machine, trace: &[u8], mut after: impl FnMut(&Machine)) -> Result<u64, Trouble> {
+fn do_lines(
+    machine: &mut Machine,
+    trace: &[u8],
+    mut after: impl FnMut(&Machine),
+) -> Result<u64, Trouble> {
     let mut lines = Lines::of(trace);
     let mut count = 0;
     loop {
@@ -95,7 +99,9 @@ fn do_lines(machine: &mut Machine, trace: &[u8], mut after: impl FnMut(&Machine)
         let Some(line) = line else {
             return Ok(count);
         };
-        machine.perform(line).map_err(|why| Trouble::Line(count + 1, why))?;
+        machine
+            .perform(line)
+            .map_err(|why| Trouble::Line(count + 1, why))?;
         count += 1;
         after(machine);
     }
@@ -105,7 +111,9 @@ fn do_lines(machine: &mut Machine, trace: &[u8], mut after: impl FnMut(&Machine)
 fn replayed(trace: &[u8]) -> Result<Vec<u8>, Trouble> {
     let mut machine = Machine::new();
     let mut text = Vec::new();
-    do_lines(&mut machine, trace, |machine| put_sent(&mut text, machine.sent()))?;
+    do_lines(&mut machine, trace, |machine| {
+        put_sent(&mut text, machine.sent())
+    })?;
     writeln!(text, "{}", machine.end())?;
     Ok(text)
 }
@@ -119,7 +127,11 @@ fn counted(devices: u32) -> Result<Vec<u8>, Trouble> {
         octets += machine.sent().octets();
     })?;
     let mut text = Vec::new();
-    writeln!(text, "made {lines}\nsent {datagrams} {octets}\n{}", machine.end())?;
+    writeln!(
+        text,
+        "made {lines}\nsent {datagrams} {octets}\n{}",
+        machine.end()
+    )?;
     Ok(text)
 }
 

@@ -48,7 +48,10 @@ pub struct Token {
 impl Token {
     /// The token of these octets, at most eight.
     fn of(octets: &[u8]) -> Token {
-        let mut token = Token { length: octets.len() as u8, octets: [0; 8] };
+        let mut token = Token {
+            length: octets.len() as u8,
+            octets: [0; 8],
+        };
         token.octets[..octets.len()].copy_from_slice(octets);
         token
     }
@@ -117,7 +120,9 @@ impl<'a> Options<'a> {
             }
             (14, &[high, low, ref rest @ ..]) => {
                 self.rest = rest;
-                u16::from_be_bytes([high, low]).checked_add(269).ok_or(FORMAT)
+                u16::from_be_bytes([high, low])
+                    .checked_add(269)
+                    .ok_or(FORMAT)
             }
             _ => Err(FORMAT),
         }
@@ -129,12 +134,19 @@ impl<'a> Options<'a> {
             return Ok(None);
         };
         if *first == MARKER {
-            return if rest.is_empty() { Err(FORMAT) } else { Ok(None) };
+            return if rest.is_empty() {
+                Err(FORMAT)
+            } else {
+                Ok(None)
+            };
         }
         self.rest = rest;
         let difference = self.extended(first >> 4)?;
         let length = self.extended(first & 15)?;
-        let (value, rest) = self.rest.split_at_checked(usize::from(length)).ok_or(FORMAT)?;
+        let (value, rest) = self
+            .rest
+            .split_at_checked(usize::from(length))
+            .ok_or(FORMAT)?;
         self.before = self.before.checked_add(difference).ok_or(FORMAT)?;
         self.rest = rest;
         Ok(Some((self.before, value)))
@@ -185,10 +197,14 @@ impl<'a> Writer<'a> {
         if value.len() < 13 {
             self.octets.push(difference << 4 | value.len() as u8);
         } else {
-            self.octets.extend_from_slice(&[difference << 4 | 13, (value.len() - 13) as u8]);
+            self.octets
+                .extend_from_slice(&[difference << 4 | 13, (value.len() - 13) as u8]);
         }
         self.octets.extend_from_slice(value);
-        Writer { octets: self.octets, before: number }
+        Writer {
+            octets: self.octets,
+            before: number,
+        }
     }
 
     /// An option whose value is a number (RFC 7252 section 3.2).
@@ -209,5 +225,7 @@ impl<'a> Writer<'a> {
 
 /// The number that the octets of an option say, at most four (RFC 7252 section 3.2).
 pub fn uint(value: &[u8]) -> u32 {
-    value.iter().fold(0, |number, octet| number << 8 | u32::from(*octet))
+    value
+        .iter()
+        .fold(0, |number, octet| number << 8 | u32::from(*octet))
 }

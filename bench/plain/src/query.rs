@@ -57,7 +57,13 @@ impl Criterion {
         };
         let name = name.as_bytes();
         let print = print_of(name, text);
-        Criterion { name: name.into(), text: text.into(), is_front, own, print }
+        Criterion {
+            name: name.into(),
+            text: text.into(),
+            is_front,
+            own,
+            print,
+        }
     }
 
     /// The name of the attribute.
@@ -116,5 +122,10 @@ pub fn query_of(lookup: &Lookup<'_>) -> Result<(Query, Rc<[u8]>), Unhandled> {
         }
         Ok(())
     })?;
-    Ok((Query { criteria: criteria.into() }, key.into()))
+    Ok((
+        Query {
+            criteria: criteria.into(),
+        },
+        key.into(),
+    ))
 }

@@ -21,7 +21,10 @@ pub struct Span {
 impl Span {
     /// From one place to another.
     pub fn of(start: usize, end: usize) -> Span {
-        Span { start: start as u32, end: end as u32 }
+        Span {
+            start: start as u32,
+            end: end as u32,
+        }
     }
 
     /// How many it spans.
@@ -140,7 +143,11 @@ impl Draft {
 
 /// How many octets a text has in quotes, the quotes apart.
 fn quoted_length(text: &[u8]) -> usize {
-    text.len() + text.iter().filter(|octet| matches!(octet, b'"' | b'\\')).count()
+    text.len()
+        + text
+            .iter()
+            .filter(|octet| matches!(octet, b'"' | b'\\'))
+            .count()
 }
 
 /// A registration.
@@ -160,7 +167,12 @@ impl Record {
     /// The registration that a draft becomes.
     pub fn of(draft: Draft, number: u64, now: u64) -> Record {
         let lapse = now + 1_000 * u64::from(draft.lifetime);
-        Record { number, lapse, weight: draft.weight(number), draft }
+        Record {
+            number,
+            lapse,
+            weight: draft.weight(number),
+            draft,
+        }
     }
 
     /// The name of its endpoint.
@@ -182,20 +194,30 @@ impl Record {
     pub fn attributes(&self) -> impl Iterator<Item = (&[u8], &[u8])> {
         let own: (&[u8], &[u8]) = (b"rt", ENDPOINT_TYPE);
         let draft = &self.draft;
-        let of_links = draft.values.iter().map(|pair| (draft.at(pair.name), draft.at(pair.value)));
+        let of_links = draft
+            .values
+            .iter()
+            .map(|pair| (draft.at(pair.name), draft.at(pair.value)));
         iter::once(own).chain(of_links)
     }
 
     /// Whether a link by itself meets a criterion (RFC 6690 section 4.1).
     fn link_meets(&self, link: &Link, criterion: &Criterion) -> bool {
-        self.draft.values[link.values.range()].iter().any(|pair| {
-            criterion.may_match(pair.print)
-                && criterion.matches(self.draft.at(pair.value))
-                && self.draft.at(pair.name) == criterion.name()
-        })
+        self.draft.values[link.values.range()]
+            .iter()
+            .any(|pair| criterion.may_match(pair.print) && self.value_meets(pair, criterion))
     }
 
-    /// Whether the endpoint by itself meets a criterion (RFC 9176 section 6.2).
+    /// Whether a value of a link meets a criterion. It is asked of few, since their prints tell
+    /// most apart, and kept out of the loops over them.
+    #[inline(never)]
+    fn value_meets(&self, pair: &Value, criterion: &Criterion) -> bool {
+        self.draft.at(pair.name) == criterion.name() && criterion.matches(self.draft.at(pair.value))
+    }
+
+    /// Whether the endpoint by itself meets a criterion (RFC 9176 section 6.2). It too is asked of
+    /// few.
+    #[inline(never)]
     fn endpoint_meets(&self, criterion: &Criterion) -> bool {
         match criterion.own() {
             Own::All => true,
@@ -209,9 +231,14 @@ impl Record {
     pub fn lines<'a>(&'a self, query: &'a Query) -> impl Iterator<Item = &'a [u8]> {
         let is_listed = |link: &&Link| {
             query.criteria().iter().all(|criterion| {
-                self.link_meets(link, criterion) || self.endpoint_meets(criterion)
+                self.link_meets(link, criterion)
+                    || criterion.own() != Own::None && self.endpoint_meets(criterion)
             })
         };
-        self.draft.links.iter().filter(is_listed).map(|link| self.draft.at(link.line))
+        self.draft
+            .links
+            .iter()
+            .filter(is_listed)
+            .map(|link| self.draft.at(link.line))
     }
 }

@@ -18,7 +18,10 @@ pub struct Block {
 
 impl Block {
     /// The first block, of 1,024 octets.
-    pub const FIRST: Block = Block { number: 0, exponent: 6 };
+    pub const FIRST: Block = Block {
+        number: 0,
+        exponent: 6,
+    };
 
     /// The block that the value of an option is.
     fn of(value: &[u8]) -> Result<Block, Unhandled> {
@@ -27,7 +30,10 @@ impl Block {
         if exponent == 7 {
             return Err(Unhandled("block"));
         }
-        Ok(Block { number: (value >> 4) as usize, exponent })
+        Ok(Block {
+            number: (value >> 4) as usize,
+            exponent,
+        })
     }
 
     /// How many octets it has at most.
@@ -187,12 +193,7 @@ struct Found<'a> {
 
 impl<'a> Found<'a> {
     /// One more option, which stands at the beginning of these.
-    fn put(
-        &mut self,
-        number: u16,
-        value: &'a [u8],
-        options: Options<'a>,
-    ) -> Result<(), Unhandled> {
+    fn put(&mut self, number: u16, value: &'a [u8], options: Options<'a>) -> Result<(), Unhandled> {
         match number {
             options::URI_PATH => self.path.put(value),
             options::URI_QUERY => {
@@ -237,7 +238,11 @@ pub fn request<'a>(message: &Message<'a>) -> Result<Request<'a>, Unhandled> {
     if message.code == codes::GET && found.path.is(&[b"rd-lookup", b"res"]) && !found.has_tag {
         let observes = found.observe == Some(0);
         let Found { block, queries, .. } = found;
-        return Ok(Request::Lookup(Lookup { observes, block, queries }));
+        return Ok(Request::Lookup(Lookup {
+            observes,
+            block,
+            queries,
+        }));
     }
     Err(Unhandled("request"))
 }

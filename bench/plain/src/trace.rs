@@ -38,7 +38,10 @@ pub struct Digits {
 impl Digits {
     /// The digits of a number.
     pub fn of(number: u64) -> Digits {
-        let mut digits = Digits { octets: [0; 20], start: 20 };
+        let mut digits = Digits {
+            octets: [0; 20],
+            start: 20,
+        };
         let mut rest = number;
         for place in digits.octets.iter_mut().rev() {
             *place = b'0' + (rest % 10) as u8;
@@ -65,7 +68,10 @@ pub fn put_decimal(text: &mut Vec<u8>, number: u64) {
 /// Appends octets in hexadecimal digits.
 pub fn put_hexadecimal(text: &mut Vec<u8>, octets: &[u8]) {
     text.extend(octets.iter().flat_map(|octet| {
-        [DIGITS[usize::from(octet >> 4)], DIGITS[usize::from(octet & 15)]]
+        [
+            DIGITS[usize::from(octet >> 4)],
+            DIGITS[usize::from(octet & 15)],
+        ]
     }));
 }
 
@@ -83,7 +89,11 @@ pub fn put_sent(text: &mut Vec<u8>, sent: &Outbox) {
 /// A line of a trace, of worker 0. Moments are in milliseconds.
 pub enum Line<'a> {
     /// A datagram comes.
-    Come { moment: u64, peer: Peer, datagram: &'a [u8] },
+    Come {
+        moment: u64,
+        peer: Peer,
+        datagram: &'a [u8],
+    },
     /// The worker does its job.
     Go { moment: u64 },
     /// Time passes, with a word.
@@ -104,7 +114,10 @@ const FORM: Unhandled = Unhandled("form");
 impl<'a> Lines<'a> {
     /// The lines of a text.
     pub fn of(text: &'a [u8]) -> Lines<'a> {
-        Lines { rest: text, datagram: [0; MOST] }
+        Lines {
+            rest: text,
+            datagram: [0; MOST],
+        }
     }
 
     /// The next line.
@@ -216,7 +229,11 @@ impl<'a> Lines<'a> {
         self.expect(b" ")?;
         let length = self.octets()?;
         self.end()?;
-        Ok(Line::Come { moment, peer, datagram: &self.datagram[..length] })
+        Ok(Line::Come {
+            moment,
+            peer,
+            datagram: &self.datagram[..length],
+        })
     }
 
     /// Time that passes, from its moment on.

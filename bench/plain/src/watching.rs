@@ -55,7 +55,12 @@ impl Flight {
     /// A notice that is sent for the first time.
     pub fn start(octets: Box<[u8]>, now: u64, word: u32) -> Flight {
         let wait = LEAST_WAIT + u64::from(word) % WAITS;
-        Flight { octets, sent: now, wait, again: 0 }
+        Flight {
+            octets,
+            sent: now,
+            wait,
+            again: 0,
+        }
     }
 
     /// Time passes.
@@ -164,7 +169,12 @@ impl Watching {
             watch.observers += 1;
             return Ok((place, watch.changes));
         }
-        let watch = Watch { query, observers: 1, changes: 0, body: None };
+        let watch = Watch {
+            query,
+            observers: 1,
+            changes: 0,
+            body: None,
+        };
         if let Some(place) = self.watches.iter().position(Option::is_none) {
             self.watches[place] = Some(watch);
             return Ok((place, 0));
@@ -184,7 +194,13 @@ impl Watching {
 
     /// An observer joins, in place of the one with its peer and token.
     pub fn join(&mut self, query: Query, joining: Joining) -> Result<(), Unhandled> {
-        let Joining { peer, token, key, block, body } = joining;
+        let Joining {
+            peer,
+            token,
+            key,
+            block,
+            body,
+        } = joining;
         let is_same = |other: &Observer| other.token == token && other.peer == peer;
         if let Some(index) = self.observers.iter().position(is_same) {
             self.take(index);
@@ -193,7 +209,16 @@ impl Watching {
             return Err(Unhandled("observers"));
         }
         let (place, seen) = self.enter(query)?;
-        let observer = Observer { peer, token, key, block, last: body, place, seen, flight: None };
+        let observer = Observer {
+            peer,
+            token,
+            key,
+            block,
+            last: body,
+            place,
+            seen,
+            flight: None,
+        };
         self.observers.push(observer);
         Ok(())
     }
@@ -214,7 +239,10 @@ impl Watching {
 
     /// The peers for whose acknowledgement a notice waits.
     pub fn awaited(&self) -> Vec<Peer> {
-        let in_flight = self.observers.iter().filter(|observer| observer.flight.is_some());
+        let in_flight = self
+            .observers
+            .iter()
+            .filter(|observer| observer.flight.is_some());
         in_flight.map(|observer| observer.peer).collect()
     }
 }
