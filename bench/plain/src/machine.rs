@@ -2,7 +2,7 @@
 
 use crate::directory::{Directory, Registered};
 use crate::exchanges::{Admitted, Exchanges};
-use crate::kept::{Answer, Kept};
+use crate::kept::{Answer, Kept, Tag};
 use crate::message::{codes, options, Kind, Message, Token, Writer};
 use crate::outbox::Outbox;
 use crate::peer::Peer;
@@ -230,7 +230,7 @@ impl Machine {
         Ok(())
     }
 
-    /// A lookup comes that observes, or asks for a further block.
+    /// A lookup comes.
     fn look(
         &mut self,
         peer: Peer,
@@ -238,33 +238,52 @@ impl Machine {
         asked: &Lookup<'_>,
     ) -> Result<(), Unhandled> {
         let (query, key) = query_of(asked)?;
-        let is_later = asked.block.is_some_and(|block| block.number > 0);
-        if !is_later && !asked.observes {
-            return Err(Unhandled("lookup"));
+        if asked.block.is_some_and(|block| block.number > 0) {
+            return self.look_further(peer, message, asked, &query, key);
         }
-        if is_later {
-            if let Some(Answer { body, tag, .. }) = self.kept.read(self.moment, peer, &key) {
-                let (body, tag) = (body.clone(), *tag);
-                return self.answer(peer, message, asked, Given { tag, observe: None }, &body);
+        if asked.observes {
+            return self.observe(peer, message, asked, query, key);
+        }
+        Err(Unhandled("lookup"))
+    }
+
+    /// A lookup comes that asks for a further block: it is one of the listing that was kept, or
+    /// of the listing now.
+    fn look_further(
+        &mut self,
+        peer: Peer,
+        message: &Message<'_>,
+        asked: &Lookup<'_>,
+        query: &Query,
+        key: Rc<[u8]>,
+    ) -> Result<(), Unhandled> {
+        let kept = self.kept.read(self.moment, peer, &key);
+        let (body, tag) = match kept.map(|answer| (answer.body.clone(), answer.tag)) {
+            Some(kept) => kept,
+            None => {
+                let body = listing(&self.directory, query, &mut self.room_for_lines);
+                let tag = self.directory.tag();
+                self.keep(peer, key, &body, tag);
+                (body, tag)
             }
-        }
+        };
+        self.answer(peer, message, asked, Given { tag, observe: None }, &body)
+    }
+
+    /// A lookup comes that begins to observe.
+    fn observe(
+        &mut self,
+        peer: Peer,
+        message: &Message<'_>,
+        asked: &Lookup<'_>,
+        query: Query,
+        key: Rc<[u8]>,
+    ) -> Result<(), Unhandled> {
         let body = listing(&self.directory, &query, &mut self.room_for_lines);
         let tag = self.directory.tag();
         let block = asked.block.unwrap_or(Block::FIRST);
-        if is_later || body.len() > block.size() {
-            let (key, body) = (key.clone(), body.clone());
-            self.kept.keep(
-                self.moment,
-                Answer {
-                    peer,
-                    key,
-                    body,
-                    tag,
-                },
-            );
-        }
-        if is_later {
-            return self.answer(peer, message, asked, Given { tag, observe: None }, &body);
+        if body.len() > block.size() {
+            self.keep(peer, key.clone(), &body, tag);
         }
         let joining = Joining {
             peer,
@@ -276,6 +295,18 @@ impl Machine {
         self.watching.join(query, joining)?;
         let observe = Some(self.next_observe());
         self.answer(peer, message, asked, Given { tag, observe }, &body)
+    }
+
+    /// A listing is kept for its further blocks.
+    fn keep(&mut self, peer: Peer, key: Rc<[u8]>, body: &Rc<[u8]>, tag: Tag) {
+        let body = body.clone();
+        let answer = Answer {
+            peer,
+            key,
+            body,
+            tag,
+        };
+        self.kept.keep(self.moment, answer);
     }
 
     /// The next value of Observe.
@@ -349,65 +380,52 @@ impl Machine {
         }
     }
 
-    /// The listing of the query at a place, which is formed once for all who observe it.
-    fn watched_listing(&mut self, place: usize) -> Option<Rc<[u8]>> {
+    /// The listing of the query at a place, which is formed once for all who observe it, and how
+    /// many changes it had.
+    fn watched_listing(&mut self, place: usize) -> Option<(Rc<[u8]>, u64)> {
         let watch = self.watching.watch(place)?;
-        if watch.body.is_none() {
-            let body = listing(&self.directory, &watch.query, &mut self.room_for_lines);
-            watch.body = Some(body);
-        }
-        watch.body.clone()
+        let body = watch
+            .body
+            .get_or_insert_with(|| listing(&self.directory, &watch.query, &mut self.room_for_lines))
+            .clone();
+        Some((body, watch.changes))
     }
 
     /// An observer is told of its listing, if that is another than it was given last.
     fn notice(&mut self, index: usize, word: u32) -> bool {
         let place = self.watching.observers[index].place;
-        let Some(body) = self.watched_listing(place) else {
+        let Some((body, changes)) = self.watched_listing(place) else {
             return false;
         };
-        let changes = self.watching.watch(place).map_or(0, |watch| watch.changes);
         let observer = &mut self.watching.observers[index];
         observer.seen = changes;
         if observer.last == body {
             return false;
         }
-        let (peer, block, token, key) = (
-            observer.peer,
-            observer.block,
-            observer.token,
-            observer.key.clone(),
-        );
+        observer.last = body.clone();
+        let (peer, token, key) = (observer.peer, observer.token, observer.key.clone());
+        let first = Block {
+            number: 0,
+            ..observer.block
+        };
         let tag = self.directory.tag();
+        let (part, rest) = body.split_at(body.len().min(first.size()));
+        let has_more = !rest.is_empty();
+        if has_more {
+            self.keep(peer, key, &body, tag);
+        }
+        let given = Given {
+            tag,
+            observe: Some(self.next_observe()),
+        };
         let mid = (self.drawn % MIDS) as u16;
         self.drawn += 1;
-        let observe = Some(self.next_observe());
-        let first = Block { number: 0, ..block };
-        let length = body.len().min(first.size());
-        let part = (&body[..length], length < body.len());
         let notice = self.sent.push(peer, |octets| {
             let writer = Writer::start(octets, Kind::Con, codes::CONTENT, mid, token.octets());
-            put_listing(
-                writer,
-                Given { tag, observe },
-                part.1.then_some(first),
-                part,
-            );
+            put_listing(writer, given, has_more.then_some(first), (part, has_more));
         });
         let flight = Flight::start(notice.into(), self.moment, word);
-        if part.1 {
-            self.kept.keep(
-                self.moment,
-                Answer {
-                    peer,
-                    key,
-                    body: body.clone(),
-                    tag,
-                },
-            );
-        }
-        let observer = &mut self.watching.observers[index];
-        observer.last = body;
-        observer.flight = Some(flight);
+        self.watching.observers[index].flight = Some(flight);
         true
     }
 }
