@@ -49,7 +49,7 @@ def print_table(program: str, plain: str, devices: int):
     words = [f"--make={devices}"]
     least, _ = instructions([plain, *words], b"")
     count, _ = instructions([program, *words], b"")
-    print(COLUMNS.format(f"millions of instructions, {devices:,} devices", "", "times"))
+    print(COLUMNS.format(f"instructions of --make={devices}", "millions", "times"))
     print(COLUMNS.format("bench/plain", f"{least / 1e6:.1f}", ""))
     print(COLUMNS.format(Path(program).name, f"{count / 1e6:.1f}", f"{count / least:.2f}"))
 
