@@ -21,7 +21,7 @@ use Rattle.chunk_map.specs.Sorted as sorted
 use Rattle.attribute_index.specs.declared.rows.Edit.{Edit}
 use Rattle.attribute_index.specs.declared.rows.Edit.TheVariants.{Put, Take}
 use Rattle.attribute_index.specs.Entries.{Entry, IsAscending, entries_of, values_of, entry_cmp, has_entry, has_number, is_same, is_carrier, carriers_of}
-use Rattle.attribute_index.specs.Rows.{Row, AreRows, IsRow, IsEdited, NumbersAscend, value_cmp, entries_in, entries_of_rows, entries_under, number_in, is_after, is_wanted, wanted_numbers}
+use Rattle.attribute_index.specs.Rows.{Row, AreRows, IsRow, IsEdited, NumbersAscend, value_cmp, entries_in, entries_of_rows, number_in, is_after, is_wanted, wanted_numbers}
 use Rattle.attribute_index.proofs.Lookups.{none_behind, lookup_alike, lookup-insert_entry, lookup-remove_entry}
 
 -- the order of values is total
