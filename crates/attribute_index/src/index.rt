@@ -105,12 +105,7 @@ impl AttributeIndex {
     /// This index without the entries of this attribute of the record with this number, as [`AttributeIndex::take`] makes one:
     /// what no other index has is changed in place. `Starved`: out of memory; this index is gone then, and all others are as
     /// before.
-    pub fn without(
-        self,
-        alloc: Global,
-        pair: &Pair,
-        number: u64,
-    ) -> Result<AttributeIndex, Starved>
+    pub fn without(self, alloc: Global, pair: &Pair, number: u64) -> Result<AttributeIndex, Starved>
         ensures entries { IfOk result (λ index. (e : Entry) → has_entry index e ≡ (has_entry self e && not (has_entry (entries_of pair.now number) e))) }
         ensures ascends { IfOk result (λ index. IsAscending index) }
     {

@@ -39,8 +39,10 @@ module _ {P : Type 0} (is_whole : P → Type 0) (parts : List P) (i : ℕ) where
     where
       here : parts ≡ take i parts ++ slice_index_or parts i d ∷ drop (suc i) parts
       here = sym (set-get_or parts i d) ∙ set_split parts i (slice_index_or parts i d) lt
+
       next : i + 1 ≡ suc i
       next = omega arith
+
       whole : All is_whole parts
       whole = subst (λ ps. All is_whole ps) (sym here)
           (All-append is_whole (take i parts) (slice_index_or parts i d ∷ drop (suc i) parts) front (All-cons is_whole (slice_index_or parts i d) (drop (suc i) parts) (part d) (subst (λ n. All is_whole (drop n parts)) next behind)))

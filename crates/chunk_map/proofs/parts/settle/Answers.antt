@@ -31,5 +31,5 @@ returns-in_ok-join_next-in-Kept-clause-pairs g c =
     let at = c.args.at in
     on_ok_weaker c.join_before.result
     (λ same d. same ∙ c.in_ok-join_next-in-Kept.ensures.pairs ∙ cut_or pairs parts at d c.requires.bound
-      ∙ ap (λ o. flat_map pairs (take at parts) ++ (standing pairs (slice_index_or parts at d) o ++ flat_map pairs (drop (at + 1) parts))) (sym c.in-Kept.is))
+    ∙ ap (λ o. flat_map pairs (take at parts) ++ (standing pairs (slice_index_or parts at d) o ++ flat_map pairs (drop (at + 1) parts))) (sym c.in-Kept.is))
     c.join_before.ensures.pairs
