@@ -21,7 +21,7 @@ use Rattle.chunk_map.specs.Sorted as sorted
 use Rattle.attribute_index.specs.declared.rows.Edit.{Edit}
 use Rattle.attribute_index.specs.declared.rows.Edit.TheVariants.{Put, Take}
 use Rattle.attribute_index.specs.Entries.{Entry, IsAscending, entries_of, values_of, entry_cmp, has_entry, has_number, is_same, is_carrier, carriers_of}
-use Rattle.attribute_index.specs.Rows.{Row, AreRows, IsRow, IsEdited, NumbersAscend, value_cmp, entries_in, entries_of_rows, entries_under, number_in, is_after, is_wanted, wanted_numbers}
+use Rattle.attribute_index.specs.Rows.{Row, AreRows, IsRow, IsEdited, NumbersAscend, value_cmp, entries_in, entries_of_rows, number_in, is_after, is_wanted, wanted_numbers}
 use Rattle.attribute_index.proofs.Lookups.{none_behind, lookup_alike, lookup-insert_entry, lookup-remove_entry}
 
 -- the order of values is total
@@ -119,57 +119,27 @@ has_edited edit rows rows' value number up up' h e =
     ∙ ap (λ t. is_after edit (has_entry (entries_of_rows rows) e) (t && nat_eq e.number number)) (same_at (value_of e) value)
     ∙ ap (λ t. is_after edit (has_entry (entries_of_rows rows) e) t) (and_same (bytes_eq e.name value.0) (bytes_eq e.value value.1) (nat_eq e.number number))
 
--- ---- the entries of values under a number, one value after another
+-- ---- edits of one value after another
 
-any_map : {X Y : Type 0} (test : Y → Bool) (f : X → Y) (xs : List X) → list_any test (map f xs) ≡ list_any (λ x. test (f x)) xs
-any_map test f [] = refl
-any_map test f (x ∷ xs) = ap (λ t. test (f x) || t) (any_map test f xs)
+take_both : (before one more : Bool) → ((before && not one) && not more) ≡ (before && not (one || more))
+take_both true true more = refl
+take_both true false more = refl
+take_both false one more = refl
 
-under_next : (values : List (List ℕ × List ℕ)) (i : ℕ) (value : List ℕ × List ℕ) (number : ℕ) (e : Entry) → i < length values → value ≡ slice_index_or values i value
-    → has_entry (entries_under (take (i + 1) values) number) e ≡ (has_entry (entries_under (take i values) number) e || is_same e (entry_at value number))
-under_next values i value number e lt is =
-    any_map (is_same e) (λ v. entry_at v number) (take (i + 1) values)
-    ∙ list_any_more (λ v. is_same e (entry_at v number)) values i value lt
-    ∙ ap (λ t. t || is_same e (entry_at (slice_index_or values i value) number)) (sym (any_map (is_same e) (λ v. entry_at v number) (take i values)))
-    ∙ ap (λ v. has_entry (entries_under (take i values) number) e || is_same e (entry_at v number)) (sym is)
+-- an edit of a value, and then of those that are left, is an edit of all
+pub edited_first : (edit : Edit) (before after one more all : Bool) → after ≡ is_after edit before one → all ≡ (one || more) → is_after edit after more ≡ is_after edit before all
+edited_first Put before after one more all a l = ap (λ t. t || more) a ∙ or_assoc before one more ∙ ap (λ t. before || t) (sym l)
+edited_first Take before after one more all a l = ap (λ t. t && not more) a ∙ take_both before one more ∙ ap (λ t. before && not t) (sym l)
 
--- the first value, and those after it
-module _ (values : List (List ℕ × List ℕ)) (first : List ℕ × List ℕ) (rest : List (List ℕ × List ℕ)) (whole : values ≡ first ∷ rest) where
-  take_behind : (i : ℕ) → take (i + 1) values ≡ first ∷ take i rest
-  take_behind i =
-      let next : i + 1 ≡ suc i = omega arith in
-      ap (λ vs. take (i + 1) vs) whole ∙ ap (λ n. take n (first ∷ rest)) next
+-- an edit of no value changes nothing
+pub edited_none : (edit : Edit) (before none : Bool) → none ≡ false → is_after edit before none ≡ before
+edited_none Put before none is = ap (λ t. before || t) is ∙ or_none before
+edited_none Take true none is = ap not is
+edited_none Take false none is = refl
 
-  pub take_whole : (i : ℕ) → take i rest ≡ rest → take (i + 1) values ≡ values
-  take_whole i all = take_behind i ∙ ap (λ vs. first ∷ vs) all ∙ sym whole
-
-  pub under_first : (number : ℕ) (e : Entry) → is_same e (entry_at first number) ≡ has_entry (entries_under (take 1 values) number) e
-  under_first number e = sym (or-false (is_same e (entry_at first number))) ∙ ap (λ vs. has_entry (entries_under (take 1 vs) number) e) (sym whole)
-
-  pub under_rest : (i : ℕ) (value : List ℕ × List ℕ) (number : ℕ) (e : Entry) → i < length rest → value ≡ slice_index_or rest i value
-      → has_entry (entries_under (take (i + 1 + 1) values) number) e ≡ (has_entry (entries_under (take (i + 1) values) number) e || is_same e (entry_at value number))
-  under_rest i value number e lt is =
-      ap (λ vs. has_entry (entries_under vs number) e) (take_behind (i + 1))
-      ∙ ap (λ t. is_same e (entry_at first number) || t) (under_next rest i value number e lt is)
-      ∙ sym (or_assoc (is_same e (entry_at first number)) (has_entry (entries_under (take i rest) number) e) (is_same e (entry_at value number)))
-      ∙ ap (λ vs. has_entry (entries_under vs number) e || is_same e (entry_at value number)) (sym (take_behind i))
-
--- a loop that edits values: after one more
-pub edited_next : (edit : Edit) (all before here next one : Bool) → next ≡ (before || one) → here ≡ is_after edit all before → is_after edit here one ≡ is_after edit all next
-edited_next Put true before here next one n h = ap (λ t. t || one) h
-edited_next Put false before here next one n h = ap (λ t. t || one) h ∙ sym n
-edited_next Take true true here next one n h = ap (λ t. t && not one) h ∙ ap not (sym n)
-edited_next Take true false here next one n h = ap (λ t. t && not one) h ∙ ap not (sym n)
-edited_next Take false before here next one n h = ap (λ t. t && not one) h
-
--- the values of an attribute are those under its name
-pub under_name : (name : List ℕ) (values : List (List ℕ)) (number : ℕ) → entries_under (map (λ value. (name, value)) values) number ≡ map (λ value. record { name = name; value = value; number = number }) values
-under_name name [] number = refl
-under_name name (value ∷ values) number = ap (λ rest. record { name = name; value = value; number = number } ∷ rest) (under_name name values number)
-
-pub under_pair : (pair : Pair) (number : ℕ) → entries_under (map (λ value. (pair.name, value)) (values_of pair.name pair.value)) number ≡ entries_of pair number
-unfolding entries_of
-under_pair pair number = under_name pair.name (values_of pair.name pair.value) number
+-- the entry of one value is the only one
+pub has_one : (x e : Entry) → has_entry (x ∷ []) e ≡ is_same e x
+has_one x e = or_none (is_same e x)
 
 -- ---- they ascend
 

@@ -61,9 +61,9 @@ AreRows rows = AllByRecursion (λ row. IsRow row.1) rows
 abbrev pub entries_in : Row → List Entry
 entries_in row = map (λ number. record { name = row.0.0; value = row.0.1; number = number }) row.1
 
--- the entries of values under a number
-abbrev pub entries_under : List (List ℕ × List ℕ) → ℕ → List Entry
-entries_under values number = map (λ value. record { name = value.0; value = value.1; number = number }) values
+-- the entries of values of a name under a number
+abbrev pub entries_under_name : List ℕ → List (List ℕ) → ℕ → List Entry
+entries_under_name name values number = map (λ value. record { name = name; value = value; number = number }) values
 
 -- the entries of all rows, row after row
 abbrev pub entries_of_rows : List Row → List Entry

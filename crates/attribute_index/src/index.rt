@@ -14,7 +14,8 @@ use std::marker::Model;
 
 /// Which records carry which values of which names. The values of `rel`, `rev`, `rt` and `if` are lists (RFC 6690
 /// section 2), and stand in it part by part; a value without a part stands in it nowhere. An index never changes:
-/// [`AttributeIndex::put`] and [`AttributeIndex::take`] make another one. Contracts see it as the list of its entries,
+/// [`AttributeIndex::put`] and [`AttributeIndex::take`] make another one, [`AttributeIndex::with`] and
+/// [`AttributeIndex::without`] one in place of an index that is given up. Contracts see it as the list of its entries,
 /// each of a name, a value and a number, in ascending order and without doubles.
 #[derive(Drop)]
 pub struct AttributeIndex {
@@ -73,7 +74,7 @@ impl AttributeIndex {
         ensures ascends { IfOk result (λ index. IsAscending index) }
     {
         Ok(AttributeIndex {
-            rows: edited(alloc, &self.rows, pair, number, Edit::Put)?,
+            rows: edited(alloc, self.rows.share()?, pair, number, Edit::Put)?,
         })
     }
 
@@ -84,7 +85,33 @@ impl AttributeIndex {
         ensures ascends { IfOk result (λ index. IsAscending index) }
     {
         Ok(AttributeIndex {
-            rows: edited(alloc, &self.rows, pair, number, Edit::Take)?,
+            rows: edited(alloc, self.rows.share()?, pair, number, Edit::Take)?,
+        })
+    }
+
+    /// This index, in which the record with this number carries this attribute too, as [`AttributeIndex::put`] makes one: what
+    /// no other index has is changed in place, so that several changes of one index copy each part of it once. `Starved`:
+    /// out of memory; this index is gone then, and all others are as before.
+    pub fn with(self, alloc: Global, pair: &Pair, number: u64) -> Result<AttributeIndex, Starved>
+        ensures entries { IfOk result (λ index. (e : Entry) → has_entry index e ≡ (has_entry self e || has_entry (entries_of pair.now number) e)) }
+        ensures ascends { IfOk result (λ index. IsAscending index) }
+    {
+        let AttributeIndex { rows } = self;
+        Ok(AttributeIndex {
+            rows: edited(alloc, rows, pair, number, Edit::Put)?,
+        })
+    }
+
+    /// This index without the entries of this attribute of the record with this number, as [`AttributeIndex::take`] makes one:
+    /// what no other index has is changed in place. `Starved`: out of memory; this index is gone then, and all others are as
+    /// before.
+    pub fn without(self, alloc: Global, pair: &Pair, number: u64) -> Result<AttributeIndex, Starved>
+        ensures entries { IfOk result (λ index. (e : Entry) → has_entry index e ≡ (has_entry self e && not (has_entry (entries_of pair.now number) e))) }
+        ensures ascends { IfOk result (λ index. IsAscending index) }
+    {
+        let AttributeIndex { rows } = self;
+        Ok(AttributeIndex {
+            rows: edited(alloc, rows, pair, number, Edit::Take)?,
         })
     }
 

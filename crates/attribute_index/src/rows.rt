@@ -1,10 +1,9 @@
 //! The rows of an index: edited one value of a name at a time.
-ghost use Rattle.std.specs.Prelude.{◌≡◌, map, IfOk};
+ghost use Rattle.std.specs.Prelude.{◌≡◌, IfOk};
 ghost use Rattle.chunk_map.specs.Sorted.{IsAscending};
-ghost use Rattle.record_model.specs.Matching as model;
-ghost use Rattle.attribute_index.specs.Entries as entries;
+ghost use Rattle.record_model.specs.Matching.{parts_of};
 ghost use Rattle.attribute_index.specs.Entries.{Entry, entries_of, has_entry, is_same};
-ghost use Rattle.attribute_index.specs.Rows.{AreRows, IsEdited, entries_of_rows, entries_under, is_after, value_cmp};
+ghost use Rattle.attribute_index.specs.Rows.{AreRows, IsEdited, entries_of_rows, entries_under_name, is_after, value_cmp};
 
 use crate::numbers::Numbers;
 use crate::values::Value;
@@ -15,33 +14,6 @@ use std::alloc::Global;
 
 /// The numbers of the records that carry a value, by the value.
 pub(crate) type Rows = ChunkMap<Value, Numbers>;
-
-/// The parts of a value as values of its name. `Starved`: out of memory.
-fn parts_of(alloc: Global, name: &str, value: &str) -> Result<Vec<Value>, Starved>
-    ensures { IfOk result (λ values. values.items ≡ map (λ part. (name.now, part)) (model.parts_of value.now)) }
-{
-    let mut values = Vec::new(alloc);
-    let mut rest = value;
-    'parts: while let Some((part, more)) = first_part(rest) {
-        values.push(Value::of(alloc, name, part)?)?;
-        rest = more;
-    }
-    Ok(values)
-}
-
-/// The values by which an attribute is found: the parts of its value where values of its name are lists, else its value.
-/// `Starved`: out of memory.
-#[tactic(auto, unfolding(crate::specs::Entries::values_of))]
-fn values_of(alloc: Global, name: &str, value: &str) -> Result<Vec<Value>, Starved>
-    ensures { IfOk result (λ values. values.items ≡ map (λ value. (name.now, value)) (entries.values_of name.now value.now)) }
-{
-    if is_list_name(name) {
-        return parts_of(alloc, name, value);
-    }
-    let mut values = Vec::new(alloc);
-    values.push(Value::of(alloc, name, value)?)?;
-    Ok(values)
-}
 
 /// What is done to the entries of values.
 #[derive(Clone, Copy, Drop)]
@@ -84,21 +56,21 @@ impl Change<Numbers> for EditOfNumbers {
     }
 }
 
-/// Rows in which the record with this number carries this value too, or carries it no longer. `Starved`: out of memory.
+/// These rows, in which the record with this number carries this value too, or carries it no longer. `Starved`: out of memory.
 fn edited_value(
     alloc: Global,
-    rows: &Rows,
+    rows: Rows,
     value: &Value,
     number: u64,
     edit: Edit,
 ) -> Result<Rows, Starved>
-    requires ascends { IsAscending value_cmp rows.now }
-    requires whole { AreRows rows.now }
-    ensures entries { IfOk result (λ after. (e : Entry) → has_entry (entries_of_rows after) e ≡ is_after edit (has_entry (entries_of_rows rows.now) e) (is_same e (record { name = value.now.0; value = value.now.1; number = number }))) }
+    requires ascends { IsAscending value_cmp rows }
+    requires whole { AreRows rows }
+    ensures entries { IfOk result (λ after. (e : Entry) → has_entry (entries_of_rows after) e ≡ is_after edit (has_entry (entries_of_rows rows) e) (is_same e (record { name = value.now.0; value = value.now.1; number = number }))) }
     ensures ascends { IfOk result (λ after. IsAscending value_cmp after) }
     ensures whole { IfOk result (λ after. AreRows after) }
 {
-    Ok(rows.change(
+    Ok(rows.changed(
         value,
         EditOfNumbers {
             alloc,
@@ -108,45 +80,53 @@ fn edited_value(
     )?)
 }
 
-/// Rows in which the record with this number carries these values too, or carries none of them. `Starved`: out of memory.
-fn edited_values(
+/// These rows, in which the record with this number carries the parts of this value too, or carries none of them. `Starved`:
+/// out of memory.
+fn edited_parts(
     alloc: Global,
-    rows: &Rows,
-    values: &[Value],
+    rows: Rows,
+    name: &str,
+    value: &str,
     number: u64,
     edit: Edit,
 ) -> Result<Rows, Starved>
-    requires ascends { IsAscending value_cmp rows.now }
-    requires whole { AreRows rows.now }
-    ensures entries { IfOk result (λ after. (e : Entry) → has_entry (entries_of_rows after) e ≡ is_after edit (has_entry (entries_of_rows rows.now) e) (has_entry (entries_under values.now number) e)) }
+    requires ascends { IsAscending value_cmp rows }
+    requires whole { AreRows rows }
+    ensures entries { IfOk result (λ after. (e : Entry) → has_entry (entries_of_rows after) e ≡ is_after edit (has_entry (entries_of_rows rows) e) (has_entry (entries_under_name name.now (parts_of value.now) number) e)) }
     ensures ascends { IfOk result (λ after. IsAscending value_cmp after) }
     ensures whole { IfOk result (λ after. AreRows after) }
 {
-    let Some((first, rest)) = values.split_first() else {
-        return Ok(rows.share()?);
-    };
-    let mut after = edited_value(alloc, rows, first, number, edit)?;
-    'values: for value in rest {
-        after = edited_value(alloc, &after, value, number, edit)?;
+    let mut after = rows;
+    let mut rest = value;
+    'parts: while let Some((part, more)) = first_part(rest) {
+        let carried = Value::of(alloc, name, part)?;
+        after = edited_value(alloc, after, &carried, number, edit)?;
+        rest = more;
     }
     Ok(after)
 }
 
-/// Rows in which the record with this number carries this attribute too, or carries no value of it. `Starved`: out of
+/// These rows, in which the record with this number carries this attribute too, or carries no value of it. `Starved`: out of
 /// memory.
+#[tactic(auto, unfolding(crate::specs::Entries::entries_of, crate::specs::Entries::values_of))]
 pub(crate) fn edited(
     alloc: Global,
-    rows: &Rows,
+    rows: Rows,
     pair: &Pair,
     number: u64,
     edit: Edit,
 ) -> Result<Rows, Starved>
-    requires ascends { IsAscending value_cmp rows.now }
-    requires whole { AreRows rows.now }
-    ensures entries { IfOk result (λ after. (e : Entry) → has_entry (entries_of_rows after) e ≡ is_after edit (has_entry (entries_of_rows rows.now) e) (has_entry (entries_of pair.now number) e)) }
+    requires ascends { IsAscending value_cmp rows }
+    requires whole { AreRows rows }
+    ensures entries { IfOk result (λ after. (e : Entry) → has_entry (entries_of_rows after) e ≡ is_after edit (has_entry (entries_of_rows rows) e) (has_entry (entries_of pair.now number) e)) }
     ensures ascends { IfOk result (λ after. IsAscending value_cmp after) }
     ensures whole { IfOk result (λ after. AreRows after) }
 {
-    let values = values_of(alloc, pair.name.as_str(), pair.value.as_str())?;
-    Ok(edited_values(alloc, rows, values.as_slice(), number, edit)?)
+    let name = pair.name.as_str();
+    let value = pair.value.as_str();
+    if is_list_name(name) {
+        return edited_parts(alloc, rows, name, value, number, edit);
+    }
+    let value = Value::of(alloc, name, value)?;
+    edited_value(alloc, rows, &value, number, edit)
 }

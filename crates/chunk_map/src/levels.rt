@@ -10,7 +10,7 @@ ghost use Rattle.chunk_map.specs.Levels.{AreWhole, pairs_in};
 
 use crate::change::Tally;
 use crate::part::{MOST_PARTS, Part};
-use crate::parts::{changed, copied, get, split};
+use crate::parts::{change_in, copied, divide, get};
 use crate::{Change, Shared};
 use rd_base::Starved;
 use std::alloc::Global;
@@ -44,7 +44,7 @@ pub(crate) enum Levels<K: Ord + Shared, V: Shared> {
 /// Two parts that have these parts after a change of the value at this key; or one, where they are not too many for one.
 fn raised<K: Ord + Drop, V: Drop, P: Part<K, V>>(
     alloc: Global,
-    parts: Vec<P>,
+    mut parts: Vec<P>,
     key: &K,
 ) -> Result<Vec<Arc<Vec<P>>>, Starved>
     requires any { 0 < length parts.items }
@@ -52,15 +52,15 @@ fn raised<K: Ord + Drop, V: Drop, P: Part<K, V>>(
     ensures pairs { IfOk result (λ raised. flat_map (list_pairs P.pairs) raised.items ≡ flat_map P.pairs parts.items) }
     ensures whole { IfOk result (λ raised. All (IsWholeList P.is_whole) raised.items) }
 {
-    let (front, back) = split(parts, key)?;
-    let front = Arc::new(alloc, front)?;
+    let behind = divide(&mut parts, key)?;
+    let front = Arc::new(alloc, parts)?;
     let mut raised = Vec::with_capacity(alloc, 2)?;
     raised.push(front)?;
-    match back {
+    match behind {
         None => Ok(raised),
-        Some(back) => {
-            let back = Arc::new(alloc, back)?;
-            raised.push(back)?;
+        Some(behind) => {
+            let behind = Arc::new(alloc, behind)?;
+            raised.push(behind)?;
             Ok(raised)
         }
     }
@@ -150,37 +150,38 @@ impl<K: Ord + Shared, V: Shared> Levels<K, V> {
         }
     }
 
-    /// Levels that show the pairs after a change of the value at this key, and what it does to their number.
-    pub(crate) fn change<C: Change<V>>(
-        &self,
+    /// Levels that show the pairs after a change of the value at this key, and what it does to their number. What nobody else
+    /// has is changed in place.
+    pub(crate) fn changed<C: Change<V>>(
+        self,
         alloc: Global,
         key: &K,
         change: C,
     ) -> Result<(Levels<K, V>, Tally), Starved>
-        requires whole { AreWhole self.now }
-        requires ascends { IsAscending K.cmp (pairs_in self.now) }
-        ensures pairs { IfOk result (λ changed. IsChanged K.cmp (C.gives change) (pairs_in self.now) key.now (pairs_in changed.0)) }
-        ensures counted { IfOk result (λ changed. IsCounted changed.1 (length (pairs_in self.now)) (length (pairs_in changed.0))) }
+        requires whole { AreWhole self }
+        requires ascends { IsAscending K.cmp (pairs_in self) }
+        ensures pairs { IfOk result (λ changed. IsChanged K.cmp (C.gives change) (pairs_in self) key.now (pairs_in changed.0)) }
+        ensures counted { IfOk result (λ changed. IsCounted changed.1 (length (pairs_in self)) (length (pairs_in changed.0))) }
         ensures whole { IfOk result (λ changed. AreWhole changed.0) }
     {
         match self {
-            Levels::Chunks(chunks) => {
-                let (chunks, tally) = changed(alloc, chunks.as_slice(), key, change)?;
+            Levels::Chunks(mut chunks) => {
+                let tally = change_in(alloc, &mut chunks, key, change)?;
                 let levels = over_chunks(alloc, chunks, key)?;
                 Ok((levels, tally))
             }
-            Levels::Groups(groups) => {
-                let (groups, tally) = changed(alloc, groups.as_slice(), key, change)?;
+            Levels::Groups(mut groups) => {
+                let tally = change_in(alloc, &mut groups, key, change)?;
                 let levels = over_groups(alloc, groups, key)?;
                 Ok((levels, tally))
             }
-            Levels::Sections(sections) => {
-                let (sections, tally) = changed(alloc, sections.as_slice(), key, change)?;
+            Levels::Sections(mut sections) => {
+                let tally = change_in(alloc, &mut sections, key, change)?;
                 let levels = over_sections(alloc, sections, key)?;
                 Ok((levels, tally))
             }
-            Levels::Divisions(divisions) => {
-                let (divisions, tally) = changed(alloc, divisions.as_slice(), key, change)?;
+            Levels::Divisions(mut divisions) => {
+                let tally = change_in(alloc, &mut divisions, key, change)?;
                 Ok((Levels::Divisions(divisions), tally))
             }
         }

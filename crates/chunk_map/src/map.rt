@@ -14,7 +14,8 @@ use std::alloc::Global;
 use std::marker::Model;
 
 /// A version of a sorted map. A version never changes: [`ChunkMap::put`] and [`ChunkMap::take`] make another one, which
-/// copies one part of each level, and shares all else. Contracts see it as the list of its pairs in ascending order of
+/// copies one part of each level, and shares all else. [`ChunkMap::changed`] makes another one of a version that is given up,
+/// and changes in place what no other version has. Contracts see it as the list of its pairs in ascending order of
 /// their keys, each key once.
 #[derive(Drop)]
 pub struct ChunkMap<K: Ord + Shared, V: Shared> {
@@ -89,11 +90,26 @@ impl<K: Ord + Shared, V: Shared> ChunkMap<K, V> {
         ensures ascends { IfOk result (λ map. IsAscending K.cmp map) }
         ensures pairs { IfOk result (λ map. IsChanged K.cmp (C.gives change) self.now key.now map) }
     {
-        let (levels, tally) = self.levels.change(self.alloc, key, change)?;
-        let count = tally.count(self.count)?;
+        self.share()?.changed(key, change)
+    }
+
+    /// This map after a change of the value at this key, as [`ChunkMap::change`] makes one: what no other version has is
+    /// changed in place, so that several changes of one version copy each part of it once. `Starved`: out of memory; this map
+    /// is gone then, and all others are as before.
+    pub fn changed<C: Change<V>>(self, key: &K, change: C) -> Result<ChunkMap<K, V>, Starved>
+        ensures ascends { IfOk result (λ map. IsAscending K.cmp map) }
+        ensures pairs { IfOk result (λ map. IsChanged K.cmp (C.gives change) self key.now map) }
+    {
+        let ChunkMap {
+            levels,
+            alloc,
+            count,
+        } = self;
+        let (levels, tally) = levels.changed(alloc, key, change)?;
+        let count = tally.count(count)?;
         Ok(ChunkMap {
             levels,
-            alloc: self.alloc,
+            alloc,
             count,
         })
     }

@@ -4,16 +4,17 @@ ghost use Rattle.std.specs.List.{All, flat_map};
 ghost use Rattle.std.specs.Map.{lookup};
 ghost use Rattle.std.specs.BTreeMap.{is_at};
 ghost use Rattle.std.specs.Arc.{arc_value};
-ghost use Rattle.chunk_map.specs.declared.change.Tally.TheVariants.{Same, More};
 ghost use Rattle.chunk_map.specs.Changes.{IsChanged, IsCounted};
+ghost use Rattle.chunk_map.specs.Outcomes.{StandWhole, standing};
 ghost use Rattle.chunk_map.specs.Sorted.{IsAscending, HasAny, begins_by, option_flat};
 
 use crate::change::Tally;
-use crate::parts::{changed, copied, get, join, split, three_quarters};
+use crate::parts::{change_in, copied, divide, get, join, three_quarters};
 use crate::{Change, Shared};
 use rd_base::Starved;
 use std::alloc::Global;
 use std::cmp::Ordering;
+use std::mem;
 use std::sync::Arc;
 
 /// The greatest number of pairs that a chunk keeps where each is numbers alone.
@@ -26,39 +27,15 @@ const MOST_SHARED_PAIRS: usize = 24;
 /// lowering their counts.
 pub(crate) const MOST_PARTS: usize = 12;
 
-/// A part after a change of the value at a key.
+/// What a change in place leaves where a part stands.
 #[derive(Drop)]
-pub(crate) struct Changed<P: Drop> {
-    /// The part; None where no pair is left.
-    pub(crate) first: Option<P>,
-    /// What stands behind it, where one part would be too large.
-    pub(crate) second: Option<P>,
-    /// What the change does to the number of its pairs.
-    pub(crate) tally: Tally,
-}
-
-impl<P: Drop> Changed<P> {
-    /// One part with as many pairs as before.
-    fn same(part: P) -> Changed<P>
-        ensures { result ≡ record { first = Some part; second = None; tally = Same } }
-    {
-        Changed {
-            first: Some(part),
-            second: None,
-            tally: Tally::Same,
-        }
-    }
-
-    /// Two parts, with one pair more than before.
-    fn more(first: P, second: P) -> Changed<P>
-        ensures { result ≡ record { first = Some first; second = Some second; tally = More } }
-    {
-        Changed {
-            first: Some(first),
-            second: Some(second),
-            tally: Tally::More,
-        }
-    }
+pub(crate) enum Outcome<P: Drop> {
+    /// No pair: the part is to go.
+    Gone,
+    /// The part, as it is now.
+    Kept,
+    /// The part, as it is now, and this one behind it, since one part would be too large.
+    Split(P),
 }
 
 /// A part of a map. It shows one pair or more, in ascending order of their keys. A pair is the smallest part, a list of
@@ -97,18 +74,19 @@ pub(crate) trait Part<K: Ord + Drop, V: Drop>: Drop {
         requires ascends { IsAscending K.cmp (pairs self.now) }
         ensures { option_map (λ v. v.now) result ≡ lookup (is_at (K.cmp key.now)) (pairs self.now) };
 
-    /// This part after a change of the value at this key.
+    /// Changes the value at this key: what is left where the part stands, and what that does to the number of its pairs. What
+    /// nobody else has is changed in place, and a copy comes in place of the rest.
     fn change<C: Change<V>>(
-        &self,
+        &mut self,
         alloc: Global,
         key: &K,
         change: C,
-    ) -> Result<Changed<Self>, Starved>
-        requires whole { is_whole self.now }
-        requires ascends { IsAscending K.cmp (pairs self.now) }
-        ensures pairs { IfOk result (λ changed. IsChanged K.cmp (C.gives change) (pairs self.now) key.now (option_flat pairs changed.first ++ option_flat pairs changed.second)) }
-        ensures counted { IfOk result (λ changed. IsCounted changed.tally (length (pairs self.now)) (length (option_flat pairs changed.first ++ option_flat pairs changed.second))) }
-        ensures whole { IfOk result (λ changed. IfSome changed.first is_whole × IfSome changed.second is_whole) };
+    ) -> Result<(Outcome<Self>, Tally), Starved>
+        requires whole { is_whole self.old }
+        requires ascends { IsAscending K.cmp (pairs self.old) }
+        ensures pairs { IfOk result (λ changed. IsChanged K.cmp (C.gives change) (pairs self.old) key.now (standing pairs self.new changed.0)) }
+        ensures counted { IfOk result (λ changed. IsCounted changed.1 (length (pairs self.old)) (length (standing pairs self.new changed.0))) }
+        ensures whole { IfOk result (λ changed. StandWhole is_whole self.new changed.0) };
 
     /// One part that shows the pairs of this and of the next; None where it would be too large.
     fn joined(&self, alloc: Global, next: &Self) -> Result<Option<Self>, Starved>
@@ -117,23 +95,19 @@ pub(crate) trait Part<K: Ord + Drop, V: Drop>: Drop {
         ensures whole { IfOk result (λ joined. IfSome joined is_whole) };
 }
 
-/// A pair after a change of the value at its key.
-fn changed_at<K: Ord + Shared, V: Shared, C: Change<V>>(
-    pair: &(K, V),
+/// Changes the value of a pair.
+fn change_at<K: Ord + Shared, V: Shared, C: Change<V>>(
+    pair: &mut (K, V),
     change: C,
-) -> Result<Changed<(K, V)>, Starved>
-    ensures changed { IfOk result (λ changed. (new : Option V) × C.gives change (Some pair.now.1) new × (option_flat (λ p. p ∷ []) changed.first ++ option_flat (λ p. p ∷ []) changed.second ≡ option_flat (λ v. (pair.now.0, v) ∷ []) new)) }
-    ensures counted { IfOk result (λ changed. IsCounted changed.tally 1 (length (option_flat (λ p. p ∷ []) changed.first ++ option_flat (λ p. p ∷ []) changed.second))) }
+) -> Result<(Outcome<(K, V)>, Tally), Starved>
+    ensures changed { IfOk result (λ changed. (new : Option V) × C.gives change (Some pair.old.1) new × (standing (λ p. p ∷ []) pair.new changed.0 ≡ option_flat (λ v. (pair.old.0, v) ∷ []) new)) }
+    ensures counted { IfOk result (λ changed. IsCounted changed.1 1 (length (standing (λ p. p ∷ []) pair.new changed.0))) }
 {
     match change.follow(&pair.1)? {
-        None => Ok(Changed {
-            first: None,
-            second: None,
-            tally: Tally::Fewer,
-        }),
+        None => Ok((Outcome::Gone, Tally::Fewer)),
         Some(value) => {
-            let key = pair.0.share()?;
-            Ok(Changed::same((key, value)))
+            pair.1 = value;
+            Ok((Outcome::Kept, Tally::Same))
         }
     }
 }
@@ -154,35 +128,37 @@ fn begun<K: Ord + Shared, V: Shared, C: Change<V>>(
     }
 }
 
-/// A pair after a change of the value at a key before its own.
-fn changed_before<K: Ord + Shared, V: Shared, C: Change<V>>(
-    pair: &(K, V),
+/// Changes the value at a key before that of a pair.
+fn change_before<K: Ord + Shared, V: Shared, C: Change<V>>(
+    pair: &mut (K, V),
     key: &K,
     change: C,
-) -> Result<Changed<(K, V)>, Starved>
-    ensures changed { IfOk result (λ changed. (new : Option V) × C.gives change None new × (option_flat (λ p. p ∷ []) changed.first ++ option_flat (λ p. p ∷ []) changed.second ≡ option_flat (λ v. (key.now, v) ∷ []) new ++ (pair.now ∷ []))) }
-    ensures counted { IfOk result (λ changed. IsCounted changed.tally 1 (length (option_flat (λ p. p ∷ []) changed.first ++ option_flat (λ p. p ∷ []) changed.second))) }
+) -> Result<(Outcome<(K, V)>, Tally), Starved>
+    ensures changed { IfOk result (λ changed. (new : Option V) × C.gives change None new × (standing (λ p. p ∷ []) pair.new changed.0 ≡ option_flat (λ v. (key.now, v) ∷ []) new ++ (pair.old ∷ []))) }
+    ensures counted { IfOk result (λ changed. IsCounted changed.1 1 (length (standing (λ p. p ∷ []) pair.new changed.0))) }
 {
-    let old = (pair.0.share()?, pair.1.share()?);
     match begun(key, change)? {
-        None => Ok(Changed::same(old)),
-        Some(new) => Ok(Changed::more(new, old)),
+        None => Ok((Outcome::Kept, Tally::Same)),
+        Some(new) => {
+            let old = mem::replace(pair, new);
+            Ok((Outcome::Split(old), Tally::More))
+        }
     }
 }
 
-/// A pair after a change of the value at a key behind its own.
-fn changed_behind<K: Ord + Shared, V: Shared, C: Change<V>>(
-    pair: &(K, V),
+/// Changes the value at a key behind that of a pair.
+fn change_behind<K: Ord + Shared, V: Shared, C: Change<V>>(
+    pair: &mut (K, V),
     key: &K,
     change: C,
-) -> Result<Changed<(K, V)>, Starved>
-    ensures changed { IfOk result (λ changed. (new : Option V) × C.gives change None new × (option_flat (λ p. p ∷ []) changed.first ++ option_flat (λ p. p ∷ []) changed.second ≡ pair.now ∷ option_flat (λ v. (key.now, v) ∷ []) new)) }
-    ensures counted { IfOk result (λ changed. IsCounted changed.tally 1 (length (option_flat (λ p. p ∷ []) changed.first ++ option_flat (λ p. p ∷ []) changed.second))) }
+) -> Result<(Outcome<(K, V)>, Tally), Starved>
+    ensures changed { IfOk result (λ changed. (new : Option V) × C.gives change None new × (standing (λ p. p ∷ []) pair.new changed.0 ≡ pair.old ∷ option_flat (λ v. (key.now, v) ∷ []) new)) }
+    ensures counted { IfOk result (λ changed. IsCounted changed.1 1 (length (standing (λ p. p ∷ []) pair.new changed.0))) }
 {
-    let old = (pair.0.share()?, pair.1.share()?);
+    let _ = &pair.0;
     match begun(key, change)? {
-        None => Ok(Changed::same(old)),
-        Some(new) => Ok(Changed::more(old, new)),
+        None => Ok((Outcome::Kept, Tally::Same)),
+        Some(new) => Ok((Outcome::Split(new), Tally::More)),
     }
 }
 
@@ -223,15 +199,15 @@ impl<K: Ord + Shared, V: Shared> Part<K, V> for (K, V) {
     }
 
     fn change<C: Change<V>>(
-        &self,
+        &mut self,
         _: Global,
         key: &K,
         change: C,
-    ) -> Result<Changed<(K, V)>, Starved> {
+    ) -> Result<(Outcome<(K, V)>, Tally), Starved> {
         match key.cmp(&self.0) {
-            Ordering::Less => changed_before(self, key, change),
-            Ordering::Equal => changed_at(self, change),
-            Ordering::Greater => changed_behind(self, key, change),
+            Ordering::Less => change_before(self, key, change),
+            Ordering::Equal => change_at(self, change),
+            Ordering::Greater => change_behind(self, key, change),
         }
     }
 
@@ -240,20 +216,20 @@ impl<K: Ord + Shared, V: Shared> Part<K, V> for (K, V) {
     }
 }
 
-/// What is shared of the part, where there is one.
+/// What is left where a part stands, of what is shared of it.
 fn shared<K: Ord + Drop, V: Drop, P: Part<K, V>>(
     alloc: Global,
-    part: Option<P>,
-) -> Result<Option<Arc<P>>, Starved>
-    requires { IfSome part P.is_whole }
-    ensures pairs { IfOk result (λ shared. option_flat (λ a. P.pairs (arc_value a)) shared ≡ option_flat P.pairs part) }
-    ensures whole { IfOk result (λ shared. IfSome shared (λ a. P.is_whole (arc_value a))) }
+    outcome: Outcome<P>,
+) -> Result<Outcome<Arc<P>>, Starved>
+    ensures pairs { IfOk result (λ shared. (a : Arc P Global) → standing (λ b. P.pairs (arc_value b)) a shared ≡ standing P.pairs (arc_value a) outcome) }
+    ensures whole { IfOk result (λ shared. (a : Arc P Global) → StandWhole P.is_whole (arc_value a) outcome → StandWhole (λ b. P.is_whole (arc_value b)) a shared) }
 {
-    match part {
-        None => Ok(None),
-        Some(part) => {
-            let part = Arc::new(alloc, part)?;
-            Ok(Some(part))
+    match outcome {
+        Outcome::Gone => Ok(Outcome::Gone),
+        Outcome::Kept => Ok(Outcome::Kept),
+        Outcome::Split(behind) => {
+            let behind = Arc::new(alloc, behind)?;
+            Ok(Outcome::Split(behind))
         }
     }
 }
@@ -288,24 +264,22 @@ impl<K: Ord + Drop, V: Drop, P: Part<K, V>> Part<K, V> for Arc<P> {
     }
 
     fn change<C: Change<V>>(
-        &self,
+        &mut self,
         alloc: Global,
         key: &K,
         change: C,
-    ) -> Result<Changed<Arc<P>>, Starved> {
+    ) -> Result<(Outcome<Arc<P>>, Tally), Starved> {
+        if let Some(part) = Arc::get_mut(self) {
+            let (outcome, tally) = part.change(alloc, key, change)?;
+            let outcome = shared(alloc, outcome)?;
+            return Ok((outcome, tally));
+        }
         let part: &P = &**self;
-        let Changed {
-            first,
-            second,
-            tally,
-        } = part.change(alloc, key, change)?;
-        let first = shared(alloc, first)?;
-        let second = shared(alloc, second)?;
-        Ok(Changed {
-            first,
-            second,
-            tally,
-        })
+        let mut copy = part.again()?;
+        let (outcome, tally) = copy.change(alloc, key, change)?;
+        *self = Arc::new(alloc, copy)?;
+        let outcome = shared(alloc, outcome)?;
+        Ok((outcome, tally))
     }
 
     fn joined(&self, alloc: Global, next: &Arc<P>) -> Result<Option<Arc<P>>, Starved> {
@@ -350,25 +324,19 @@ impl<K: Ord + Drop, V: Drop, P: Part<K, V>> Part<K, V> for Vec<P> {
     }
 
     fn change<C: Change<V>>(
-        &self,
+        &mut self,
         alloc: Global,
         key: &K,
         change: C,
-    ) -> Result<Changed<Vec<P>>, Starved> {
-        let (parts, tally) = changed(alloc, self.as_slice(), key, change)?;
-        if parts.is_empty() {
-            return Ok(Changed {
-                first: None,
-                second: None,
-                tally,
-            });
+    ) -> Result<(Outcome<Vec<P>>, Tally), Starved> {
+        let tally = change_in(alloc, self, key, change)?;
+        if self.is_empty() {
+            return Ok((Outcome::Gone, tally));
         }
-        let (first, second) = split(parts, key)?;
-        Ok(Changed {
-            first: Some(first),
-            second,
-            tally,
-        })
+        match divide(self, key)? {
+            None => Ok((Outcome::Kept, tally)),
+            Some(behind) => Ok((Outcome::Split(behind), tally)),
+        }
     }
 
     fn joined(&self, alloc: Global, next: &Vec<P>) -> Result<Option<Vec<P>>, Starved> {

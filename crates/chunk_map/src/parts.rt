@@ -1,5 +1,5 @@
 //! Lists of parts: the parts of a chunk, of a group, of a section and of a map.
-ghost use Rattle.std.specs.Prelude.{◌≡◌, ◌<◌, ◌≤◌, ◌+◌, List, [], ◌∷◌, ◌++◌, length, take, drop, IfOk, OnOk, IfSome, IfNone, option_map};
+ghost use Rattle.std.specs.Prelude.{◌≡◌, ◌<◌, ◌≤◌, ◌+◌, List, [], ◌∷◌, ◌++◌, length, take, drop, slice_index_or, IfOk, OnOk, IfSome, IfNone, option_map};
 ghost use Rattle.std.specs.List.{All, flat_map};
 ghost use Rattle.std.specs.Map.{lookup, remove_entry};
 ghost use Rattle.std.specs.BTreeMap.{insert_entry, is_at};
@@ -7,10 +7,11 @@ ghost use Rattle.std.specs.BTreeMap.Range.{entries_from};
 ghost use Rattle.chunk_map.specs.Changes.{IsChanged, IsCounted};
 ghost use Rattle.chunk_map.specs.Sorted.{IsAscending, AllGreater, AllLess, option_flat};
 ghost use Rattle.chunk_map.specs.Groups.{list_pairs, IsWholeList};
+ghost use Rattle.chunk_map.specs.Outcomes.{StandWhole, standing};
 
 use crate::Change;
 use crate::change::Tally;
-use crate::part::{Changed, Part};
+use crate::part::{Outcome, Part};
 use rd_base::Starved;
 use std::alloc::Global;
 use std::sync::Arc;
@@ -67,24 +68,7 @@ fn append<K: Ord + Drop, V: Drop, P: Part<K, V>>(
     Ok(())
 }
 
-/// Appends the part, where there is one.
-fn append_some<K: Ord + Drop, V: Drop, P: Part<K, V>>(
-    parts: &mut Vec<P>,
-    part: Option<P>,
-) -> Result<(), Starved>
-    requires whole { All P.is_whole parts.old.items }
-    requires part_whole { IfSome part P.is_whole }
-    ensures pairs { OnOk result (flat_map P.pairs parts.new.items ≡ flat_map P.pairs parts.old.items ++ option_flat P.pairs part) }
-    ensures whole { OnOk result (All P.is_whole parts.new.items) }
-    ensures length { OnOk result (length parts.old.items + length (option_flat (λ p. p ∷ []) part) ≡ length parts.new.items) }
-{
-    match part {
-        None => Ok(()),
-        Some(part) => Ok(parts.push(part)?),
-    }
-}
-
-/// Parts that show the same pairs as these, one for each.
+/// Parts that show the same pairs as these, one for each, with room for one more.
 pub(crate) fn copied<K: Ord + Drop, V: Drop, P: Part<K, V>>(
     alloc: Global,
     parts: &[P],
@@ -94,7 +78,7 @@ pub(crate) fn copied<K: Ord + Drop, V: Drop, P: Part<K, V>>(
     ensures whole { IfOk result (λ copy. All P.is_whole copy.items) }
     ensures length { IfOk result (λ copy. length copy.items ≡ length parts.now) }
 {
-    let mut copy = Vec::with_capacity(alloc, parts.len())?;
+    let mut copy = Vec::with_capacity(alloc, usize::saturating_add(parts.len(), 1))?;
     append(&mut copy, parts)?;
     Ok(copy)
 }
@@ -172,147 +156,118 @@ pub(crate) fn get<'a, K: Ord + Drop, V: Drop, P: Part<K, V>>(
     parts[at].get(key)
 }
 
-/// Joins a part with the last of those before it, where the two are small: what is left before it, and the part.
-fn join_front<'a, K: Ord + Drop, V: Drop, P: Part<K, V>>(
+/// Joins the part at this index with the next, where there is one and the two are small.
+fn join_next<K: Ord + Drop, V: Drop, P: Part<K, V>>(
     alloc: Global,
-    front: &'a [P],
-    part: Option<P>,
-) -> Result<(&'a [P], Option<P>), Starved>
-    requires whole { All P.is_whole front.now }
-    requires part_whole { IfSome part P.is_whole }
-    ensures pairs { IfOk result (λ joined. flat_map P.pairs joined.0.now ++ option_flat P.pairs joined.1 ≡ flat_map P.pairs front.now ++ option_flat P.pairs part) }
-    ensures whole { IfOk result (λ joined. All P.is_whole joined.0.now) }
-    ensures part_whole { IfOk result (λ joined. IfSome joined.1 P.is_whole) }
+    parts: &mut Vec<P>,
+    at: usize,
+) -> Result<(), Starved>
+    requires whole { All P.is_whole parts.old.items }
+    ensures pairs { OnOk result (flat_map P.pairs parts.new.items ≡ flat_map P.pairs parts.old.items) }
+    ensures whole { OnOk result (All P.is_whole parts.new.items) }
 {
-    let Some(part) = part else {
-        return Ok((front, None));
-    };
-    let Some((last, before)) = front.split_last() else {
-        return Ok((front, Some(part)));
-    };
-    match last.joined(alloc, &part)? {
-        None => Ok((front, Some(part))),
-        Some(joined) => Ok((before, Some(joined))),
+    let count = parts.len();
+    if count <= 1 || at >= count - 1 {
+        return Ok(());
     }
-}
-
-/// Joins a part with the first of those after it, where the two are small: the part, and what is left after it.
-fn join_behind<'a, K: Ord + Drop, V: Drop, P: Part<K, V>>(
-    alloc: Global,
-    part: Option<P>,
-    behind: &'a [P],
-) -> Result<(Option<P>, &'a [P]), Starved>
-    requires whole { All P.is_whole behind.now }
-    requires part_whole { IfSome part P.is_whole }
-    ensures pairs { IfOk result (λ joined. option_flat P.pairs joined.0 ++ flat_map P.pairs joined.1.now ≡ option_flat P.pairs part ++ flat_map P.pairs behind.now) }
-    ensures whole { IfOk result (λ joined. All P.is_whole joined.1.now) }
-    ensures part_whole { IfOk result (λ joined. IfSome joined.0 P.is_whole) }
-{
-    let Some(part) = part else {
-        return Ok((None, behind));
-    };
-    let Some((next, after)) = behind.split_first() else {
-        return Ok((Some(part), behind));
-    };
-    match part.joined(alloc, next)? {
-        None => Ok((Some(part), behind)),
-        Some(joined) => Ok((Some(joined), after)),
-    }
-}
-
-/// Joins a part with the first of those after it, unless there is a second part between them: the part, the second part,
-/// and what is left after them.
-fn join_last<'a, K: Ord + Drop, V: Drop, P: Part<K, V>>(
-    alloc: Global,
-    part: Option<P>,
-    second: Option<P>,
-    behind: &'a [P],
-) -> Result<(Option<P>, Option<P>, &'a [P]), Starved>
-    requires whole { All P.is_whole behind.now }
-    requires part_whole { IfSome part P.is_whole × IfSome second P.is_whole }
-    ensures pairs { IfOk result (λ joined. option_flat P.pairs joined.0 ++ (option_flat P.pairs joined.1 ++ flat_map P.pairs joined.2.now) ≡ option_flat P.pairs part ++ (option_flat P.pairs second ++ flat_map P.pairs behind.now)) }
-    ensures whole { IfOk result (λ joined. All P.is_whole joined.2.now) }
-    ensures part_whole { IfOk result (λ joined. IfSome joined.0 P.is_whole × IfSome joined.1 P.is_whole) }
-{
-    match second {
-        Some(second) => Ok((part, Some(second), behind)),
-        None => {
-            let (part, behind) = join_behind(alloc, part, behind)?;
-            Ok((part, None, behind))
+    match parts[at].joined(alloc, &parts[at + 1])? {
+        None => Ok(()),
+        Some(joined) => {
+            parts.remove(at + 1);
+            parts[at] = joined;
+            Ok(())
         }
     }
 }
 
-/// The parts before, a part and a second one, where they are there, and the parts behind, in one list: small ones that stand
-/// side by side are joined.
-fn assembled<K: Ord + Drop, V: Drop, P: Part<K, V>>(
+/// Joins the part at this index with the one before it, where there is one and the two are small.
+fn join_before<K: Ord + Drop, V: Drop, P: Part<K, V>>(
     alloc: Global,
-    front: &[P],
-    first: Option<P>,
-    second: Option<P>,
-    behind: &[P],
-) -> Result<Vec<P>, Starved>
-    requires front_whole { All P.is_whole front.now }
-    requires whole { IfSome first P.is_whole × IfSome second P.is_whole }
-    requires behind_whole { All P.is_whole behind.now }
-    ensures pairs { IfOk result (λ list. flat_map P.pairs list.items ≡ flat_map P.pairs front.now ++ ((option_flat P.pairs first ++ option_flat P.pairs second) ++ flat_map P.pairs behind.now)) }
-    ensures whole { IfOk result (λ list. All P.is_whole list.items) }
+    parts: &mut Vec<P>,
+    at: usize,
+) -> Result<(), Starved>
+    requires whole { All P.is_whole parts.old.items }
+    ensures pairs { OnOk result (flat_map P.pairs parts.new.items ≡ flat_map P.pairs parts.old.items) }
+    ensures whole { OnOk result (All P.is_whole parts.new.items) }
 {
-    let count = usize::saturating_add(front.len(), behind.len());
-    let (front, first) = join_front(alloc, front, first)?;
-    let (first, second, behind) = join_last(alloc, first, second, behind)?;
-    let mut list = Vec::with_capacity(alloc, usize::saturating_add(count, 2))?;
-    append(&mut list, front)?;
-    append_some(&mut list, first)?;
-    append_some(&mut list, second)?;
-    append(&mut list, behind)?;
-    Ok(list)
+    if at == 0 {
+        return Ok(());
+    }
+    join_next(alloc, parts, at - 1)
 }
 
-/// The one part of a map that had none, after a change of the value at this key; none where there is no value then.
-fn changed_none<K: Ord + Drop, V: Drop, P: Part<K, V>, C: Change<V>>(
+/// Puts what is left where the part at this index stands: small parts that stand side by side are joined.
+fn settle<K: Ord + Drop, V: Drop, P: Part<K, V>>(
     alloc: Global,
+    parts: &mut Vec<P>,
+    at: usize,
+    outcome: Outcome<P>,
+) -> Result<(), Starved>
+    requires bound { at < length parts.old.items }
+    requires front { All P.is_whole (take at parts.old.items) }
+    requires part { (d : P) → StandWhole P.is_whole (slice_index_or parts.old.items at d) outcome }
+    requires behind { All P.is_whole (drop (at + 1) parts.old.items) }
+    ensures pairs { OnOk result ((d : P) → flat_map P.pairs parts.new.items ≡ flat_map P.pairs (take at parts.old.items) ++ (standing P.pairs (slice_index_or parts.old.items at d) outcome ++ flat_map P.pairs (drop (at + 1) parts.old.items))) }
+    ensures whole { OnOk result (All P.is_whole parts.new.items) }
+{
+    match outcome {
+        Outcome::Gone => {
+            parts.remove(at);
+            Ok(())
+        }
+        Outcome::Kept => {
+            join_next(alloc, parts, at)?;
+            join_before(alloc, parts, at)
+        }
+        Outcome::Split(behind) => {
+            parts.insert(at + 1, behind)?;
+            join_before(alloc, parts, at)
+        }
+    }
+}
+
+/// Gives a list that has no part its first one, where the change of the value at this key brings a value.
+fn begin_in<K: Ord + Drop, V: Drop, P: Part<K, V>, C: Change<V>>(
+    alloc: Global,
+    parts: &mut Vec<P>,
     key: &K,
     change: C,
-) -> Result<(Vec<P>, Tally), Starved>
-    ensures pairs { IfOk result (λ changed. IsChanged K.cmp (C.gives change) [] key.now (flat_map P.pairs changed.0.items)) }
-    ensures counted { IfOk result (λ changed. IsCounted changed.1 0 (length (flat_map P.pairs changed.0.items))) }
-    ensures whole { IfOk result (λ changed. All P.is_whole changed.0.items) }
+) -> Result<Tally, Starved>
+    requires none { parts.old.items ≡ [] }
+    ensures pairs { OnOk result (IsChanged K.cmp (C.gives change) [] key.now (flat_map P.pairs parts.new.items)) }
+    ensures counted { IfOk result (λ tally. IsCounted tally 0 (length (flat_map P.pairs parts.new.items))) }
+    ensures whole { OnOk result (All P.is_whole parts.new.items) }
 {
-    let mut changed = Vec::new(alloc);
     match change.begin()? {
-        None => Ok((changed, Tally::Same)),
+        None => Ok(Tally::Same),
         Some(value) => {
-            changed.push(P::one(alloc, key, value)?)?;
-            Ok((changed, Tally::More))
+            parts.push(P::one(alloc, key, value)?)?;
+            Ok(Tally::More)
         }
     }
 }
 
-/// Parts that show the pairs of these after a change of the value at this key, and what it does to their number.
-pub(crate) fn changed<K: Ord + Drop, V: Drop, P: Part<K, V>, C: Change<V>>(
+/// Changes the value at this key in these parts: what that does to the number of their pairs. What nobody else has is changed
+/// in place, and a copy comes in place of the rest.
+pub(crate) fn change_in<K: Ord + Drop, V: Drop, P: Part<K, V>, C: Change<V>>(
     alloc: Global,
-    parts: &[P],
+    parts: &mut Vec<P>,
     key: &K,
     change: C,
-) -> Result<(Vec<P>, Tally), Starved>
-    requires whole { All P.is_whole parts.now }
-    requires ascends { IsAscending K.cmp (flat_map P.pairs parts.now) }
-    ensures pairs { IfOk result (λ changed. IsChanged K.cmp (C.gives change) (flat_map P.pairs parts.now) key.now (flat_map P.pairs changed.0.items)) }
-    ensures counted { IfOk result (λ changed. IsCounted changed.1 (length (flat_map P.pairs parts.now)) (length (flat_map P.pairs changed.0.items))) }
-    ensures whole { IfOk result (λ changed. All P.is_whole changed.0.items) }
+) -> Result<Tally, Starved>
+    requires whole { All P.is_whole parts.old.items }
+    requires ascends { IsAscending K.cmp (flat_map P.pairs parts.old.items) }
+    ensures pairs { OnOk result (IsChanged K.cmp (C.gives change) (flat_map P.pairs parts.old.items) key.now (flat_map P.pairs parts.new.items)) }
+    ensures counted { IfOk result (λ tally. IsCounted tally (length (flat_map P.pairs parts.old.items)) (length (flat_map P.pairs parts.new.items))) }
+    ensures whole { OnOk result (All P.is_whole parts.new.items) }
 {
     if parts.is_empty() {
-        return changed_none(alloc, key, change);
+        return begin_in(alloc, parts, key, change);
     }
-    let at = find(parts, key);
-    let Changed {
-        first,
-        second,
-        tally,
-    } = parts[at].change(alloc, key, change)?;
-    let changed = assembled(alloc, &parts[..at], first, second, &parts[at + 1..])?;
-    Ok((changed, tally))
+    let at = find(parts.as_slice(), key);
+    let (outcome, tally) = parts[at].change(alloc, key, change)?;
+    settle(alloc, parts, at, outcome)?;
+    Ok(tally)
 }
 
 /// How many parts the first list keeps when a list with more than so many is split in two after a change of the value at
@@ -331,22 +286,23 @@ fn front_count<K: Ord + Drop, V: Drop, P: Part<K, V>>(parts: &[P], most: usize, 
     }
 }
 
-/// The parts in one list, or in two where they are too many for one, after a change of the value at this key.
-pub(crate) fn split<K: Ord + Drop, V: Drop, P: Part<K, V>>(
-    mut parts: Vec<P>,
+/// Leaves of these parts what one list keeps, after a change of the value at this key: the parts behind, where they are too
+/// many for one.
+pub(crate) fn divide<K: Ord + Drop, V: Drop, P: Part<K, V>>(
+    parts: &mut Vec<P>,
     key: &K,
-) -> Result<(Vec<P>, Option<Vec<P>>), Starved>
-    requires any { 0 < length parts.items }
-    requires whole { All P.is_whole parts.items }
-    ensures pairs { IfOk result (λ split. flat_map P.pairs split.0.items ++ option_flat (λ back. flat_map P.pairs back.items) split.1 ≡ flat_map P.pairs parts.items) }
-    ensures any { IfOk result (λ split. (0 < length split.0.items) × IfSome split.1 (λ back. 0 < length back.items)) }
-    ensures whole { IfOk result (λ split. All P.is_whole split.0.items × IfSome split.1 (λ back. All P.is_whole back.items)) }
+) -> Result<Option<Vec<P>>, Starved>
+    requires any { 0 < length parts.old.items }
+    requires whole { All P.is_whole parts.old.items }
+    ensures pairs { IfOk result (λ behind. flat_map P.pairs parts.new.items ++ option_flat (λ back. flat_map P.pairs back.items) behind ≡ flat_map P.pairs parts.old.items) }
+    ensures any { IfOk result (λ behind. (0 < length parts.new.items) × IfSome behind (λ back. 0 < length back.items)) }
+    ensures whole { IfOk result (λ behind. All P.is_whole parts.new.items × IfSome behind (λ back. All P.is_whole back.items)) }
 {
     let most = P::most();
     if parts.len() <= most {
-        return Ok((parts, None));
+        return Ok(None);
     }
     let count = front_count(parts.as_slice(), most, key);
-    let back = parts.split_off(count)?;
-    Ok((parts, Some(back)))
+    let behind = parts.split_off(count)?;
+    Ok(Some(behind))
 }

@@ -53,7 +53,7 @@ fn with_pairs(
     let mut after = index;
     let mut left = pairs;
     'pairs: while let Some((pair, more)) = left.split_first() {
-        after = after.put(alloc, pair, number)?;
+        after = after.with(alloc, pair, number)?;
         left = more;
     }
     Ok(after)
@@ -73,7 +73,7 @@ fn without_pairs(
     let mut after = index;
     let mut left = pairs;
     'pairs: while let Some((pair, more)) = left.split_first() {
-        after = after.take(alloc, pair, number)?;
+        after = after.without(alloc, pair, number)?;
         left = more;
     }
     Ok(after)
@@ -119,6 +119,25 @@ fn without_links(
     Ok(after)
 }
 
+/// This index with a record: with every attribute by which one of its links or its endpoint can match by itself. `Starved`:
+/// out of memory.
+fn with_record(
+    alloc: Global,
+    index: AttributeIndex,
+    record_of: &Record,
+) -> Result<AttributeIndex, Starved>
+    requires { IsAscending index }
+    ensures entries { IfOk result (λ after. (e : Entry) → has_entry after e ≡ (has_entry index e || has_entry (record_entries record_of.now) e)) }
+    ensures ascends { IfOk result (λ after. IsAscending after) }
+{
+    let own = own_attributes(alloc, record_of)?;
+    let number = record_of.number;
+    let index = with_pairs(alloc, index, own.as_slice(), number)?;
+    let index = with_pairs(alloc, index, record_of.attrs.as_slice(), number)?;
+    let index = with_links(alloc, index, record_of.items.as_slice(), number)?;
+    Ok(index)
+}
+
 /// The index with a record: with every attribute by which one of its links or its endpoint can match by itself. `Starved`:
 /// out of memory.
 pub(crate) fn index_with(
@@ -129,12 +148,9 @@ pub(crate) fn index_with(
     ensures entries { IfOk result (λ after. (e : Entry) → has_entry after e ≡ (has_entry index.now e || has_entry (record_entries record_of.now) e)) }
     ensures ascends { IfOk result (λ after. IsAscending after) }
 {
-    let own = own_attributes(alloc, record_of)?;
-    let number = record_of.number;
-    let index = with_pairs(alloc, index.share(alloc)?, own.as_slice(), number)?;
-    let index = with_pairs(alloc, index, record_of.attrs.as_slice(), number)?;
-    let index = with_links(alloc, index, record_of.items.as_slice(), number)?;
-    Ok(index)
+    let shared = index.share(alloc)?;
+    let after = with_record(alloc, shared, record_of)?;
+    Ok(after)
 }
 
 /// The index without a record. `Starved`: out of memory.
@@ -199,5 +215,5 @@ pub(crate) fn index_renewed(
         return index.share(alloc);
     }
     let left = index_without(alloc, index, old)?;
-    index_with(alloc, &left, new)
+    with_record(alloc, left, new)
 }

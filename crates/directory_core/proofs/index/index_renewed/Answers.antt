@@ -18,4 +18,4 @@ returns c records up found are =
     let old = c.args.old.now in
     let new = c.args.new.now in
     let there : numbered new.number records ≡ Some old = ap (λ n. numbered n records) c.requires.numbered ∙ found in
-    ok_renewed c.index_with.result records new old c.args.index.now c.in_ok-left.left up there are c.in_ok-left.ensures.entries c.in_ok-left.ensures.ascends c.index_with.ensures.entries c.index_with.ensures.ascends
+    ok_renewed c.with_record.result records new old c.args.index.now c.in_ok-left.left up there are c.in_ok-left.ensures.entries c.in_ok-left.ensures.ascends c.with_record.ensures.entries c.with_record.ensures.ascends
