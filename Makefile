@@ -1,7 +1,7 @@
 # What a newcomer needs: `make demo` shows a trace as a conversation, `make serve` starts the server, `make build` makes the proved programs,
 # `make clients` runs real clients against the server, `make hostile` sends it hostile datagrams and refuses memory, `make soak` judges its answers
-# under mixed load, `make examples` runs all stored cases, the examples among them, `make bench` measures what calls and the server cost, `make test`
-# is the gate.
+# under mixed load, `make examples` runs all stored cases, the examples among them, `make bench` measures what calls, a replay and the server cost,
+# `make test` is the gate.
 PROGRAMS = rd_serve rd_replay rd_show rd_capture rd_rows
 
 # The numbers of workers with which `make clients` runs the server.
@@ -59,6 +59,7 @@ bench: build-rd_serve
 	@bin/rd_bench > /dev/null
 	@bin/seat_bench > /dev/null
 	@python3 bench/traces.py bin/rd_replay
+	@python3 bench/plain.py bin/rd_replay
 	@python3 bench/serve.py bin/rd_serve
 
 test:
