@@ -111,12 +111,13 @@ stands-IsHistoryOfHall rows desk it = record {
 -- whenever the turn is free, the rule has the desk at home
 pub halls_hold_history : HallsHoldHistory
 halls_hold_history name s kept free =
-    let home : IsHome (λ (rows : List Row) (shared : SharedDesk). StandsAtTurn rows shared.desk)
-    (λ (r : Row). r.step.worker) (λ (shared : SharedDesk). shared.desk.board.name) name
+    let home : IsHome
+    (λ (rows : List Row) (shared : SharedDesk). StandsAtTurn rows shared.desk.value)
+    (λ (r : Row). r.step.worker) (λ (shared : SharedDesk). shared.desk.value.board.name) name
     kept.history s.homes = kept.home free in
     record {
       shared = home.value;
       home = home.home;
       history =
-          stands-IsHistoryOfHall kept.history home.value.desk home.stands_for;
+          stands-IsHistoryOfHall kept.history home.value.desk.value home.stands_for;
     }

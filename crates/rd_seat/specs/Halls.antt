@@ -31,15 +31,15 @@ pub record IsHistoryOfHall (rows : List Row) (desk : Shown PublisherSeen) : Type
 
 -- what the rule of the turn holds of a hall between any two steps on the lock's word and slot
 abbrev pub KeptByHall : List ℕ → State (Option SharedDesk) (View Row (List ℕ)) → Type 0
-KeptByHall name s = Kept (λ rows shared. StandsAtTurn rows shared.desk) (λ r. r.step.worker)
-    (λ shared. shared.desk.board.name) name s
+KeptByHall name s = Kept (λ rows shared. StandsAtTurn rows shared.desk.value)
+    (λ r. r.step.worker) (λ shared. shared.desk.value.board.name) name s
 
 -- the desk lies behind the turn, and stands for these rows, which are one history of the hall
 pub record HoldsHistory (rows : List Row) (s : State (Option SharedDesk) (View Row (List ℕ)))
     : Type 0 where
   pub shared : SharedDesk
   pub home : get_elem? s.homes 0 ≡ some (some (Some shared))
-  pub history : IsHistoryOfHall rows shared.desk
+  pub history : IsHistoryOfHall rows shared.desk.value
 
 -- Whenever the turn is free, the desk behind it stands for one such history.
 abbrev pub HallsHoldHistory : Type 0

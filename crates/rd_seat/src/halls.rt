@@ -18,7 +18,7 @@ use std::alloc::Global;
 use std::marker::Model;
 use std::sync::{Arc, Wait};
 use turn_lock::{Ended, Passes, TurnLock};
-use version_board::{Lookers, board};
+use version_board::{Lookers, Publisher, board};
 
 /// A directory that workers share, each by a seat of its own. Contracts see which hall it is. It
 /// cannot be dropped: `end` ends it.
@@ -38,7 +38,20 @@ impl Model for Hall {
 /// A desk that nobody shares any more ends with its board.
 fn end_shared<R: Wait>(rt: &R, shared: SharedDesk) {
     let SharedDesk { desk } = shared;
-    desk.into_board().end(rt);
+    Box::into_inner(desk).into_board().end(rt);
+}
+
+/// A desk that is to be shared. Where no memory is found its board ends.
+fn shared<R: Wait>(alloc: Global, rt: &R, desk: Desk<Publisher>) -> Result<SharedDesk, Starved>
+    ensures { IfOk result (λ shared. shared.desk.value ≡ desk) }
+{
+    match Box::new(alloc, desk) {
+        Ok(desk) => Ok(SharedDesk { desk }),
+        Err(unmade) => {
+            unmade.value.into_board().end(rt);
+            Err(Starved)
+        }
+    }
 }
 
 /// The desk of a new hall, and a looker for each worker.
@@ -48,15 +61,15 @@ fn shared_desk<R: Wait>(
     workers: u32,
 ) -> Result<(SharedDesk, Lookers), Starved>
     requires workers { (1 ≤ workers) × (workers ≤ 16) }
-    ensures stands { IfOk result (λ made. StandsAtTurn [] made.0.desk) }
+    ensures stands { IfOk result (λ made. StandsAtTurn [] made.0.desk.value) }
     ensures lookers { IfOk result (λ made.
-        made.1 ≡ replicate workers (new_looker made.0.desk.board.name)) }
+        made.1 ≡ replicate workers (new_looker made.0.desk.value.board.name)) }
 {
     let empty = Directory::empty(alloc, 0)?;
     let first = Arc::new(alloc, empty)?;
     let (publisher, lookers) = board(alloc, rt, workers, first)?;
     match Desk::make_or_return(alloc, publisher) {
-        Ok(desk) => Ok((SharedDesk { desk }, lookers)),
+        Ok(desk) => Ok((shared(alloc, rt, desk)?, lookers)),
         Err(unmade) => {
             unmade.board.end(rt);
             Err(Starved)

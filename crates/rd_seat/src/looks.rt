@@ -29,16 +29,19 @@ impl Share {
             (is_starved_look result) out.new (answer_held result) self.new }
         ensures job { IsJobOf peer datagram.now result }
     {
-        let Ok(version) = self.looker.look() else {
+        let Ok(()) = self.looker.refresh() else {
             self.last = now.later(self.last);
             look_starved(&mut self.mids, peer, datagram, out);
             return Looked::Starved;
+        };
+        let Some(version) = self.looker.version() else {
+            unreachable!()
         };
         let moment = now.later(self.last).later(version.at());
         self.last = moment;
         look(
             self.alloc,
-            &version,
+            version,
             moment,
             &mut self.mids,
             peer,

@@ -8,8 +8,8 @@ use version_board::Publisher;
 /// A desk over the board of its hall. It lies behind the turn, and cannot be dropped: a hall ends
 /// it.
 pub struct SharedDesk {
-    /// The desk.
-    pub(crate) desk: Desk<Publisher>,
+    /// The desk. It is moved at each turn, so it lies behind a pointer.
+    pub(crate) desk: Box<Desk<Publisher>>,
 }
 
 impl Replays for SharedDesk {
@@ -20,9 +20,9 @@ impl Replays for SharedDesk {
 
     ghost use Rattle.rd_seat.specs.Turns.{StandsAtTurn};
 
-    ghost stands = { λ rows shared. StandsAtTurn rows shared.desk };
+    ghost stands = { λ rows shared. StandsAtTurn rows shared.desk.value };
 
     ghost number = { λ row. row.step.worker };
 
-    ghost label = { λ shared. shared.desk.board.name };
+    ghost label = { λ shared. shared.desk.value.board.name };
 }

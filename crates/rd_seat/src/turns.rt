@@ -25,7 +25,7 @@ pub(crate) fn begin<R: Wait>(
     requires idle { is_holding pass.old ≡ false }
     requires own { mine_of pass.old ≡ rows_of (number_of pass.old) (seen_of pass.old) }
     requires board { looker.old.name ≡ label_of pass.old }
-    ensures { HasBegun pass.old pass.new looker.old looker.new result.desk }
+    ensures { HasBegun pass.old pass.new looker.old looker.new result.desk.value }
 {
     let mut shared = lock.take(rt, pass);
     meet(looker, &mut shared.desk);
@@ -45,10 +45,10 @@ pub(crate) fn end<S: Added<Row>, E: Entering, R: Wait, P>(
     requires lock { lock_of pass.old ≡ id_of lock.now }
     requires holding { is_holding pass.old ≡ true }
     requires board { looker.old.name ≡ label_of pass.old }
-    requires label { shared.desk.board.name ≡ label_of pass.old }
+    requires label { shared.desk.value.board.name ≡ label_of pass.old }
     requires added { IsSome S.added }
     requires stepped { IfSome S.added (λ row.
-        HasStepped E.entered row (number_of pass.old) (seen_of pass.old) shared.desk) }
+        HasStepped E.entered row (number_of pass.old) (seen_of pass.old) shared.desk.value) }
     ensures { IfSome S.added (λ row. HasEnded row pass.old pass.new looker.old looker.new) }
 {
     let mut shared = shared;

@@ -1,5 +1,5 @@
 -- What contracts see of the ends of a board.
-use Rattle.std.specs.Prelude.{ℕ, List, [], Option}
+use Rattle.std.specs.Prelude.{ℕ, Bool, false, List, [], Option}
 use Rattle.history_model.specs.Versions.{Version}
 use Rattle.history_model.specs.declared.entries.Entry.{Entry}
 
@@ -10,11 +10,13 @@ pub record PublisherSeen : Type 0 where
   pub published : Option Version
   pub staged : Option Version
 
--- a looker: the name of its board, and the entries that it has seen
+-- a looker: the name of its board, the entries that it has seen, and whether it has the version that
+-- stands for them
 pub record LookerSeen : Type 0 where
   pub name : List ℕ
   pub seen : List Entry
+  pub has : Bool
 
 -- a looker that has seen nothing
 abbrev pub new_looker : List ℕ → LookerSeen
-new_looker name = record { name = name; seen = [] }
+new_looker name = record { name = name; seen = []; has = false }

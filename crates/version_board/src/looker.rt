@@ -1,5 +1,5 @@
 //! A looker: it reads what is shown, and waits for nobody.
-ghost use Rattle.std.specs.Prelude.{◌≡◌, ◌⊎◌, ◌≤◌, List, [], true, IfOk, IfErr};
+ghost use Rattle.std.specs.Prelude.{◌≡◌, ◌≢◌, ◌⊎◌, ◌≤◌, List, [], true, None, is_some, IfOk, IfErr, IfSome, IfNone};
 ghost use Rattle.std.specs.Arc.{arc_value};
 ghost use mathlib.Core.List.{IsPrefix};
 ghost use Rattle.left_right.specs.Sides.{view};
@@ -27,19 +27,31 @@ pub struct Looker {
     front: Front,
     /// How many they are.
     entries: u64,
+    /// The version that stands for them, where it is kept.
+    version: Option<Arc<Directory>>,
 }
 
 impl Model for Looker {
-    ghost use Rattle.std.specs.Prelude.{◌≡◌, length, IsSome, IfSome};
+    ghost use Rattle.std.specs.Prelude.{◌≡◌, ◌≤◌, length, is_some, IsSome, IfSome};
+    ghost use Rattle.std.specs.Arc.{arc_value};
     ghost use Rattle.left_right.specs.Sides.{view as known_at};
+    ghost use Rattle.history_model.specs.Versions.{VersionStandsFor};
     ghost use Rattle.version_board.specs.Names.{name_of, knowing};
     ghost use Rattle.version_board.specs.Ends.{LookerSeen};
 
     ghost Value = { LookerSeen };
 
-    ghost view = { λ l. record { name = name_of l.front.book; seen = l.front.log } };
+    ghost view = { λ l. record {
+      name = name_of l.front.book;
+      seen = l.front.log;
+      has = is_some l.version;
+    } };
 
-    ghost invariant = { λ l. IsSome l.reader × IfSome l.reader (λ reader. known_at reader.place ≡ knowing (name_of l.front.book)) × (l.entries ≡ length l.front.log) };
+    ghost invariant = { λ l. IsSome l.reader
+        × IfSome l.reader (λ reader. known_at reader.place ≡ knowing (name_of l.front.book))
+        × (l.entries ≡ length l.front.log)
+        × IfSome l.version (λ version. VersionStandsFor 0 l.front.log (arc_value version)
+        × ((arc_value version).swept ≤ (arc_value version).at)) };
 }
 
 impl Looker {
@@ -53,28 +65,33 @@ impl Looker {
             reader: Some(reader),
             front,
             entries: 0,
+            version: None,
         }
     }
 
-    /// The version that was published last, or Starved where its owners are too many to count one more, or where the board has ended. It waits for nobody.
-    ///
-    /// The version has all entries that the looker had seen, and from then on the looker has seen all of its entries.
+    /// The version that was published last, unless the looker has one of just so many entries.
+    /// Starved where its owners are too many to count one more, or where the board has ended.
     #[tactic(auto, using(crate::proofs::Fronts::shorter_first))]
-    pub fn look(&mut self) -> Result<Arc<Directory>, Starved>
+    fn newer(&mut self, has: Option<u64>) -> Result<Option<Arc<Directory>>, Starved>
         ensures name { self.new.name ≡ self.old.name }
         ensures seen { IsPrefix self.old.seen self.new.seen }
-        ensures stands { IfOk result (λ version. VersionStandsFor 0 self.new.seen (arc_value version)) }
-        ensures unswept { IfOk result (λ version. (arc_value version).swept ≤ (arc_value version).at) }
+        ensures stands { IfOk result (λ newer. IfSome newer (λ version.
+            VersionStandsFor 0 self.new.seen (arc_value version))) }
+        ensures unswept { IfOk result (λ newer. IfSome newer (λ version.
+            (arc_value version).swept ≤ (arc_value version).at)) }
+        ensures same { IfOk result (λ newer. IfNone newer
+            ((has ≢ None) × (self.new ≡ self.old))) }
         ensures starved { IfErr result (λ _. self.new.seen ≡ self.old.seen) }
     {
         let held = mem::replace(&mut self.reader, None);
         let Some(reader) = held else { unreachable!() };
-        let (reader, shown) = read(reader, &self.front);
+        let (reader, shown) = read(reader, &self.front, has);
         self.reader = Some(reader);
-        let Some(shown) = shown else {
-            return Err(Starved);
+        let Some(shown) = shown? else {
+            return Ok(None);
         };
-        // What is shown is never older than what was shown before, though no clause of its readers says so.
+        // What is shown is never older than what was shown before, though no clause of its readers
+        // says so.
         let entries = shown.version.entries();
         if entries < self.entries {
             return Err(Starved);
@@ -82,7 +99,63 @@ impl Looker {
         compare(&self.front, &shown.front);
         self.front = shown.front;
         self.entries = entries;
-        Ok(shown.version)
+        self.version = None;
+        Ok(Some(shown.version))
+    }
+
+    /// The version that was published last, or Starved where its owners are too many to count one
+    /// more, or where the board has ended. It waits for nobody.
+    ///
+    /// The version has all entries that the looker had seen, and from then on the looker has seen
+    /// all of its entries.
+    pub fn look(&mut self) -> Result<Arc<Directory>, Starved>
+        ensures name { self.new.name ≡ self.old.name }
+        ensures seen { IsPrefix self.old.seen self.new.seen }
+        ensures stands { IfOk result (λ version.
+            VersionStandsFor 0 self.new.seen (arc_value version)) }
+        ensures unswept { IfOk result (λ version.
+            (arc_value version).swept ≤ (arc_value version).at) }
+        ensures starved { IfErr result (λ _. self.new.seen ≡ self.old.seen) }
+    {
+        let Some(version) = self.newer(None)? else {
+            unreachable!()
+        };
+        Ok(version)
+    }
+
+    /// The looker keeps the version that was published last, which [`Looker::version`] then gives:
+    /// where that is the one that it has, nothing is written that other lookers read. Starved as at
+    /// [`Looker::look`]. It waits for nobody.
+    ///
+    /// The version has all entries that the looker had seen, and from then on the looker has seen
+    /// all of its entries.
+    pub fn refresh(&mut self) -> Result<(), Starved>
+        ensures name { self.new.name ≡ self.old.name }
+        ensures seen { IsPrefix self.old.seen self.new.seen }
+        ensures has { IfOk result (λ _. self.new.has ≡ true) }
+        ensures starved { IfErr result (λ _. self.new.seen ≡ self.old.seen) }
+    {
+        let has = if self.version.is_some() {
+            Some(self.entries)
+        } else {
+            None
+        };
+        if let Some(version) = self.newer(has)? {
+            self.version = Some(version);
+        }
+        Ok(())
+    }
+
+    /// The version that stands for what the looker has seen, where it has one: it has none before
+    /// [`Looker::refresh`], and none where [`Looker::look`] or [`Looker::meet`] showed it more.
+    pub fn version(&self) -> Option<&Arc<Directory>>
+        ensures has { is_some result ≡ self.now.has }
+        ensures stands { IfSome result (λ version.
+            VersionStandsFor 0 self.now.seen (arc_value version.now)) }
+        ensures unswept { IfSome result (λ version.
+            (arc_value version.now).swept ≤ (arc_value version.now).at) }
+    {
+        self.version.as_ref()
     }
 
     /// The looker has seen, from then on, all that the publisher has published.
@@ -102,6 +175,7 @@ impl Looker {
         if self.entries < entries {
             self.front = told.again();
             self.entries = entries;
+            self.version = None;
         }
     }
 }

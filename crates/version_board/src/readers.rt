@@ -1,5 +1,5 @@
 //! Readers of what is shown, and what they know.
-ghost use Rattle.std.specs.Prelude.{◌≡◌, true, IfOk, IfErr, IfSome};
+ghost use Rattle.std.specs.Prelude.{◌≡◌, ◌≢◌, true, Ok, None, IfOk, IfErr, IfSome};
 ghost use Rattle.left_right.specs.Sides.{view};
 ghost use Rattle.version_board.specs.Names.{name_of, knowing};
 
@@ -7,6 +7,7 @@ use crate::book::Front;
 use crate::published::Published;
 use crossbeam_utils::rule::{Outcome, Protocol};
 use left_right::reader::{Reader, Reading};
+use rd_base::Starved;
 use std::collections::LinkedList;
 
 /// What an end of a board knows of the board's name. No value of it is made.
@@ -52,17 +53,35 @@ pub(crate) fn take(reader: BoardReader) -> Result<BoardReading, BoardReader>
     reader.enter_as::<TakeShown>()
 }
 
-/// A copy of what is shown, where there is something and its version can be shared.
-pub(crate) fn read(reader: BoardReader, mine: &Front) -> (BoardReader, Option<Published>)
+/// A copy of what is shown, unless it has just so many entries.
+fn other_than(has: Option<u64>, shown: &Published) -> Result<Option<Published>, Starved>
+    ensures front { IfOk result (λ other. IfSome other (λ copy. copy.front ≡ shown.now.front)) }
+    ensures same { has ≡ None → result ≢ Ok None }
+{
+    if has == Some(shown.version.entries()) {
+        return Ok(None);
+    }
+    Ok(Some(shown.share()?))
+}
+
+/// A copy of what is shown, unless it has just so many entries. Starved where there is nothing, and
+/// where its version has too many owners.
+pub(crate) fn read(
+    reader: BoardReader,
+    mine: &Front,
+    has: Option<u64>,
+) -> (BoardReader, Result<Option<Published>, Starved>)
     requires { view reader.place ≡ knowing (name_of mine.now.book) }
     ensures reader { view result.0.place ≡ view reader.place }
-    ensures book { IfSome result.1 (λ shown. shown.front.book ≡ mine.now.book) }
+    ensures book { IfOk result.1 (λ other.
+        IfSome other (λ shown. shown.front.book ≡ mine.now.book)) }
+    ensures same { has ≡ None → result.1 ≢ Ok None }
 {
     match take(reader) {
         Ok(reading) => {
-            let shown = reading.get().share().ok();
+            let shown = other_than(has, reading.get());
             (reading.leave(), shown)
         }
-        Err(reader) => (reader, None),
+        Err(reader) => (reader, Err(Starved)),
     }
 }

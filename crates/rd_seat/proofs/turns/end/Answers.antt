@@ -23,23 +23,23 @@ use Rattle.rd_seat.proofs.turns.end.Goals as goal
 pub publish_made-requires : goal.publish_made-requires
 publish_made-requires g c =
     both g.S.Added.added (λ (r : Row). HasStepped g.E.Entering.entered r
-    (number_of c.args.pass.now) (seen_of c.args.pass.now) c.args.shared.desk)
+    (number_of c.args.pass.now) (seen_of c.args.pass.now) c.args.shared.desk.value)
     (λ (r : Row). HasStepped g.E.Entering.entered r (number_of c.args.pass.now)
-    (seen_of c.args.pass.now) c.args.shared.desk)
+    (seen_of c.args.pass.now) c.args.shared.desk.value)
     c.requires.added c.requires.stepped c.requires.stepped
     (λ r h k. stepped-staged g.E.Entering.entered r (number_of c.args.pass.now)
-    (seen_of c.args.pass.now) c.args.shared.desk h)
+    (seen_of c.args.pass.now) c.args.shared.desk.value h)
 
 -- what was published stands for the journal with the row
 pub give-requires-clause-value : goal.give-requires-clause-value
 give-requires-clause-value g c =
     picked g.S.Added.added (λ (r : Row). HasStepped g.E.Entering.entered r
-    (number_of c.args.pass.now) (seen_of c.args.pass.now) c.args.shared.desk)
+    (number_of c.args.pass.now) (seen_of c.args.pass.now) c.args.shared.desk.value)
     (λ (r : Row). StandsAtTurn (r ∷ seen_of c.args.pass.now) c.meet.new.desk)
     (λ r h. subst (StandsAtTurn (r ∷ seen_of c.args.pass.now))
     (sym c.publish_made.ensures.value ∙ sym c.meet.ensures.desk)
     (stepped-StandsAtTurn g.E.Entering.entered r (number_of c.args.pass.now)
-    (seen_of c.args.pass.now) c.args.shared.desk h
+    (seen_of c.args.pass.now) c.args.shared.desk.value h
     (subst (λ (d : Shown PublisherSeen). IsPublished d.board.told d.board)
     c.publish_made.ensures.value c.publish_made.ensures.published)))
     c.requires.stepped
@@ -49,14 +49,14 @@ pub give-requires-clause-value_label : goal.give-requires-clause-value_label
 give-requires-clause-value_label g c =
     ap (λ (d : Shown PublisherSeen). d.board.name)
     (c.meet.ensures.desk ∙ c.publish_made.ensures.value)
-    ∙ (board_published-name g.E.Entering.entered c.args.shared.desk ∙ c.requires.label)
+    ∙ (board_published-name g.E.Entering.entered c.args.shared.desk.value ∙ c.requires.label)
 
 -- what was met has all entries of the journal, and nothing else was met
 pub returns : goal.returns
 unfolding rows_of
 returns g c =
     three g.S.Added.added (λ (r : Row). HasStepped g.E.Entering.entered r
-    (number_of c.args.pass.now) (seen_of c.args.pass.now) c.args.shared.desk)
+    (number_of c.args.pass.now) (seen_of c.args.pass.now) c.args.shared.desk.value)
     (λ (r : Row). seen_of c.give.new.pass ≡ r ∷ seen_of c.args.pass.now)
     (λ (r : Row). mine_of c.give.new.pass ≡ r ∷ mine_of c.args.pass.now)
     (λ (r : Row). HasEnded r c.args.pass.now c.give.new.pass c.args.looker.now c.meet.new.looker)
@@ -65,7 +65,7 @@ returns g c =
     let told : c.publish_made.new.desk.board.told ≡ entries (seen_of c.give.new.pass) =
     ap (λ (d : Shown PublisherSeen). d.board.told) c.publish_made.ensures.value
     ∙ ((stepped-StandsAtTurn g.E.Entering.entered r (number_of c.args.pass.now)
-    (seen_of c.args.pass.now) c.args.shared.desk h
+    (seen_of c.args.pass.now) c.args.shared.desk.value h
     (subst (λ (d : Shown PublisherSeen). IsPublished d.board.told d.board)
     c.publish_made.ensures.value c.publish_made.ensures.published)).told
     ∙ ap entries (sym seen)) in

@@ -25,11 +25,11 @@ pub seats_of-seats-requires-clause-new : goal.seats_of-seats-requires-clause-new
 seats_of-seats-requires-clause-new g c =
     subst (λ (lookers : List LookerSeen). AreNewFrom (id_of c.in-Ok.lock) 0
     (list_of c.in-Ok.passes) lookers)
-    (ap (λ (n : ℕ). replicate n (new_looker c.in_ok-shared.shared.desk.board.name))
+    (ap (λ (n : ℕ). replicate n (new_looker c.in_ok-shared.shared.desk.value.board.name))
     c.in-Ok.ensures.count ∙ sym c.in_ok-shared.ensures.lookers)
-    (fresh-AreNewFrom (id_of c.in-Ok.lock) c.in_ok-shared.shared.desk.board.name 0
+    (fresh-AreNewFrom (id_of c.in-Ok.lock) c.in_ok-shared.shared.desk.value.board.name 0
     (list_of c.in-Ok.passes)
-    (λ i d h. subst (λ (k : ℕ). IsNew c.in_ok-shared.shared.desk.board.name k
+    (λ i d h. subst (λ (k : ℕ). IsNew c.in_ok-shared.shared.desk.value.board.name k
     (slice_index_or (list_of c.in-Ok.passes) i d)) (let e : i ≡ 0 + i = omega arith in
     e) (c.in-Ok.ensures.fresh i d h))
     (recursion_from_All (λ pass. lock_of pass ≡ id_of c.in-Ok.lock)

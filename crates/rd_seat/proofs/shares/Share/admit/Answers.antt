@@ -33,8 +33,8 @@ end-requires-clause-stepped g c =
     let s : Step = admit_step (number_of c.begin-shared.new.pass) c.args.now c.args.word
     c.args.peer c.args.datagram.now c.of-mids.result.value.drawn in
     let called : IsCalled found s c.args.now c.args.self.now.mids
-    c.begin-shared.result.desk.tables = step-IsCalled found s c.args.self.now.mids
-    c.begin-shared.result.desk c.begin-shared.ensures.stands refl own drew in
+    c.begin-shared.result.desk.value.tables = step-IsCalled found s c.args.self.now.mids
+    c.begin-shared.result.desk.value c.begin-shared.ensures.stands refl own drew in
     let may : MayFollow found s = record {
       commits = tt;
       handed =
@@ -53,7 +53,7 @@ end-requires-clause-stepped g c =
     (number_of c.begin-shared.new.pass) found c.admit-admitted.new.self)
     (sym c.is_starved.ensures)
     (step-HasStepped found s (is_starved_admission c.admit-admitted.result)
-    c.begin-shared.result.desk c.admit-admitted.new.self c.begin-shared.ensures.stands may
+    c.begin-shared.result.desk.value c.admit-admitted.new.self c.begin-shared.ensures.stands may
     refl made.stands c.admit-admitted.ensures.told
     (c.admit-admitted.ensures.staged found s refl refl refl refl called))
 
@@ -70,8 +70,8 @@ returns g c =
     let s : Step = admit_step (number_of c.begin-shared.new.pass) c.args.now c.args.word
     c.args.peer c.args.datagram.now c.of-mids.result.value.drawn in
     let called : IsCalled found s c.args.now c.args.self.now.mids
-    c.begin-shared.result.desk.tables = step-IsCalled found s c.args.self.now.mids
-    c.begin-shared.result.desk c.begin-shared.ensures.stands refl own drew in
+    c.begin-shared.result.desk.value.tables = step-IsCalled found s c.args.self.now.mids
+    c.begin-shared.result.desk.value c.begin-shared.ensures.stands refl own drew in
     let may : MayFollow found s = record {
       commits = tt;
       handed =
@@ -89,7 +89,7 @@ returns g c =
     let turn : Turn c.args.self.now.pass c.begin-shared.new.pass c.end.new.pass
     c.args.self.now.looker c.begin-shared.new.looker c.end.new.looker c.args.self.now.mids
     c.admit-admitted.new.mids c.args.self.now.last c.later-self.result s
-    (is_starved_admission c.admit-admitted.result) c.begin-shared.result.desk
+    (is_starved_admission c.admit-admitted.result) c.begin-shared.result.desk.value
     c.admit-admitted.new.self c.admit-admitted.new.out = record {
       rest = c.requires.rest;
       has_begun = c.begin-shared.ensures;

@@ -31,8 +31,8 @@ end-requires-clause-stepped g c =
     let s : Step = commit_step (number_of c.begin-shared.new.pass) g.place c.args.now
     c.of-kept.result.value.peer c.of-kept.result.value.datagram c.of-mids.result.value.drawn in
     let called : IsCalled found s c.args.now c.args.self.now.mids
-    c.begin-shared.result.desk.tables = step-IsCalled found s c.args.self.now.mids
-    c.begin-shared.result.desk c.begin-shared.ensures.stands refl own drew in
+    c.begin-shared.result.desk.value.tables = step-IsCalled found s c.args.self.now.mids
+    c.begin-shared.result.desk.value c.begin-shared.ensures.stands refl own drew in
     let peers : c.of-kept.result.value.peer ≡ c.args.job.peer =
     ap (λ (w : Write). w.peer) c.of-kept.ensures in
     let octets : c.of-kept.result.value.datagram ≡ c.args.job.datagram =
@@ -62,7 +62,8 @@ end-requires-clause-stepped g c =
     c.commit-stepped.new.self.tables c.commit-stepped.new.out c.args.self.now.mids
     c.commit-stepped.new.mids = c.commit-stepped.ensures.made found s g.place ready.message
     refl peers octets refl ready.read ready.is_open called in
-    step-HasStepped found s (is_starved_step c.commit-stepped.result) c.begin-shared.result.desk
+    step-HasStepped found s (is_starved_step c.commit-stepped.result)
+    c.begin-shared.result.desk.value
     c.commit-stepped.new.self c.begin-shared.ensures.stands may refl made.stands
     c.commit-stepped.ensures.told
     (c.commit-stepped.ensures.staged found s g.place ready.message refl peers octets refl
@@ -81,8 +82,8 @@ returns g c =
     let s : Step = commit_step (number_of c.begin-shared.new.pass) g.place c.args.now
     c.of-kept.result.value.peer c.of-kept.result.value.datagram c.of-mids.result.value.drawn in
     let called : IsCalled found s c.args.now c.args.self.now.mids
-    c.begin-shared.result.desk.tables = step-IsCalled found s c.args.self.now.mids
-    c.begin-shared.result.desk c.begin-shared.ensures.stands refl own drew in
+    c.begin-shared.result.desk.value.tables = step-IsCalled found s c.args.self.now.mids
+    c.begin-shared.result.desk.value c.begin-shared.ensures.stands refl own drew in
     let peers : c.of-kept.result.value.peer ≡ c.args.job.peer =
     ap (λ (w : Write). w.peer) c.of-kept.ensures in
     let octets : c.of-kept.result.value.datagram ≡ c.args.job.datagram =
@@ -115,7 +116,7 @@ returns g c =
     let turn : Turn c.args.self.now.pass c.begin-shared.new.pass c.end.new.pass
     c.args.self.now.looker c.begin-shared.new.looker c.end.new.looker c.args.self.now.mids
     c.commit-stepped.new.mids c.args.self.now.last c.later-self.result s
-    (is_starved_step c.commit-stepped.result) c.begin-shared.result.desk
+    (is_starved_step c.commit-stepped.result) c.begin-shared.result.desk.value
     c.commit-stepped.new.self c.commit-stepped.new.out = record {
       rest = c.requires.1.1.1.0;
       has_begun = c.begin-shared.ensures;

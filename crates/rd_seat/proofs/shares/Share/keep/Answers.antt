@@ -29,8 +29,8 @@ end-requires-clause-stepped g c =
     let s : Step = keep_step (number_of c.begin-shared.new.pass) c.args.now c.of-kept.result.value
     c.of-mids.result.value.drawn in
     let called : IsCalled found s c.args.now c.args.self.now.mids
-    c.begin-shared.result.desk.tables = step-IsCalled found s c.args.self.now.mids
-    c.begin-shared.result.desk c.begin-shared.ensures.stands refl own drew in
+    c.begin-shared.result.desk.value.tables = step-IsCalled found s c.args.self.now.mids
+    c.begin-shared.result.desk.value c.begin-shared.ensures.stands refl own drew in
     let may : MayFollow found s = record {
       commits = tt;
       handed =
@@ -49,7 +49,7 @@ end-requires-clause-stepped g c =
     (ap (λ (k : Keep). k.datagram) c.of-kept.ensures) called in
     keep-HasStepped found (number_of c.begin-shared.new.pass) c.args.now c.of-kept.result.value
     c.of-mids.result.value.drawn (is_starved_step c.keep-stepped.result)
-    c.begin-shared.result.desk c.keep-stepped.new.self
+    c.begin-shared.result.desk.value c.keep-stepped.new.self
     c.begin-shared.ensures.stands few made.stands c.keep-stepped.ensures.board
 
 -- and so the seat had its turn
@@ -65,8 +65,8 @@ returns g c =
     let s : Step = keep_step (number_of c.begin-shared.new.pass) c.args.now c.of-kept.result.value
     c.of-mids.result.value.drawn in
     let called : IsCalled found s c.args.now c.args.self.now.mids
-    c.begin-shared.result.desk.tables = step-IsCalled found s c.args.self.now.mids
-    c.begin-shared.result.desk c.begin-shared.ensures.stands refl own drew in
+    c.begin-shared.result.desk.value.tables = step-IsCalled found s c.args.self.now.mids
+    c.begin-shared.result.desk.value c.begin-shared.ensures.stands refl own drew in
     let may : MayFollow found s = record {
       commits = tt;
       handed =
@@ -86,7 +86,7 @@ returns g c =
     let turn : Turn c.args.self.now.pass c.begin-shared.new.pass c.end.new.pass
     c.args.self.now.looker c.begin-shared.new.looker c.end.new.looker c.args.self.now.mids
     c.keep-stepped.new.mids c.args.self.now.last c.later-self.result s
-    (is_starved_step c.keep-stepped.result) c.begin-shared.result.desk c.keep-stepped.new.self
+    (is_starved_step c.keep-stepped.result) c.begin-shared.result.desk.value c.keep-stepped.new.self
     c.keep-stepped.new.out = record {
       rest = c.requires.rest;
       has_begun = c.begin-shared.ensures;

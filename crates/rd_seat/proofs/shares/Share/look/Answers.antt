@@ -46,44 +46,46 @@ pub returns-in_default-clause-looked : goal.returns-in_default-clause-looked
 returns-in_default-clause-looked c =
     let s : Step = look_step c.args.self.now.mids.worker c.args.now 0 c.args.peer
     c.args.datagram.now c.args.self.now.mids.drawn in
-    let same : c.look.new.self.seen ≡ c.args.self.now.looker.seen = c.in_default.ensures.starved in
-    let before : last_moment c.look.new.self.seen ≤ c.args.self.now.last.0 =
+    let same : c.refresh.new.self.seen ≡ c.args.self.now.looker.seen =
+    c.in_default.ensures.starved in
+    let before : last_moment c.refresh.new.self.seen ≤ c.args.self.now.last.0 =
     subst (λ h. last_moment h ≤ c.args.self.now.last.0) (sym same) c.requires.rest.in_time in
     let later : c.later-self.result.0 ≡ max c.args.self.now.last.0 c.args.now.0 =
     c.later-self.ensures in
-    let done : Effects = looked true c.look.new.self.seen c.later-self.result.0 s
+    let done : Effects = looked true c.refresh.new.self.seen c.later-self.result.0 s
     (reading c.args.datagram.now) in
     let after : SeatSeen = share_shown (record {
       alloc = c.args.self.now.alloc;
       pass =
           c.args.self.now.pass;
-      looker = c.look.new.self;
+      looker = c.refresh.new.self;
       mids = c.look_starved.new.mids;
       last =
           c.later-self.result;
     }) in
     let sends : Sends done c.args.out.now c.look_starved.new.out c.args.self.now.mids
     c.look_starved.new.mids =
-    c.look_starved.ensures.sends s c.look.new.self.seen c.later-self.result.0
+    c.look_starved.ensures.sends s c.refresh.new.self.seen c.later-self.result.0
     (record { peer_is = refl; worker = refl; drawn = refl }) in
     record {
       goes_on = record {
         hall = refl;
-        rest = look-IsAtRest c.args.self.now.pass c.args.self.now.looker c.look.new.self
+        rest = look-IsAtRest c.args.self.now.pass c.args.self.now.looker c.refresh.new.self
             c.args.self.now.mids c.look_starved.new.mids c.args.self.now.last c.later-self.result
             c.requires.rest
-            c.look.ensures.name c.look.ensures.seen sends.worker (omega (arith, before, later))
+            c.refresh.ensures.name c.refresh.ensures.seen sends.worker
+            (omega (arith, before, later))
             (subst (λ (n : ℕ). n < 2 ^ 64) (sym sends.drawn)
             (drawing-small done.drew c.args.self.now.mids.drawn c.requires.rest.drawn));
-        met = c.look.ensures.seen;
+        met = c.refresh.ensures.seen;
       };
       looks = λ shown front may.
           looked-LooksFrom (share_shown c.args.self.now) after shown front s true
           c.look_starved.new.out None c.later-self.result.0 may c.requires.rest.met
-          c.look.ensures.seen refl refl refl
+          c.refresh.ensures.seen refl refl refl
           (omega (arith, before, later))
           (sends.sent ∙ ap (λ (b : List (Peer × List ℕ)). b ++ done.sent) c.requires.empty)
-          (held_starved c.look.new.self.seen c.later-self.result.0 (reading c.args.datagram.now))
+          (held_starved c.refresh.new.self.seen c.later-self.result.0 (reading c.args.datagram.now))
           sends.worker refl refl refl
           (sends.drawn ∙ drawing-drawn_more done.drew c.args.self.now.mids.drawn
           c.requires.rest.drawn);
@@ -94,54 +96,54 @@ pub returns-clause-looked : goal.returns-clause-looked
 returns-clause-looked c =
     let s : Step = look_step c.args.self.now.mids.worker c.args.now 0 c.args.peer
     c.args.datagram.now c.args.self.now.mids.drawn in
-    let stands : VersionStandsFor 0 c.look.new.self.seen (arc_value c.in-Ok.version) =
-    c.in-Ok.ensures.stands in
-    let at : c.at.result.0 ≡ last_moment c.look.new.self.seen =
+    let stands : VersionStandsFor 0 c.refresh.new.self.seen (arc_value c.in-Some.version.now) =
+    c.in-Some.ensures.stands in
+    let at : c.at.result.0 ≡ last_moment c.refresh.new.self.seen =
     c.at.ensures ∙ (ap (λ (v : Version). v.at) c.deref.ensures ∙ stands.at) in
     let later : c.later-moment.result.0 ≡ max c.at.result.0 c.later.result.0 =
     c.later-moment.ensures in
     let earlier : c.later.result.0 ≡ max c.args.self.now.last.0 c.args.now.0 = c.later.ensures in
-    let starved : Bool = is_starved_look c.look-2.result in
-    let shown_for : VersionStandsFor 0 c.look.new.self.seen c.deref-2.result.now =
-    subst (VersionStandsFor 0 c.look.new.self.seen) (sym c.deref-2.ensures) stands in
-    let done : Effects = looked starved c.look.new.self.seen c.later-moment.result.0 s
+    let starved : Bool = is_starved_look c.look.result in
+    let shown_for : VersionStandsFor 0 c.refresh.new.self.seen c.deref-2.result.now =
+    subst (VersionStandsFor 0 c.refresh.new.self.seen) (sym c.deref-2.ensures) stands in
+    let done : Effects = looked starved c.refresh.new.self.seen c.later-moment.result.0 s
     (reading c.args.datagram.now) in
-    let sends : Sends done c.args.out.now c.look-2.new.out c.args.self.now.mids c.look-2.new.mids =
-    c.look-2.ensures.sends s c.look.new.self.seen shown_for
+    let sends : Sends done c.args.out.now c.look.new.out c.args.self.now.mids c.look.new.mids =
+    c.look.ensures.sends s c.refresh.new.self.seen shown_for
     (record { peer_is = refl; worker = refl; drawn = refl }) in
     let held : IsHeld c.args.peer c.args.datagram.now
-    (held_after starved c.look.new.self.seen c.later-moment.result.0
-    (reading c.args.datagram.now)) c.look-2.result =
-    c.look-2.ensures.held c.look.new.self.seen shown_for in
+    (held_after starved c.refresh.new.self.seen c.later-moment.result.0
+    (reading c.args.datagram.now)) c.look.result =
+    c.look.ensures.held c.refresh.new.self.seen shown_for in
     let after : SeatSeen = share_shown (record {
       alloc = c.args.self.now.alloc;
       pass =
           c.args.self.now.pass;
-      looker = c.look.new.self;
-      mids = c.look-2.new.mids;
+      looker = c.refresh.new.self;
+      mids = c.look.new.mids;
       last =
           c.later-moment.result;
     }) in
     record {
       goes_on = record {
         hall = refl;
-        rest = look-IsAtRest c.args.self.now.pass c.args.self.now.looker c.look.new.self
-            c.args.self.now.mids c.look-2.new.mids c.args.self.now.last c.later-moment.result
+        rest = look-IsAtRest c.args.self.now.pass c.args.self.now.looker c.refresh.new.self
+            c.args.self.now.mids c.look.new.mids c.args.self.now.last c.later-moment.result
             c.requires.rest
-            c.look.ensures.name c.look.ensures.seen sends.worker (omega (arith, at, later))
+            c.refresh.ensures.name c.refresh.ensures.seen sends.worker (omega (arith, at, later))
             (subst (λ (n : ℕ). n < 2 ^ 64) (sym sends.drawn)
             (drawing-small done.drew c.args.self.now.mids.drawn c.requires.rest.drawn));
-        met = c.look.ensures.seen;
+        met = c.refresh.ensures.seen;
       };
       looks = λ shown front may.
           looked-LooksFrom (share_shown c.args.self.now) after shown front s starved
-          c.look-2.new.out (answer_held c.look-2.result) c.later-moment.result.0 may
-          c.requires.rest.met c.look.ensures.seen refl refl refl
+          c.look.new.out (answer_held c.look.result) c.later-moment.result.0 may
+          c.requires.rest.met c.refresh.ensures.seen refl refl refl
           (omega (arith, at, later, earlier))
           (sends.sent ∙ ap (λ (b : List (Peer × List ℕ)). b ++ done.sent) c.requires.empty)
           (held_answer c.args.peer c.args.datagram.now
-          (held_after starved c.look.new.self.seen c.later-moment.result.0
-          (reading c.args.datagram.now)) c.look-2.result held)
+          (held_after starved c.refresh.new.self.seen c.later-moment.result.0
+          (reading c.args.datagram.now)) c.look.result held)
           sends.worker refl refl refl
           (sends.drawn ∙ drawing-drawn_more done.drew c.args.self.now.mids.drawn
           c.requires.rest.drawn);

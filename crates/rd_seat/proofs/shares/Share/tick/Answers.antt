@@ -28,8 +28,8 @@ end-requires-clause-stepped g c =
     let s : Step = tick_step (number_of c.begin-shared.new.pass) c.args.now c.args.word
     c.of-mids.result.value.drawn in
     let called : IsCalled found s c.args.now c.args.self.now.mids
-    c.begin-shared.result.desk.tables = step-IsCalled found s c.args.self.now.mids
-    c.begin-shared.result.desk c.begin-shared.ensures.stands refl own drew in
+    c.begin-shared.result.desk.value.tables = step-IsCalled found s c.args.self.now.mids
+    c.begin-shared.result.desk.value c.begin-shared.ensures.stands refl own drew in
     let may : MayFollow found s = record {
       commits = tt;
       handed =
@@ -45,7 +45,7 @@ end-requires-clause-stepped g c =
     c.tick-stepped.new.mids = c.tick-stepped.ensures.made found s refl refl called in
     tick-HasStepped found (number_of c.begin-shared.new.pass) c.args.now c.args.word
     c.of-mids.result.value.drawn (is_starved_step c.tick-stepped.result)
-    c.begin-shared.result.desk c.tick-stepped.new.self
+    c.begin-shared.result.desk.value c.tick-stepped.new.self
     c.begin-shared.ensures.stands few made.stands c.tick-stepped.ensures.board
 
 -- and so the seat had its turn
@@ -61,8 +61,8 @@ returns g c =
     let s : Step = tick_step (number_of c.begin-shared.new.pass) c.args.now c.args.word
     c.of-mids.result.value.drawn in
     let called : IsCalled found s c.args.now c.args.self.now.mids
-    c.begin-shared.result.desk.tables = step-IsCalled found s c.args.self.now.mids
-    c.begin-shared.result.desk c.begin-shared.ensures.stands refl own drew in
+    c.begin-shared.result.desk.value.tables = step-IsCalled found s c.args.self.now.mids
+    c.begin-shared.result.desk.value c.begin-shared.ensures.stands refl own drew in
     let may : MayFollow found s = record {
       commits = tt;
       handed =
@@ -79,7 +79,7 @@ returns g c =
     let turn : Turn c.args.self.now.pass c.begin-shared.new.pass c.end.new.pass
     c.args.self.now.looker c.begin-shared.new.looker c.end.new.looker c.args.self.now.mids
     c.tick-stepped.new.mids c.args.self.now.last c.later-self.result s
-    (is_starved_step c.tick-stepped.result) c.begin-shared.result.desk c.tick-stepped.new.self
+    (is_starved_step c.tick-stepped.result) c.begin-shared.result.desk.value c.tick-stepped.new.self
     c.tick-stepped.new.out = record {
       rest = c.requires.rest;
       has_begun = c.begin-shared.ensures;
