@@ -80,12 +80,7 @@ impl Conversation {
     }
 
     /// Writes what a line says that was done, and what the directory sent.
-    fn tell_done(
-        &mut self,
-        page: &mut String,
-        said: &str,
-        change: &Change,
-    ) -> Result<(), Starved>
+    fn tell_done(&mut self, page: &mut String, said: &str, change: &Change) -> Result<(), Starved>
         requires { IsMachine self.old.machine }
         ensures { IfOk result (λ _. IsMachine self.new.machine) }
     {

@@ -72,7 +72,9 @@ fn command<'a>(alloc: Global) -> Result<Command<'a>, AllocError> {
         .default_value("16");
     Command::new(alloc, "rd_show")
         .version("0.1.0")
-        .about("Shows a recorded trace as a conversation: who sent what to whom, and what the directory answered")
+        .about(
+            "Shows a recorded trace as a conversation: who sent what to whom, and what the directory answered",
+        )
         .override_usage("rd_show [--workers N] < TRACE")
         .no_binary_name(true)
         .arg(workers)
