@@ -14,6 +14,8 @@ mod pending;
 mod repeats;
 mod serving;
 mod stops;
+#[cfg(test)]
+mod tests;
 mod words;
 
 use clap::Error;
