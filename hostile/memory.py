@@ -40,8 +40,9 @@ MOST_TRIED = 100_000
 
 REFUSED = b"refused %d\n"
 
-# POST /rd?ep=node1 with one link, confirmable; its 2.01 with the location /rd/1, and its 5.00.
-REGISTRATION = bytes.fromhex("41020001a1b2726411283865703d6e6f646531ff3c2f74656d703e")
+# POST /rd?ep=node1&lt=600 with two links, confirmable; its 2.01 with the location /rd/1, its 5.00.
+REGISTRATION = (bytes.fromhex("41020001a1b2") + b"rd" + bytes.fromhex("1128") + b"\x38ep=node1"
+                b'\x06lt=600\xff</temp>;rt="temperature";ct=0,</light>;rt="light-lux";if="sensor"')
 CREATED = bytes.fromhex("61410001a18272640131")
 SERVER_ERROR = bytes.fromhex("61a00001a1")
 
