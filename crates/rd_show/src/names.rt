@@ -13,14 +13,19 @@ pub(crate) struct MessageName {
     pub mid: u16,
 }
 
+/// The message that a datagram from a peer or to it is, by its type and its name; none where it is
+/// no message.
+fn named(peer: Peer, datagram: &[u8]) -> Option<(Kind4, MessageName)> {
+    let message = view(datagram).ok()?;
+    let mid = message.mid;
+    Some((message.kind, MessageName { peer, mid }))
+}
+
 /// The name of the message that a datagram from a peer is. None of one that is no message, and of
 /// an acknowledgement or a reset, whose Message ID its receiver drew (RFC 7252 section 4.2).
 pub(crate) fn name_from(peer: Peer, datagram: &[u8]) -> Option<MessageName> {
-    match view(datagram) {
-        Ok(message) if matches!(message.kind, Kind4::Con | Kind4::Non) => Some(MessageName {
-            peer,
-            mid: message.mid,
-        }),
+    match named(peer, datagram)? {
+        (Kind4::Con | Kind4::Non, name) => Some(name),
         _ => None,
     }
 }
@@ -28,11 +33,8 @@ pub(crate) fn name_from(peer: Peer, datagram: &[u8]) -> Option<MessageName> {
 /// The name of the message that a datagram to a peer is, where it is confirmable: another is not
 /// sent again by itself (RFC 7252 section 4.2).
 pub(crate) fn confirmable_to(peer: Peer, datagram: &[u8]) -> Option<MessageName> {
-    match view(datagram) {
-        Ok(message) if message.kind == Kind4::Con => Some(MessageName {
-            peer,
-            mid: message.mid,
-        }),
+    match named(peer, datagram)? {
+        (Kind4::Con, name) => Some(name),
         _ => None,
     }
 }

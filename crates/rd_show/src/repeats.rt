@@ -32,14 +32,11 @@ pub(crate) struct Sendings {
 
 /// How many messages have room.
 fn room() -> NonZeroUsize {
-    match NonZeroUsize::new(MOST_MESSAGES) {
-        Some(room) => room,
-        None => NonZeroUsize::MIN,
-    }
+    NonZeroUsize::new(MOST_MESSAGES).unwrap_or(NonZeroUsize::MIN)
 }
 
 impl Arrivals {
-    /// Nothing came yet.
+    /// Nothing came yet. `Starved`: out of memory.
     pub(crate) fn make(alloc: Global) -> Result<Arrivals, Starved> {
         Ok(Arrivals {
             latest: Moment(0),
@@ -81,7 +78,7 @@ impl Arrivals {
 }
 
 impl Sendings {
-    /// Nothing was sent yet.
+    /// Nothing was sent yet. `Starved`: out of memory.
     pub(crate) fn make(alloc: Global) -> Result<Sendings, Starved> {
         Ok(Sendings {
             octets: LruCache::new(alloc, room())?,
@@ -97,7 +94,7 @@ impl Sendings {
     }
 
     /// The directory sends a datagram. Answers whether it is sent again, the same octets to the
-    /// same peer (RFC 7252 section 4.2).
+    /// same peer (RFC 7252 section 4.2). `Starved`: out of memory.
     pub(crate) fn note(
         &mut self,
         alloc: Global,
