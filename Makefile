@@ -37,7 +37,7 @@ build-%:
 clients: build-rd_serve
 	@python3 clients/run.py $(WORKERS:%=--workers %) bin/rd_serve
 
-hostile: build-rd_serve build-rd_replay
+hostile: build-rd_serve build-rd_replay build-rd_show
 	@python3 hostile/run.py --seed $(SEED)
 	@python3 hostile/run.py --seed $(SEED) --starve 997
 	@python3 hostile/each.py --seed $(SEED)

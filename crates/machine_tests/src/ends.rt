@@ -14,6 +14,31 @@ const PING: &[u8] = b"in 0 5 192.0.2.10:5683 40001234\n";
 /// What is said of a trace whose second line is bad.
 const SAID: &[u8] = b"line 2: form\n";
 
+/// A trace of an observer who is told of a link and of its lapse, and not of one that comes and
+/// goes between two ticks (RFC 7641).
+const OBSERVED: &[u8] = b"\
+    in 0 1000 192.0.2.30:40000 41010010c1605972642d6c6f6f6b7570037265734c72743d6c696768742d6c7\
+      578\n\
+    in 0 1100 192.0.2.20:61616 41020001d1b272644865703d6f74686572ff3c2f703e3b72743d2270756d702\
+      2\n\
+    go 0 1100\n\
+    tick 0 1200\n\
+    in 0 1300 192.0.2.10:5683 41020001a1b2726411283865703d6e6f646531066c743d363030ff3c2f74656d\
+      703e3b72743d2274656d7065726174757265223b63743d302c3c2f6c696768743e3b72743d226c696768742d6c\
+      7578223b69663d2273656e736f7222\n\
+    go 0 1300\n\
+    tick 0 1400\n\
+    in 0 1400 192.0.2.30:40000 60000000\n\
+    tick 0 601300\n\
+    in 0 601301 192.0.2.30:40000 60000001\n\
+    in 0 700000 192.0.2.10:5683 41020001a1b2726411283865703d6e6f646531066c743d363030ff3c2f7465\
+      6d703e3b72743d2274656d7065726174757265223b63743d302c3c2f6c696768743e3b72743d226c696768742d\
+      6c7578223b69663d2273656e736f7222\n\
+    go 0 700000\n\
+    in 0 700010 192.0.2.10:5683 41040009a3b272640133\n\
+    go 0 700010\n\
+    tick 0 700020\n";
+
 /// How a line so many times is replayed, and how many octets are written, where calls of the
 /// source or of the output fail.
 fn ends_with(
@@ -51,6 +76,66 @@ fn each_call_may_fail(rt: HostRuntime) -> Result<(), Fail> {
         ends_with(alloc, PING, 19, b"", &[20])?,
         (Status::Done, 599)
     );
+    Ok(())
+}
+
+/// How the trace of an observer ends, and what is written, where one call of the source or of the
+/// output fails.
+fn observed_with(
+    alloc: Global,
+    unread: &[u8],
+    unwritten: &[u8],
+) -> Result<(Status, Bytes), Starved> {
+    let trace = Bytes::copy_of(alloc, OBSERVED)?;
+    let mut source = MemSource::of(trace, Bytes::copy_of(alloc, unread)?);
+    let mut out = MemSink::of(alloc, Bytes::copy_of(alloc, unwritten)?);
+    let status = replay(alloc, &[], &mut source, &mut out, &mut SureSink::new());
+    Ok((status, Bytes::copy_of(alloc, out.as_slice())?))
+}
+
+/// How the trace of an observer ends where one call fails, and whether what is written is a
+/// beginning of the whole, and all of it where nothing failed.
+fn ending_with(
+    alloc: Global,
+    whole: &[u8],
+    unread: &[u8],
+    unwritten: &[u8],
+) -> Result<(Status, bool), Starved> {
+    let (status, written) = observed_with(alloc, unread, unwritten)?;
+    let is_whole = status != Status::Done || written.len() == whole.len();
+    Ok((status, whole.starts_with(written.as_slice()) && is_whole))
+}
+
+/// One call reads the trace and one its end, and each of the seven answers and notices and the last
+/// line is a call of its own: a later one is never made.
+#[test]
+fn what_was_written_is_a_beginning(rt: HostRuntime) -> Result<(), Fail> {
+    let alloc = rt.alloc();
+    let (status, whole) = observed_with(alloc, b"", b"")?;
+    assert_eq!(rt;
+        (status, whole.as_slice().ends_with(b"end 4 1 1\n")),
+        (Status::Done, true)
+    );
+    for call in 0..=20 {
+        let unread = if call < 2 {
+            Status::ReadFault
+        } else {
+            Status::Done
+        };
+        let unwritten = if call < 8 {
+            Status::WriteFault
+        } else {
+            Status::Done
+        };
+        assert_eq!(rt;
+            ending_with(alloc, whole.as_slice(), &[call], b"")?,
+            (unread, true)
+        );
+        assert_eq!(rt;
+            ending_with(alloc, whole.as_slice(), b"", &[call])?,
+            (unwritten, true)
+        );
+    }
     Ok(())
 }
 

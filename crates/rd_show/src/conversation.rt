@@ -3,9 +3,11 @@ ghost use Rattle.std.specs.Prelude.{◌≤◌, IfOk};
 ghost use Rattle.line_model.specs.Lines.{IsLine};
 ghost use Rattle.rd_server.specs.Machines.{IsMachine};
 
+use super::changes::Change;
 use super::lines::{write_bad, write_end, write_line, write_sent};
 use super::pending::Pending;
-use super::serving::{Change, Serving};
+use super::repeats::{Arrivals, Sendings};
+use super::serving::Serving;
 use rd_base::Starved;
 use rd_server::{Machine, Status, Trouble};
 use std::alloc::Global;
@@ -20,6 +22,10 @@ pub(crate) struct Conversation {
     machine: Machine,
     /// The request that each worker serves.
     serving: Serving,
+    /// The messages that came.
+    arrivals: Arrivals,
+    /// The messages that the directory sent.
+    sendings: Sendings,
     /// What has come of the next line.
     pending: Pending,
     /// How many lines were shown.
@@ -52,6 +58,8 @@ impl Conversation {
             alloc,
             machine: Machine::make(alloc, workers)?,
             serving: Serving::nothing(),
+            arrivals: Arrivals::make(alloc)?,
+            sendings: Sendings::make(alloc)?,
             pending: Pending::make(alloc),
             lines: 0,
             first_bad: None,
@@ -72,21 +80,17 @@ impl Conversation {
     }
 
     /// Writes what a line says that was done, and what the directory sent.
-    fn tell_done(
-        &mut self,
-        page: &mut String,
-        said: &str,
-        change: Option<Change>,
-    ) -> Result<(), Starved>
+    fn tell_done(&mut self, page: &mut String, said: &str, change: &Change) -> Result<(), Starved>
         requires { IsMachine self.old.machine }
         ensures { IfOk result (λ _. IsMachine self.new.machine) }
     {
-        if let Some(change) = change {
-            let is_busy = self.machine.is_busy(change.worker());
-            self.serving.note(change, is_busy);
+        if let Some(worker) = change.worker {
+            let is_busy = self.machine.is_busy(worker);
+            self.serving.note(worker, change.message, is_busy);
         }
+        self.arrivals.note(change)?;
         page.push_str(said)?;
-        write_sent(page, self.alloc, self.machine.sent())
+        write_sent(page, self.alloc, &mut self.sendings, self.machine.sent())
     }
 
     /// Does what a line says, and writes that and what the directory sends; of a bad line only that
@@ -97,10 +101,11 @@ impl Conversation {
         ensures { IfOk result (λ _. IsMachine self.new.machine) }
     {
         let mut said = String::new(self.alloc);
-        write_line(&mut said, self.alloc, &self.serving, &line)?;
-        let change = Change::of(&line);
+        let change = Change::of(&self.serving, &line);
+        let is_repeat = self.arrivals.is_repeat(&change);
+        write_line(&mut said, self.alloc, &self.serving, is_repeat, &line)?;
         match done(&mut self.machine, line)? {
-            None => self.tell_done(page, said.as_str(), change),
+            None => self.tell_done(page, said.as_str(), &change),
             Some(why) => self.tell_bad(page, why),
         }
     }

@@ -1,9 +1,10 @@
 //! What a line of a trace says, and what the directory sends, as text.
 
 use super::moments::write_moment;
+use super::repeats::Sendings;
 use super::serving::Serving;
 use message_text::write_datagram;
-use rd_base::{Moment, Peer, Starved, peer_text};
+use rd_base::{Peer, Starved, peer_text};
 use rd_desk::Outbox;
 use std::alloc::Global;
 use trace_text::{Line, LineBad, Reason};
@@ -18,25 +19,27 @@ fn write_message(page: &mut String, datagram: &[u8]) -> Result<(), Starved> {
     Ok(page.push_str("\n")?)
 }
 
-/// Writes who sends a datagram to which worker, and when.
+/// Writes from whom a datagram comes to which worker, and whether it is a repeat.
 fn write_sender(
     page: &mut String,
     alloc: Global,
     worker: u8,
-    moment: Moment,
     peer: &Peer,
+    is_repeat: bool,
 ) -> Result<(), Starved> {
     let from = peer_text(alloc, peer)?;
     let from = from.as_str();
-    write_moment(page, moment)?;
-    Ok(writeln!(page, "{from} → directory (worker {worker})")?)
+    let mark = if is_repeat { ", repeated" } else { "" };
+    Ok(writeln!(page, "{from} → directory (worker {worker}{mark})")?)
 }
 
-/// Writes what a line says, by what each worker serves before it.
+/// Writes what a line says, by what each worker serves before it, and whether a message that comes
+/// is a repeat.
 pub(crate) fn write_line(
     page: &mut String,
     alloc: Global,
     serving: &Serving,
+    is_repeat: bool,
     line: &Line,
 ) -> Result<(), Starved> {
     match line {
@@ -46,7 +49,8 @@ pub(crate) fn write_line(
             peer,
             datagram,
         } => {
-            write_sender(page, alloc, *worker, *moment, peer)?;
+            write_moment(page, *moment)?;
+            write_sender(page, alloc, *worker, peer, is_repeat)?;
             write_message(page, datagram.as_slice())
         }
         Line::Go(worker, moment) => {
@@ -60,24 +64,32 @@ pub(crate) fn write_line(
     }
 }
 
-/// Writes a datagram that the directory sends.
+/// Writes a datagram that the directory sends, and whether it is sent again.
 fn write_answer(
     page: &mut String,
     alloc: Global,
     peer: &Peer,
     datagram: &[u8],
+    is_again: bool,
 ) -> Result<(), Starved> {
     let to = peer_text(alloc, peer)?;
     let to = to.as_str();
-    writeln!(page, "  directory → {to}")?;
+    let mark = if is_again { " (sent again)" } else { "" };
+    writeln!(page, "  directory → {to}{mark}")?;
     write_message(page, datagram)
 }
 
-/// Writes what the directory sends.
-pub(crate) fn write_sent(page: &mut String, alloc: Global, sent: &Outbox) -> Result<(), Starved> {
+/// Writes what the directory sends, by what it sent before.
+pub(crate) fn write_sent(
+    page: &mut String,
+    alloc: Global,
+    sendings: &mut Sendings,
+    sent: &Outbox,
+) -> Result<(), Starved> {
     'datagrams: for index in 0..sent.len() {
         if let Some((peer, datagram)) = sent.at(index) {
-            write_answer(page, alloc, &peer, datagram)?;
+            let is_again = sendings.note(alloc, peer, datagram)?;
+            write_answer(page, alloc, &peer, datagram, is_again)?;
         }
     }
     Ok(())

@@ -5,20 +5,26 @@
 ghost use Rattle.std.specs.Prelude.{◌≤◌};
 ghost use Rattle.rd_server.specs.Machines.{IsMachine};
 
+mod changes;
 mod conversation;
 mod lines;
 mod moments;
+mod names;
 mod pending;
+mod repeats;
 mod serving;
 mod stops;
+#[cfg(test)]
+mod tests;
 mod words;
 
+use clap::Error;
 use conversation::Conversation;
 use rd_base::{Got, Source, StdSink, StdSource};
 use rd_server::{Status, WordsFault, given_words, report};
 use std::process::ExitCode;
 use stops::Stop;
-use words::workers_asked;
+use words::{Otherwise, workers_asked};
 
 /// What is said where the words are not those of the program.
 const USAGE: &str = "usage: rd_show [--workers N]\n";
@@ -56,12 +62,29 @@ fn show_all(rt: &HostRuntime, workers: u8) -> Status
     }
 }
 
+/// Prints what is said about the program.
+fn tell(rt: &HostRuntime, text: &Error) -> Status {
+    match rt.print(text) {
+        Ok(()) => Status::Done,
+        Err(fault) => Stop::from(fault).status(),
+    }
+}
+
+/// Does what words ask for that do not ask for a trace to be shown.
+fn do_otherwise(rt: &HostRuntime, asked: &Otherwise) -> Status {
+    match asked {
+        Otherwise::Say(text) => tell(rt, text),
+        Otherwise::Usage => Status::Usage,
+        Otherwise::Starved => Status::Memory,
+    }
+}
+
 /// Does what the words of the command line ask for.
 fn run(rt: &HostRuntime) -> Status {
     match given_words(rt) {
-        Ok(words) => match workers_asked(words.as_slice()) {
-            Some(workers) => show_all(rt, workers),
-            None => Status::Usage,
+        Ok(words) => match workers_asked(rt.alloc(), words.as_slice()) {
+            Ok(workers) => show_all(rt, workers),
+            Err(asked) => do_otherwise(rt, &asked),
         },
         Err(WordsFault::Usage) => Status::Usage,
         Err(WordsFault::Starved) => Status::Memory,

@@ -1,8 +1,38 @@
-//! The words of the command line.
-ghost use Rattle.std.specs.Prelude.{◌≤◌, IfSome};
+//! The words of the command line: their form is tested, and clap reads them.
+ghost use Rattle.std.specs.Prelude.{◌≤◌, IfSome, IfOk};
 
 use super::serving::MOST_WORKERS;
+use clap::error::ErrorKind;
+use clap::{Arg, ArgMatches, Command, Error};
+use std::alloc::{AllocError, Global};
 use trace_text::number_read;
+
+/// What words ask for that do not ask for a trace to be shown.
+#[derive(Debug, Drop)]
+pub(crate) enum Otherwise {
+    /// To say something about the program.
+    Say(Error),
+    /// Nothing: they are not those of the program.
+    Usage,
+    /// Memory ran out.
+    Starved,
+}
+
+impl From<AllocError> for Otherwise {
+    fn from(_: AllocError) -> Otherwise {
+        Otherwise::Starved
+    }
+}
+
+impl From<Error> for Otherwise {
+    fn from(error: Error) -> Otherwise {
+        match error.kind() {
+            ErrorKind::DisplayHelp | ErrorKind::DisplayVersion => Otherwise::Say(error),
+            ErrorKind::OutOfMemory => Otherwise::Starved,
+            _ => Otherwise::Usage,
+        }
+    }
+}
 
 /// The number of workers that a text prints, from 1 to the most.
 fn count_of(text: &str) -> Option<u8>
@@ -14,15 +44,59 @@ fn count_of(text: &str) -> Option<u8>
     }
 }
 
-/// How many workers the words ask for: `--workers` with a number from 1 to 16, once at most, as two
-/// words or joined by `=`; 16 without it. None where they are others.
-pub(crate) fn workers_asked(words: &[String]) -> Option<u8>
-    ensures { IfSome result (λ workers. workers ≤ 16) }
-{
+/// Whether a word alone asks for a text about the program.
+fn is_question(word: &str) -> bool {
+    matches!(word, "--help" | "-h" | "--version" | "-V")
+}
+
+/// Whether words are those of the program: `--workers` with a number from 1 to 16, once at most, as
+/// two words or joined by `=`, or a question about the program alone.
+fn are_words(words: &[String]) -> bool {
     match words {
-        [] => Some(MOST_WORKERS as u8),
-        [joined] => count_of(joined.as_str().strip_prefix("--workers=")?),
-        [name, count] if name.as_str() == "--workers" => count_of(count.as_str()),
-        _ => None,
+        [] => true,
+        [word] => match word.as_str().strip_prefix("--workers=") {
+            Some(count) => count_of(count).is_some(),
+            None => is_question(word.as_str()),
+        },
+        [name, count] => name.as_str() == "--workers" && count_of(count.as_str()).is_some(),
+        _ => false,
     }
+}
+
+/// The command line as clap reads it, and the texts about the program.
+fn command<'a>(alloc: Global) -> Result<Command<'a>, AllocError> {
+    let workers = Arg::new(alloc, "workers")
+        .long("workers")
+        .value_name("N")
+        .help("How many workers the directory has, from 1 to 16")
+        .default_value("16");
+    Command::new(alloc, "rd_show")
+        .version("0.1.0")
+        .about(
+            "Shows a recorded trace as a conversation: who sent what to whom, and what the directory answered",
+        )
+        .override_usage("rd_show [--workers N] < TRACE")
+        .no_binary_name(true)
+        .arg(workers)
+}
+
+/// How many workers words ask for whose form was tested, as clap reads them.
+fn workers_read(alloc: Global, words: &[String]) -> Result<u8, Otherwise>
+    ensures { IfOk result (λ workers. workers ≤ 16) }
+{
+    let matches = command(alloc)?.try_get_matches_from(words)?;
+    let Some(count) = matches.get_str("workers") else {
+        return Err(Otherwise::Usage);
+    };
+    count_of(count).ok_or(Otherwise::Usage)
+}
+
+/// How many workers the words ask for, 16 where they name none; or what else they ask for.
+pub(crate) fn workers_asked(alloc: Global, words: &[String]) -> Result<u8, Otherwise>
+    ensures { IfOk result (λ workers. workers ≤ 16) }
+{
+    if !are_words(words) {
+        return Err(Otherwise::Usage);
+    }
+    workers_read(alloc, words)
 }
