@@ -1,5 +1,6 @@
 use Rattle.std.proofs.Common.{◌≡◌, ◌⊎◌, List, sym, ap, subst, ◌∙◌}
 use Rattle.history_model.specs.declared.entries.Entry.{Entry}
+use Rattle.journal_model.specs.Journal.{entries}
 use Rattle.journal_model.specs.Seats.{rows_of, Agree}
 use Rattle.turn_lock.specs.Shown.{seen_of}
 use Rattle.rd_desk.specs.Shown.{Shown}
@@ -11,24 +12,27 @@ use Rattle.rd_seat.proofs.turns.begin.Goals as goal
 -- entries of the journal
 pub returns : goal.returns
 unfolding rows_of
-returns g c = record {
-  lock = c.take-shared.ensures.lock;
-  holding = c.take-shared.ensures.holding;
-  number = c.take-shared.ensures.number;
-  label = c.take-shared.ensures.label;
-  goes_on = record { further = c.take-shared.ensures.seen.0; whole = c.take-shared.ensures.seen.1 };
-  mine = c.take-shared.ensures.mine;
-  by_others =
-      ap (λ n. rows_of n (seen_of c.take-shared.new.pass)) (sym c.take-shared.ensures.number)
-      ∙ (sym c.take-shared.ensures.own ∙ (c.take-shared.ensures.mine ∙ c.requires.own));
-  stands = subst (λ d. StandsAtTurn (seen_of c.take-shared.new.pass) d)
-      (sym c.meet.ensures.desk) c.take-shared.ensures.value;
-  board = ap (λ (d : Shown PublisherSeen). d.board.name) c.meet.ensures.desk
-      ∙ c.take-shared.ensures.value_label;
-  name = c.meet.ensures.name;
-  met = c.meet.ensures.seen;
-  only = subst (λ (h : List Entry). (c.meet.new.looker.seen ≡ c.args.looker.now.seen) ⊎
-      (c.meet.new.looker.seen ≡ h)) c.take-shared.ensures.value.told c.meet.ensures.only;
-  order = λ front h. subst (Agree front) c.take-shared.ensures.value.told
-      (c.meet.ensures.order front h);
-}
+returns g c =
+    let told : c.deref_mut.result.now.board.told ≡ entries (seen_of c.take-shared.new.pass) =
+    ap (λ (d : Shown PublisherSeen). d.board.told) c.deref_mut.ensures.value
+    ∙ c.take-shared.ensures.value.told in record {
+      lock = c.take-shared.ensures.lock;
+      holding = c.take-shared.ensures.holding;
+      number = c.take-shared.ensures.number;
+      label = c.take-shared.ensures.label;
+      goes_on = record { further = c.take-shared.ensures.seen.0; whole = c.take-shared.ensures.seen.1 };
+      mine = c.take-shared.ensures.mine;
+      by_others =
+          ap (λ n. rows_of n (seen_of c.take-shared.new.pass)) (sym c.take-shared.ensures.number)
+          ∙ (sym c.take-shared.ensures.own ∙ (c.take-shared.ensures.mine ∙ c.requires.own));
+      stands = subst (λ d. StandsAtTurn (seen_of c.take-shared.new.pass) d)
+          (sym (c.meet.ensures.desk ∙ c.deref_mut.ensures.value)) c.take-shared.ensures.value;
+      board = ap (λ (d : Shown PublisherSeen). d.board.name)
+          (c.meet.ensures.desk ∙ c.deref_mut.ensures.value)
+          ∙ c.take-shared.ensures.value_label;
+      name = c.meet.ensures.name;
+      met = c.meet.ensures.seen;
+      only = subst (λ (h : List Entry). (c.meet.new.looker.seen ≡ c.args.looker.now.seen) ⊎
+          (c.meet.new.looker.seen ≡ h)) told c.meet.ensures.only;
+      order = λ front h. subst (Agree front) told (c.meet.ensures.order front h);
+    }

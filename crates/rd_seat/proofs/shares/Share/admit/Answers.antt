@@ -12,9 +12,9 @@ use Rattle.rd_seat.specs.Seats.{MakesStep}
 use Rattle.rd_seat.specs.Shares.{share_shown}
 use Rattle.journal_model.specs.Journal.{entries_of}
 use Rattle.rd_seat.specs.Jobs.{LeavesJob}
-use Rattle.rd_seat.specs.OneTurn.{HasEnded}
+use Rattle.rd_seat.specs.OneTurn.{HasBegun, HasEnded}
 use Rattle.rd_seat.specs.Steps.{admit_step, first_entry}
-use Rattle.rd_seat.specs.Turns.{HasStepped}
+use Rattle.rd_seat.specs.Turns.{HasStepped, StandsAtTurn}
 use Rattle.rd_seat.proofs.JobLaws.{held-LeavesJob, held-OpensJob}
 use Rattle.rd_seat.proofs.TurnLaws.{step-IsCalled, step-HasStepped, turns-NoLaterLook}
 use Rattle.rd_seat.proofs.OneTurnLaws.{Turn, turn-rests, turn-met, turn-MakesStep}
@@ -24,6 +24,8 @@ use Rattle.rd_seat.proofs.shares.Share.admit.Goals as goal
 pub end-requires-clause-stepped : goal.end-requires-clause-stepped
 end-requires-clause-stepped g c =
     let found : List Row = seen_of c.begin-shared.new.pass in
+    let home : StandsAtTurn found c.deref_mut.result.now = subst (StandsAtTurn found)
+    (sym c.deref_mut.ensures.value) c.begin-shared.ensures.stands in
     let own : number_of c.begin-shared.new.pass ≡ c.args.self.now.mids.worker =
     c.begin-shared.ensures.number ∙ c.requires.rest.number in
     let drew : c.of-mids.result.value.drawn ≡ c.args.self.now.mids.drawn =
@@ -33,14 +35,14 @@ end-requires-clause-stepped g c =
     let s : Step = admit_step (number_of c.begin-shared.new.pass) c.args.now c.args.word
     c.args.peer c.args.datagram.now c.of-mids.result.value.drawn in
     let called : IsCalled found s c.args.now c.args.self.now.mids
-    c.begin-shared.result.desk.value.tables = step-IsCalled found s c.args.self.now.mids
-    c.begin-shared.result.desk.value c.begin-shared.ensures.stands refl own drew in
+    c.deref_mut.result.now.tables = step-IsCalled found s c.args.self.now.mids
+    c.deref_mut.result.now home refl own drew in
     let may : MayFollow found s = record {
       commits = tt;
       handed =
           record {
             in_time = turns-NoLaterLook found c.args.now.0
-                c.begin-shared.ensures.stands.turns;
+                home.turns;
             worker = few;
             word = λ h. absurd (false≢true h);
           };
@@ -53,7 +55,7 @@ end-requires-clause-stepped g c =
     (number_of c.begin-shared.new.pass) found c.admit-admitted.new.self)
     (sym c.is_starved.ensures)
     (step-HasStepped found s (is_starved_admission c.admit-admitted.result)
-    c.begin-shared.result.desk.value c.admit-admitted.new.self c.begin-shared.ensures.stands may
+    c.deref_mut.result.now c.admit-admitted.new.self home may
     refl made.stands c.admit-admitted.ensures.told
     (c.admit-admitted.ensures.staged found s refl refl refl refl called))
 
@@ -61,6 +63,12 @@ end-requires-clause-stepped g c =
 pub returns : goal.returns
 returns g c =
     let found : List Row = seen_of c.begin-shared.new.pass in
+    let home : StandsAtTurn found c.deref_mut.result.now = subst (StandsAtTurn found)
+    (sym c.deref_mut.ensures.value) c.begin-shared.ensures.stands in
+    let begun : HasBegun c.args.self.now.pass c.begin-shared.new.pass c.args.self.now.looker
+    c.begin-shared.new.looker c.deref_mut.result.now = subst (HasBegun c.args.self.now.pass
+    c.begin-shared.new.pass c.args.self.now.looker c.begin-shared.new.looker)
+    (sym c.deref_mut.ensures.value) c.begin-shared.ensures in
     let own : number_of c.begin-shared.new.pass ≡ c.args.self.now.mids.worker =
     c.begin-shared.ensures.number ∙ c.requires.rest.number in
     let drew : c.of-mids.result.value.drawn ≡ c.args.self.now.mids.drawn =
@@ -70,14 +78,14 @@ returns g c =
     let s : Step = admit_step (number_of c.begin-shared.new.pass) c.args.now c.args.word
     c.args.peer c.args.datagram.now c.of-mids.result.value.drawn in
     let called : IsCalled found s c.args.now c.args.self.now.mids
-    c.begin-shared.result.desk.value.tables = step-IsCalled found s c.args.self.now.mids
-    c.begin-shared.result.desk.value c.begin-shared.ensures.stands refl own drew in
+    c.deref_mut.result.now.tables = step-IsCalled found s c.args.self.now.mids
+    c.deref_mut.result.now home refl own drew in
     let may : MayFollow found s = record {
       commits = tt;
       handed =
           record {
             in_time = turns-NoLaterLook found c.args.now.0
-                c.begin-shared.ensures.stands.turns;
+                home.turns;
             worker = few;
             word = λ h. absurd (false≢true h);
           };
@@ -89,10 +97,10 @@ returns g c =
     let turn : Turn c.args.self.now.pass c.begin-shared.new.pass c.end.new.pass
     c.args.self.now.looker c.begin-shared.new.looker c.end.new.looker c.args.self.now.mids
     c.admit-admitted.new.mids c.args.self.now.last c.later-self.result s
-    (is_starved_admission c.admit-admitted.result) c.begin-shared.result.desk.value
+    (is_starved_admission c.admit-admitted.result) c.deref_mut.result.now
     c.admit-admitted.new.self c.admit-admitted.new.out = record {
       rest = c.requires.rest;
-      has_begun = c.begin-shared.ensures;
+      has_begun = begun;
       desk_step = refl;
       worker = own;
       drawn = drew;
@@ -147,5 +155,5 @@ returns g c =
             last =
                 c.later-self.result;
           }))
-          c.begin-shared.ensures.stands.turns.journal (own ∙ sym made.worker) held seen;
+          home.turns.journal (own ∙ sym made.worker) held seen;
     }

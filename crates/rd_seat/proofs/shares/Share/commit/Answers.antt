@@ -8,12 +8,14 @@ use Rattle.rd_desk.specs.UnderWay.{IsCalled, Made}
 use Rattle.rd_desk.specs.Stepping.{is_starved_step}
 use Rattle.rd_desk.specs.WriteJobs.{Write}
 use Rattle.turn_lock.specs.Shown.{seen_of, number_of}
+use Rattle.rd_seat.specs.OneTurn.{HasBegun}
 use Rattle.rd_seat.specs.Seats.{MakesStep}
 use Rattle.rd_seat.specs.Shares.{share_shown}
 use Rattle.rd_seat.specs.Jobs.{IsOpenJob}
 use Rattle.rd_seat.specs.Steps.{commit_step}
 use Rattle.journal_model.specs.Seats.{rows_of}
 use Rattle.journal_model.proofs.desks.OpenForOthers.{CommitReady, open-CommitReady}
+use Rattle.rd_seat.specs.Turns.{StandsAtTurn}
 use Rattle.rd_seat.proofs.TurnLaws.{step-IsCalled, step-HasStepped, turns-NoLaterLook}
 use Rattle.rd_seat.proofs.OneTurnLaws.{Turn, turn-rests, turn-met, turn-MakesStep}
 use Rattle.rd_seat.proofs.shares.Share.commit.Goals as goal
@@ -22,6 +24,8 @@ use Rattle.rd_seat.proofs.shares.Share.commit.Goals as goal
 pub end-requires-clause-stepped : goal.end-requires-clause-stepped
 end-requires-clause-stepped g c =
     let found : List Row = seen_of c.begin-shared.new.pass in
+    let home : StandsAtTurn found c.deref_mut.result.now = subst (StandsAtTurn found)
+    (sym c.deref_mut.ensures.value) c.begin-shared.ensures.stands in
     let own : number_of c.begin-shared.new.pass ≡ c.args.self.now.mids.worker =
     c.begin-shared.ensures.number ∙ c.requires.1.1.1.0.number in
     let drew : c.of-mids.result.value.drawn ≡ c.args.self.now.mids.drawn =
@@ -31,8 +35,8 @@ end-requires-clause-stepped g c =
     let s : Step = commit_step (number_of c.begin-shared.new.pass) g.place c.args.now
     c.of-kept.result.value.peer c.of-kept.result.value.datagram c.of-mids.result.value.drawn in
     let called : IsCalled found s c.args.now c.args.self.now.mids
-    c.begin-shared.result.desk.value.tables = step-IsCalled found s c.args.self.now.mids
-    c.begin-shared.result.desk.value c.begin-shared.ensures.stands refl own drew in
+    c.deref_mut.result.now.tables = step-IsCalled found s c.args.self.now.mids
+    c.deref_mut.result.now home refl own drew in
     let peers : c.of-kept.result.value.peer ≡ c.args.job.peer =
     ap (λ (w : Write). w.peer) c.of-kept.ensures in
     let octets : c.of-kept.result.value.datagram ≡ c.args.job.datagram =
@@ -44,7 +48,7 @@ end-requires-clause-stepped g c =
     open-CommitReady first s g.place c.args.job.admitted c.args.job.datagram
     (seen_of c.args.self.now.pass) found job.opened job.admitted_at
     c.begin-shared.ensures.goes_on.further c.begin-shared.ensures.goes_on.whole
-    c.begin-shared.ensures.stands.turns.journal
+    home.turns.journal
     (subst (λ (n : ℕ). rows_of n found ≡ rows_of n (seen_of c.args.self.now.pass))
     c.requires.1.1.1.0.number c.begin-shared.ensures.by_others) (sym own) (sym peers)
     (sym octets) octets in
@@ -53,7 +57,7 @@ end-requires-clause-stepped g c =
       handed =
           record {
             in_time = turns-NoLaterLook found c.args.now.0
-                c.begin-shared.ensures.stands.turns;
+                home.turns;
             worker = few;
             word = λ h. refl;
           };
@@ -63,8 +67,8 @@ end-requires-clause-stepped g c =
     c.commit-stepped.new.mids = c.commit-stepped.ensures.made found s g.place ready.message
     refl peers octets refl ready.read ready.is_open called in
     step-HasStepped found s (is_starved_step c.commit-stepped.result)
-    c.begin-shared.result.desk.value
-    c.commit-stepped.new.self c.begin-shared.ensures.stands may refl made.stands
+    c.deref_mut.result.now
+    c.commit-stepped.new.self home may refl made.stands
     c.commit-stepped.ensures.told
     (c.commit-stepped.ensures.staged found s g.place ready.message refl peers octets refl
     ready.read ready.is_open called)
@@ -73,6 +77,12 @@ end-requires-clause-stepped g c =
 pub returns : goal.returns
 returns g c =
     let found : List Row = seen_of c.begin-shared.new.pass in
+    let home : StandsAtTurn found c.deref_mut.result.now = subst (StandsAtTurn found)
+    (sym c.deref_mut.ensures.value) c.begin-shared.ensures.stands in
+    let begun : HasBegun c.args.self.now.pass c.begin-shared.new.pass c.args.self.now.looker
+    c.begin-shared.new.looker c.deref_mut.result.now = subst (HasBegun c.args.self.now.pass
+    c.begin-shared.new.pass c.args.self.now.looker c.begin-shared.new.looker)
+    (sym c.deref_mut.ensures.value) c.begin-shared.ensures in
     let own : number_of c.begin-shared.new.pass ≡ c.args.self.now.mids.worker =
     c.begin-shared.ensures.number ∙ c.requires.1.1.1.0.number in
     let drew : c.of-mids.result.value.drawn ≡ c.args.self.now.mids.drawn =
@@ -82,8 +92,8 @@ returns g c =
     let s : Step = commit_step (number_of c.begin-shared.new.pass) g.place c.args.now
     c.of-kept.result.value.peer c.of-kept.result.value.datagram c.of-mids.result.value.drawn in
     let called : IsCalled found s c.args.now c.args.self.now.mids
-    c.begin-shared.result.desk.value.tables = step-IsCalled found s c.args.self.now.mids
-    c.begin-shared.result.desk.value c.begin-shared.ensures.stands refl own drew in
+    c.deref_mut.result.now.tables = step-IsCalled found s c.args.self.now.mids
+    c.deref_mut.result.now home refl own drew in
     let peers : c.of-kept.result.value.peer ≡ c.args.job.peer =
     ap (λ (w : Write). w.peer) c.of-kept.ensures in
     let octets : c.of-kept.result.value.datagram ≡ c.args.job.datagram =
@@ -95,7 +105,7 @@ returns g c =
     open-CommitReady first s g.place c.args.job.admitted c.args.job.datagram
     (seen_of c.args.self.now.pass) found job.opened job.admitted_at
     c.begin-shared.ensures.goes_on.further c.begin-shared.ensures.goes_on.whole
-    c.begin-shared.ensures.stands.turns.journal
+    home.turns.journal
     (subst (λ (n : ℕ). rows_of n found ≡ rows_of n (seen_of c.args.self.now.pass))
     c.requires.1.1.1.0.number c.begin-shared.ensures.by_others) (sym own) (sym peers)
     (sym octets) octets in
@@ -104,7 +114,7 @@ returns g c =
       handed =
           record {
             in_time = turns-NoLaterLook found c.args.now.0
-                c.begin-shared.ensures.stands.turns;
+                home.turns;
             worker = few;
             word = λ h. refl;
           };
@@ -116,10 +126,10 @@ returns g c =
     let turn : Turn c.args.self.now.pass c.begin-shared.new.pass c.end.new.pass
     c.args.self.now.looker c.begin-shared.new.looker c.end.new.looker c.args.self.now.mids
     c.commit-stepped.new.mids c.args.self.now.last c.later-self.result s
-    (is_starved_step c.commit-stepped.result) c.begin-shared.result.desk.value
+    (is_starved_step c.commit-stepped.result) c.deref_mut.result.now
     c.commit-stepped.new.self c.commit-stepped.new.out = record {
       rest = c.requires.1.1.1.0;
-      has_begun = c.begin-shared.ensures;
+      has_begun = begun;
       desk_step = refl;
       worker = own;
       drawn = drew;

@@ -9,9 +9,11 @@ use Rattle.journal_model.specs.declared.steps.StepKind.TheVariants as step
 use Rattle.rd_desk.specs.KeepJobs.{Keep}
 use Rattle.rd_desk.specs.Stepping.{is_starved_step}
 use Rattle.turn_lock.specs.Shown.{seen_of, number_of}
+use Rattle.rd_seat.specs.OneTurn.{HasBegun}
 use Rattle.rd_seat.specs.Seats.{MakesStep}
 use Rattle.rd_seat.specs.Shares.{share_shown}
 use Rattle.rd_seat.specs.Steps.{keep_step}
+use Rattle.rd_seat.specs.Turns.{StandsAtTurn}
 use Rattle.rd_seat.proofs.TurnLaws.{step-IsCalled, keep-HasStepped, turns-NoLaterLook}
 use Rattle.rd_seat.proofs.OneTurnLaws.{Turn, turn-rests, turn-met, turn-MakesStep}
 use Rattle.rd_seat.proofs.shares.Share.keep.Goals as goal
@@ -20,6 +22,8 @@ use Rattle.rd_seat.proofs.shares.Share.keep.Goals as goal
 pub end-requires-clause-stepped : goal.end-requires-clause-stepped
 end-requires-clause-stepped g c =
     let found : List Row = seen_of c.begin-shared.new.pass in
+    let home : StandsAtTurn found c.deref_mut.result.now = subst (StandsAtTurn found)
+    (sym c.deref_mut.ensures.value) c.begin-shared.ensures.stands in
     let own : number_of c.begin-shared.new.pass ≡ c.args.self.now.mids.worker =
     c.begin-shared.ensures.number ∙ c.requires.rest.number in
     let drew : c.of-mids.result.value.drawn ≡ c.args.self.now.mids.drawn =
@@ -29,14 +33,14 @@ end-requires-clause-stepped g c =
     let s : Step = keep_step (number_of c.begin-shared.new.pass) c.args.now c.of-kept.result.value
     c.of-mids.result.value.drawn in
     let called : IsCalled found s c.args.now c.args.self.now.mids
-    c.begin-shared.result.desk.value.tables = step-IsCalled found s c.args.self.now.mids
-    c.begin-shared.result.desk.value c.begin-shared.ensures.stands refl own drew in
+    c.deref_mut.result.now.tables = step-IsCalled found s c.args.self.now.mids
+    c.deref_mut.result.now home refl own drew in
     let may : MayFollow found s = record {
       commits = tt;
       handed =
           record {
             in_time = turns-NoLaterLook found c.args.now.0
-                c.begin-shared.ensures.stands.turns;
+                home.turns;
             worker = few;
             word = λ h. refl;
           };
@@ -49,13 +53,19 @@ end-requires-clause-stepped g c =
     (ap (λ (k : Keep). k.datagram) c.of-kept.ensures) called in
     keep-HasStepped found (number_of c.begin-shared.new.pass) c.args.now c.of-kept.result.value
     c.of-mids.result.value.drawn (is_starved_step c.keep-stepped.result)
-    c.begin-shared.result.desk.value c.keep-stepped.new.self
-    c.begin-shared.ensures.stands few made.stands c.keep-stepped.ensures.board
+    c.deref_mut.result.now c.keep-stepped.new.self
+    home few made.stands c.keep-stepped.ensures.board
 
 -- and so the seat had its turn
 pub returns : goal.returns
 returns g c =
     let found : List Row = seen_of c.begin-shared.new.pass in
+    let home : StandsAtTurn found c.deref_mut.result.now = subst (StandsAtTurn found)
+    (sym c.deref_mut.ensures.value) c.begin-shared.ensures.stands in
+    let begun : HasBegun c.args.self.now.pass c.begin-shared.new.pass c.args.self.now.looker
+    c.begin-shared.new.looker c.deref_mut.result.now = subst (HasBegun c.args.self.now.pass
+    c.begin-shared.new.pass c.args.self.now.looker c.begin-shared.new.looker)
+    (sym c.deref_mut.ensures.value) c.begin-shared.ensures in
     let own : number_of c.begin-shared.new.pass ≡ c.args.self.now.mids.worker =
     c.begin-shared.ensures.number ∙ c.requires.rest.number in
     let drew : c.of-mids.result.value.drawn ≡ c.args.self.now.mids.drawn =
@@ -65,14 +75,14 @@ returns g c =
     let s : Step = keep_step (number_of c.begin-shared.new.pass) c.args.now c.of-kept.result.value
     c.of-mids.result.value.drawn in
     let called : IsCalled found s c.args.now c.args.self.now.mids
-    c.begin-shared.result.desk.value.tables = step-IsCalled found s c.args.self.now.mids
-    c.begin-shared.result.desk.value c.begin-shared.ensures.stands refl own drew in
+    c.deref_mut.result.now.tables = step-IsCalled found s c.args.self.now.mids
+    c.deref_mut.result.now home refl own drew in
     let may : MayFollow found s = record {
       commits = tt;
       handed =
           record {
             in_time = turns-NoLaterLook found c.args.now.0
-                c.begin-shared.ensures.stands.turns;
+                home.turns;
             worker = few;
             word = λ h. refl;
           };
@@ -86,10 +96,10 @@ returns g c =
     let turn : Turn c.args.self.now.pass c.begin-shared.new.pass c.end.new.pass
     c.args.self.now.looker c.begin-shared.new.looker c.end.new.looker c.args.self.now.mids
     c.keep-stepped.new.mids c.args.self.now.last c.later-self.result s
-    (is_starved_step c.keep-stepped.result) c.begin-shared.result.desk.value c.keep-stepped.new.self
+    (is_starved_step c.keep-stepped.result) c.deref_mut.result.now c.keep-stepped.new.self
     c.keep-stepped.new.out = record {
       rest = c.requires.rest;
-      has_begun = c.begin-shared.ensures;
+      has_begun = begun;
       desk_step = refl;
       worker = own;
       drawn = drew;

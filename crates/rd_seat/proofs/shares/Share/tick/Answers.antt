@@ -8,9 +8,11 @@ use Rattle.rd_desk.specs.declared.mids.Mids.{Mids}
 use Rattle.rd_desk.specs.UnderWay.{IsCalled, Made}
 use Rattle.rd_desk.specs.Stepping.{is_starved_step}
 use Rattle.turn_lock.specs.Shown.{seen_of, number_of}
+use Rattle.rd_seat.specs.OneTurn.{HasBegun}
 use Rattle.rd_seat.specs.Seats.{MakesStep}
 use Rattle.rd_seat.specs.Shares.{share_shown}
 use Rattle.rd_seat.specs.Steps.{tick_step}
+use Rattle.rd_seat.specs.Turns.{StandsAtTurn}
 use Rattle.rd_seat.proofs.TurnLaws.{step-IsCalled, tick-HasStepped, turns-NoLaterLook}
 use Rattle.rd_seat.proofs.OneTurnLaws.{Turn, turn-rests, turn-met, turn-MakesStep}
 use Rattle.rd_seat.proofs.shares.Share.tick.Goals as goal
@@ -19,6 +21,8 @@ use Rattle.rd_seat.proofs.shares.Share.tick.Goals as goal
 pub end-requires-clause-stepped : goal.end-requires-clause-stepped
 end-requires-clause-stepped g c =
     let found : List Row = seen_of c.begin-shared.new.pass in
+    let home : StandsAtTurn found c.deref_mut.result.now = subst (StandsAtTurn found)
+    (sym c.deref_mut.ensures.value) c.begin-shared.ensures.stands in
     let own : number_of c.begin-shared.new.pass ≡ c.args.self.now.mids.worker =
     c.begin-shared.ensures.number ∙ c.requires.rest.number in
     let drew : c.of-mids.result.value.drawn ≡ c.args.self.now.mids.drawn =
@@ -28,14 +32,14 @@ end-requires-clause-stepped g c =
     let s : Step = tick_step (number_of c.begin-shared.new.pass) c.args.now c.args.word
     c.of-mids.result.value.drawn in
     let called : IsCalled found s c.args.now c.args.self.now.mids
-    c.begin-shared.result.desk.value.tables = step-IsCalled found s c.args.self.now.mids
-    c.begin-shared.result.desk.value c.begin-shared.ensures.stands refl own drew in
+    c.deref_mut.result.now.tables = step-IsCalled found s c.args.self.now.mids
+    c.deref_mut.result.now home refl own drew in
     let may : MayFollow found s = record {
       commits = tt;
       handed =
           record {
             in_time = turns-NoLaterLook found c.args.now.0
-                c.begin-shared.ensures.stands.turns;
+                home.turns;
             worker = few;
             word = λ h. absurd (false≢true h);
           };
@@ -45,13 +49,19 @@ end-requires-clause-stepped g c =
     c.tick-stepped.new.mids = c.tick-stepped.ensures.made found s refl refl called in
     tick-HasStepped found (number_of c.begin-shared.new.pass) c.args.now c.args.word
     c.of-mids.result.value.drawn (is_starved_step c.tick-stepped.result)
-    c.begin-shared.result.desk.value c.tick-stepped.new.self
-    c.begin-shared.ensures.stands few made.stands c.tick-stepped.ensures.board
+    c.deref_mut.result.now c.tick-stepped.new.self
+    home few made.stands c.tick-stepped.ensures.board
 
 -- and so the seat had its turn
 pub returns : goal.returns
 returns g c =
     let found : List Row = seen_of c.begin-shared.new.pass in
+    let home : StandsAtTurn found c.deref_mut.result.now = subst (StandsAtTurn found)
+    (sym c.deref_mut.ensures.value) c.begin-shared.ensures.stands in
+    let begun : HasBegun c.args.self.now.pass c.begin-shared.new.pass c.args.self.now.looker
+    c.begin-shared.new.looker c.deref_mut.result.now = subst (HasBegun c.args.self.now.pass
+    c.begin-shared.new.pass c.args.self.now.looker c.begin-shared.new.looker)
+    (sym c.deref_mut.ensures.value) c.begin-shared.ensures in
     let own : number_of c.begin-shared.new.pass ≡ c.args.self.now.mids.worker =
     c.begin-shared.ensures.number ∙ c.requires.rest.number in
     let drew : c.of-mids.result.value.drawn ≡ c.args.self.now.mids.drawn =
@@ -61,14 +71,14 @@ returns g c =
     let s : Step = tick_step (number_of c.begin-shared.new.pass) c.args.now c.args.word
     c.of-mids.result.value.drawn in
     let called : IsCalled found s c.args.now c.args.self.now.mids
-    c.begin-shared.result.desk.value.tables = step-IsCalled found s c.args.self.now.mids
-    c.begin-shared.result.desk.value c.begin-shared.ensures.stands refl own drew in
+    c.deref_mut.result.now.tables = step-IsCalled found s c.args.self.now.mids
+    c.deref_mut.result.now home refl own drew in
     let may : MayFollow found s = record {
       commits = tt;
       handed =
           record {
             in_time = turns-NoLaterLook found c.args.now.0
-                c.begin-shared.ensures.stands.turns;
+                home.turns;
             worker = few;
             word = λ h. absurd (false≢true h);
           };
@@ -79,10 +89,10 @@ returns g c =
     let turn : Turn c.args.self.now.pass c.begin-shared.new.pass c.end.new.pass
     c.args.self.now.looker c.begin-shared.new.looker c.end.new.looker c.args.self.now.mids
     c.tick-stepped.new.mids c.args.self.now.last c.later-self.result s
-    (is_starved_step c.tick-stepped.result) c.begin-shared.result.desk.value c.tick-stepped.new.self
+    (is_starved_step c.tick-stepped.result) c.deref_mut.result.now c.tick-stepped.new.self
     c.tick-stepped.new.out = record {
       rest = c.requires.rest;
-      has_begun = c.begin-shared.ensures;
+      has_begun = begun;
       desk_step = refl;
       worker = own;
       drawn = drew;

@@ -11,6 +11,12 @@ returns-clause-seen c =
     let shown = c.in-Some-2.shown.front.log in
     let order : InOrder seen shown = subst (λ (one : List Entry). InOrder one shown)
     (ap (λ l. l.seen) c.self.view_is) c.compare.ensures in
-    let le : length seen ≤ length shown = search (rules, c.entries-entries.ensures, c.deref.ensures,
-    c.in-Some-2.shown.stands.entries, c.if-entries-self.false, c.self.invariant.2) in
+    let le : length seen ≤ length shown = search (
+      rules,
+      c.entries-entries.ensures,
+      c.deref.ensures,
+      c.in-Some-2.shown.stands.entries,
+      c.if-entries-self.false,
+      c.self.invariant.2,
+    ) in
     shorter_first seen shown order le
