@@ -4,6 +4,7 @@ use Rattle.history_model.specs.Live.{IsFront}
 use Rattle.journal_model.specs.declared.rows.Row.{Row}
 use Rattle.journal_model.specs.Journal.{entries}
 use Rattle.journal_model.specs.Seats.{rows_of}
+use Rattle.std.specs.Option.{IfSome}
 use Rattle.turn_lock.specs.Shown.{number_of, seen_of, mine_of}
 use Rattle.rd_desk.specs.Shown.{Shown}
 use Rattle.version_board.specs.Ends.{PublisherSeen}
@@ -22,50 +23,62 @@ use Rattle.rd_seat.proofs.turns.end.Goals as goal
 -- what is staged stands for the entries with that of the row
 pub publish_made-requires : goal.publish_made-requires
 publish_made-requires g c =
+    let stepped = subst (λ (d : Shown PublisherSeen). IfSome g.S.Added.added (λ (r : Row).
+    HasStepped g.E.Entering.entered r (number_of c.args.pass.now) (seen_of c.args.pass.now) d))
+    (sym c.deref_mut.ensures.value) c.requires.stepped in
     both g.S.Added.added (λ (r : Row). HasStepped g.E.Entering.entered r
-    (number_of c.args.pass.now) (seen_of c.args.pass.now) c.args.shared.desk.value)
+    (number_of c.args.pass.now) (seen_of c.args.pass.now) c.deref_mut.result.now)
     (λ (r : Row). HasStepped g.E.Entering.entered r (number_of c.args.pass.now)
-    (seen_of c.args.pass.now) c.args.shared.desk.value)
-    c.requires.added c.requires.stepped c.requires.stepped
+    (seen_of c.args.pass.now) c.deref_mut.result.now)
+    c.requires.added stepped stepped
     (λ r h k. stepped-staged g.E.Entering.entered r (number_of c.args.pass.now)
-    (seen_of c.args.pass.now) c.args.shared.desk.value h)
+    (seen_of c.args.pass.now) c.deref_mut.result.now h)
 
 -- what was published stands for the journal with the row
 pub give-requires-clause-value : goal.give-requires-clause-value
 give-requires-clause-value g c =
+    let stepped = subst (λ (d : Shown PublisherSeen). IfSome g.S.Added.added (λ (r : Row).
+    HasStepped g.E.Entering.entered r (number_of c.args.pass.now) (seen_of c.args.pass.now) d))
+    (sym c.deref_mut.ensures.value) c.requires.stepped in
     picked g.S.Added.added (λ (r : Row). HasStepped g.E.Entering.entered r
-    (number_of c.args.pass.now) (seen_of c.args.pass.now) c.args.shared.desk.value)
+    (number_of c.args.pass.now) (seen_of c.args.pass.now) c.deref_mut.result.now)
     (λ (r : Row). StandsAtTurn (r ∷ seen_of c.args.pass.now) c.meet.new.desk)
     (λ r h. subst (StandsAtTurn (r ∷ seen_of c.args.pass.now))
-    (sym c.publish_made.ensures.value ∙ sym c.meet.ensures.desk)
+    (sym c.publish_made.ensures.value ∙ sym (c.meet.ensures.desk ∙ c.deref_mut-2.ensures.value))
     (stepped-StandsAtTurn g.E.Entering.entered r (number_of c.args.pass.now)
-    (seen_of c.args.pass.now) c.args.shared.desk.value h
+    (seen_of c.args.pass.now) c.deref_mut.result.now h
     (subst (λ (d : Shown PublisherSeen). IsPublished d.board.told d.board)
     c.publish_made.ensures.value c.publish_made.ensures.published)))
-    c.requires.stepped
+    stepped
 
 -- the board has its name still
 pub give-requires-clause-value_label : goal.give-requires-clause-value_label
 give-requires-clause-value_label g c =
     ap (λ (d : Shown PublisherSeen). d.board.name)
-    (c.meet.ensures.desk ∙ c.publish_made.ensures.value)
-    ∙ (board_published-name g.E.Entering.entered c.args.shared.desk.value ∙ c.requires.label)
+    (c.meet.ensures.desk ∙ (c.deref_mut-2.ensures.value ∙ c.publish_made.ensures.value))
+    ∙ (board_published-name g.E.Entering.entered c.deref_mut.result.now
+    ∙ (ap (λ (d : Shown PublisherSeen). d.board.name) c.deref_mut.ensures.value
+    ∙ c.requires.label))
 
 -- what was met has all entries of the journal, and nothing else was met
 pub returns : goal.returns
 unfolding rows_of
 returns g c =
+    let stepped = subst (λ (d : Shown PublisherSeen). IfSome g.S.Added.added (λ (r : Row).
+    HasStepped g.E.Entering.entered r (number_of c.args.pass.now) (seen_of c.args.pass.now) d))
+    (sym c.deref_mut.ensures.value) c.requires.stepped in
     three g.S.Added.added (λ (r : Row). HasStepped g.E.Entering.entered r
-    (number_of c.args.pass.now) (seen_of c.args.pass.now) c.args.shared.desk.value)
+    (number_of c.args.pass.now) (seen_of c.args.pass.now) c.deref_mut.result.now)
     (λ (r : Row). seen_of c.give.new.pass ≡ r ∷ seen_of c.args.pass.now)
     (λ (r : Row). mine_of c.give.new.pass ≡ r ∷ mine_of c.args.pass.now)
     (λ (r : Row). HasEnded r c.args.pass.now c.give.new.pass c.args.looker.now c.meet.new.looker)
-    c.requires.stepped c.give.ensures.seen c.give.ensures.mine
+    stepped c.give.ensures.seen c.give.ensures.mine
     (λ r h seen mine.
-    let told : c.publish_made.new.desk.board.told ≡ entries (seen_of c.give.new.pass) =
-    ap (λ (d : Shown PublisherSeen). d.board.told) c.publish_made.ensures.value
+    let told : c.deref_mut-2.result.now.board.told ≡ entries (seen_of c.give.new.pass) =
+    ap (λ (d : Shown PublisherSeen). d.board.told)
+    (c.deref_mut-2.ensures.value ∙ c.publish_made.ensures.value)
     ∙ ((stepped-StandsAtTurn g.E.Entering.entered r (number_of c.args.pass.now)
-    (seen_of c.args.pass.now) c.args.shared.desk.value h
+    (seen_of c.args.pass.now) c.deref_mut.result.now h
     (subst (λ (d : Shown PublisherSeen). IsPublished d.board.told d.board)
     c.publish_made.ensures.value c.publish_made.ensures.published)).told
     ∙ ap entries (sym seen)) in

@@ -5,9 +5,11 @@ use Rattle.journal_model.specs.declared.steps.Step.{Step}
 use Rattle.journal_model.specs.DeskJournal.{max_workers, MayFollow}
 use Rattle.journal_model.specs.Rows.{row, row_moment}
 use Rattle.rd_desk.specs.declared.mids.Mids.{Mids}
+use Rattle.rd_desk.specs.Shown.{Shown}
 use Rattle.rd_desk.specs.UnderWay.{IsCalled, Made}
 use Rattle.rd_desk.specs.Admitting.{is_starved_admission, IsHeldFor}
 use Rattle.turn_lock.specs.Shown.{seen_of, number_of}
+use Rattle.version_board.specs.Ends.{PublisherSeen}
 use Rattle.rd_seat.specs.Seats.{MakesStep}
 use Rattle.rd_seat.specs.Shares.{share_shown}
 use Rattle.journal_model.specs.Journal.{entries_of}
@@ -110,7 +112,8 @@ returns g c =
           c.end.new.pass c.begin-shared.new.looker c.end.new.looker) c.is_starved.ensures
           c.end.ensures;
       later_is = let m : c.moment.result.0 ≡ c.admit-admitted.new.self.tables.moment =
-          c.moment.ensures.value in let l : c.later-self.result.0
+          c.moment.ensures.value
+          ∙ ap (λ (d : Shown PublisherSeen). d.tables.moment) c.deref.ensures in let l : c.later-self.result.0
           ≡ max c.moment.result.0 c.args.self.now.last.0 = c.later-self.ensures in
           omega (arith, m, l);
     } in

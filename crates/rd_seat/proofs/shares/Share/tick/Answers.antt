@@ -5,9 +5,11 @@ use Rattle.journal_model.specs.declared.steps.Step.{Step}
 use Rattle.journal_model.specs.DeskJournal.{max_workers, MayFollow}
 use Rattle.journal_model.specs.Rows.{row}
 use Rattle.rd_desk.specs.declared.mids.Mids.{Mids}
+use Rattle.rd_desk.specs.Shown.{Shown}
 use Rattle.rd_desk.specs.UnderWay.{IsCalled, Made}
 use Rattle.rd_desk.specs.Stepping.{is_starved_step}
 use Rattle.turn_lock.specs.Shown.{seen_of, number_of}
+use Rattle.version_board.specs.Ends.{PublisherSeen}
 use Rattle.rd_seat.specs.OneTurn.{HasBegun}
 use Rattle.rd_seat.specs.Seats.{MakesStep}
 use Rattle.rd_seat.specs.Shares.{share_shown}
@@ -100,7 +102,8 @@ returns g c =
       made = made;
       has_ended = c.end.ensures;
       later_is = let m : c.moment.result.0 ≡ c.tick-stepped.new.self.tables.moment =
-          c.moment.ensures.value in let l : c.later-self.result.0
+          c.moment.ensures.value
+          ∙ ap (λ (d : Shown PublisherSeen). d.tables.moment) c.deref.ensures in let l : c.later-self.result.0
           ≡ max c.moment.result.0 c.args.self.now.last.0 = c.later-self.ensures in
           omega (arith, m, l);
     } in
