@@ -116,7 +116,7 @@ fn what_was_written_is_a_beginning(rt: HostRuntime) -> Result<(), Fail> {
         (status, whole.as_slice().ends_with(b"end 4 1 1\n")),
         (Status::Done, true)
     );
-    for call in 0..=20 {
+    for call in 0..21 {
         let unread = if call < 2 {
             Status::ReadFault
         } else {

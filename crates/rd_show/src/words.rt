@@ -7,6 +7,10 @@ use clap::{Arg, ArgMatches, Command, Error};
 use std::alloc::{AllocError, Global};
 use trace_text::number_read;
 
+/// What the program does.
+const ABOUT: &str = "Shows a recorded trace as a conversation: who sent what to whom, and what the \
+    directory answered";
+
 /// What words ask for that do not ask for a trace to be shown.
 #[derive(Debug, Drop)]
 pub(crate) enum Otherwise {
@@ -72,9 +76,7 @@ fn command<'a>(alloc: Global) -> Result<Command<'a>, AllocError> {
         .default_value("16");
     Command::new(alloc, "rd_show")
         .version("0.1.0")
-        .about(
-            "Shows a recorded trace as a conversation: who sent what to whom, and what the directory answered",
-        )
+        .about(ABOUT)
         .override_usage("rd_show [--workers N] < TRACE")
         .no_binary_name(true)
         .arg(workers)
