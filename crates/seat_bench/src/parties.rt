@@ -1,7 +1,7 @@
 //! Seats of one hall: what it costs to look, by one and by several at once, and to hear a datagram.
 ghost use Rattle.std.specs.Prelude.{◌≡◌, ◌≤◌, All};
 
-use crate::requests::{CALLS, Look, Other, PEER};
+use crate::requests::{CALLS, LOOKUPS, Look, Other, PEER};
 use bench_rows::{Row, Trouble};
 use rd_base::Moment;
 use rd_desk::{Looked, Outbox, Stepped};
@@ -26,7 +26,7 @@ struct Party<'a> {
 impl<'a> Party<'a> {
     /// Looks again and again, and counts what is answered.
     fn looks(&mut self) {
-        for _ in 0..CALLS {
+        for _ in 0..LOOKUPS {
             self.out.clear();
             let looked = self
                 .seat
@@ -104,9 +104,9 @@ fn add_looks<R: Threads + Wait + Sync>(
     parties: &mut [Party<'_>],
 ) -> Result<(), Trouble> {
     let count = u64::try_from(parties.len()).unwrap_or(1);
-    row.add(rt, count, u64::saturating_mul(CALLS, count), || {
+    row.add(rt, count, u64::saturating_mul(LOOKUPS, count), || {
         thread::for_each_mut(ends, parties, 4, &|_, party: &mut Party<'_>| party.looks());
-        Ok(CALLS)
+        Ok(LOOKUPS)
     })
 }
 
