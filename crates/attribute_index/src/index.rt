@@ -1,5 +1,6 @@
 //! Versions of the index of attributes.
 ghost use Rattle.std.specs.Prelude.{◌≡◌, ◌||◌, ◌&&◌, not, [], IfOk};
+ghost use Rattle.rd_base.specs.PairRefs.{pair_seen};
 ghost use Rattle.attribute_index.specs.Rows as spec;
 ghost use Rattle.attribute_index.specs.Entries.{Entry, IsAscending, has_entry, entries_of, carriers_of};
 
@@ -8,15 +9,16 @@ use crate::rows::{Edit, Rows, edited};
 use crate::values::Value;
 use chunk_map::ChunkMap;
 use listing::before_wildcard;
-use rd_base::{Pair, Starved, Text};
+use rd_base::{PairRef, Starved, Text};
 use std::alloc::Global;
 use std::marker::Model;
 
-/// Which records carry which values of which names. The values of `rel`, `rev`, `rt` and `if` are lists (RFC 6690
-/// section 2), and stand in it part by part; a value without a part stands in it nowhere. An index never changes:
-/// [`AttributeIndex::put`] and [`AttributeIndex::take`] make another one, [`AttributeIndex::with`] and
-/// [`AttributeIndex::without`] one in place of an index that is given up. Contracts see it as the list of its entries,
-/// each of a name, a value and a number, in ascending order and without doubles.
+/// Which records carry which values of which names. The values of `rel`, `rev`, `rt` and `if` are
+/// lists (RFC 6690 section 2), and stand in it part by part; a value without a part stands in it
+/// nowhere. An index never changes: [`AttributeIndex::put`] and [`AttributeIndex::take`] make
+/// another one, [`AttributeIndex::with`] and [`AttributeIndex::without`] one in place of an index
+/// that is given up. Contracts see it as the list of its entries, each of a name, a value and a
+/// number, in ascending order and without doubles.
 #[derive(Drop)]
 pub struct AttributeIndex {
     /// The numbers of the records that carry a value, by the value: a value that many records carry is kept once.
@@ -69,8 +71,14 @@ impl AttributeIndex {
 
     /// The index in which the record with this number carries this attribute too: it has the entries of this one, and those
     /// of the attribute. `Starved`: out of memory.
-    pub fn put(&self, alloc: Global, pair: &Pair, number: u64) -> Result<AttributeIndex, Starved>
-        ensures entries { IfOk result (λ index. (e : Entry) → has_entry index e ≡ (has_entry self.now e || has_entry (entries_of pair.now number) e)) }
+    pub fn put(
+        &self,
+        alloc: Global,
+        pair: &PairRef<'_>,
+        number: u64,
+    ) -> Result<AttributeIndex, Starved>
+        ensures entries { IfOk result (λ index. (e : Entry) → has_entry index e
+            ≡ (has_entry self.now e || has_entry (entries_of (pair_seen pair.now) number) e)) }
         ensures ascends { IfOk result (λ index. IsAscending index) }
     {
         Ok(AttributeIndex {
@@ -80,8 +88,15 @@ impl AttributeIndex {
 
     /// The index without the entries of this attribute of the record with this number. Two attributes of a record can have
     /// an entry in common, so who takes one of them takes all. `Starved`: out of memory.
-    pub fn take(&self, alloc: Global, pair: &Pair, number: u64) -> Result<AttributeIndex, Starved>
-        ensures entries { IfOk result (λ index. (e : Entry) → has_entry index e ≡ (has_entry self.now e && not (has_entry (entries_of pair.now number) e))) }
+    pub fn take(
+        &self,
+        alloc: Global,
+        pair: &PairRef<'_>,
+        number: u64,
+    ) -> Result<AttributeIndex, Starved>
+        ensures entries { IfOk result (λ index. (e : Entry) → has_entry index e
+            ≡ (has_entry self.now e && not (has_entry (entries_of
+            (pair_seen pair.now) number) e))) }
         ensures ascends { IfOk result (λ index. IsAscending index) }
     {
         Ok(AttributeIndex {
@@ -89,11 +104,17 @@ impl AttributeIndex {
         })
     }
 
-    /// This index, in which the record with this number carries this attribute too, as [`AttributeIndex::put`] makes one: what
-    /// no other index has is changed in place, so that several changes of one index copy each part of it once. `Starved`:
-    /// out of memory; this index is gone then, and all others are as before.
-    pub fn with(self, alloc: Global, pair: &Pair, number: u64) -> Result<AttributeIndex, Starved>
-        ensures entries { IfOk result (λ index. (e : Entry) → has_entry index e ≡ (has_entry self e || has_entry (entries_of pair.now number) e)) }
+    /// This index, in which the record with this number carries this attribute too, as
+    /// [`AttributeIndex::put`] makes one: what no other index has is changed in place, so that
+    /// several changes of one index copy each part of it once. `Starved`: out of memory; this index
+    /// is gone then, and all others are as before.
+    pub fn with(
+        self,
+        alloc: Global,
+        pair: &PairRef<'_>,
+        number: u64,
+    ) -> Result<AttributeIndex, Starved>
+        ensures entries { IfOk result (λ index. (e : Entry) → has_entry index e ≡ (has_entry self e || has_entry (entries_of (pair_seen pair.now) number) e)) }
         ensures ascends { IfOk result (λ index. IsAscending index) }
     {
         let AttributeIndex { rows } = self;
@@ -102,11 +123,16 @@ impl AttributeIndex {
         })
     }
 
-    /// This index without the entries of this attribute of the record with this number, as [`AttributeIndex::take`] makes one:
-    /// what no other index has is changed in place. `Starved`: out of memory; this index is gone then, and all others are as
-    /// before.
-    pub fn without(self, alloc: Global, pair: &Pair, number: u64) -> Result<AttributeIndex, Starved>
-        ensures entries { IfOk result (λ index. (e : Entry) → has_entry index e ≡ (has_entry self e && not (has_entry (entries_of pair.now number) e))) }
+    /// This index without the entries of this attribute of the record with this number, as
+    /// [`AttributeIndex::take`] makes one: what no other index has is changed in place. `Starved`:
+    /// out of memory; this index is gone then, and all others are as before.
+    pub fn without(
+        self,
+        alloc: Global,
+        pair: &PairRef<'_>,
+        number: u64,
+    ) -> Result<AttributeIndex, Starved>
+        ensures entries { IfOk result (λ index. (e : Entry) → has_entry index e ≡ (has_entry self e && not (has_entry (entries_of (pair_seen pair.now) number) e))) }
         ensures ascends { IfOk result (λ index. IsAscending index) }
     {
         let AttributeIndex { rows } = self;

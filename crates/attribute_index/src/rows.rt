@@ -1,6 +1,7 @@
 //! The rows of an index: edited one value of a name at a time.
 ghost use Rattle.std.specs.Prelude.{◌≡◌, IfOk};
 ghost use Rattle.chunk_map.specs.Sorted.{IsAscending};
+ghost use Rattle.rd_base.specs.PairRefs.{pair_seen};
 ghost use Rattle.record_model.specs.Matching.{parts_of};
 ghost use Rattle.attribute_index.specs.Entries.{Entry, entries_of, has_entry, is_same};
 ghost use Rattle.attribute_index.specs.Rows.{AreRows, IsEdited, entries_of_rows, entries_under_name, is_after, value_cmp};
@@ -9,7 +10,7 @@ use crate::numbers::Numbers;
 use crate::values::Value;
 use chunk_map::{Change, ChunkMap};
 use listing::{first_part, is_list_name};
-use rd_base::{Pair, Starved};
+use rd_base::{PairRef, Starved};
 use std::alloc::Global;
 
 /// The numbers of the records that carry a value, by the value.
@@ -56,7 +57,8 @@ impl Change<Numbers> for EditOfNumbers {
     }
 }
 
-/// These rows, in which the record with this number carries this value too, or carries it no longer. `Starved`: out of memory.
+/// These rows, in which the record with this number carries this value too, or carries it no
+/// longer. `Starved`: out of memory.
 fn edited_value(
     alloc: Global,
     rows: Rows,
@@ -80,8 +82,8 @@ fn edited_value(
     )?)
 }
 
-/// These rows, in which the record with this number carries the parts of this value too, or carries none of them. `Starved`:
-/// out of memory.
+/// These rows, in which the record with this number carries the parts of this value too, or carries
+/// none of them. `Starved`: out of memory.
 fn edited_parts(
     alloc: Global,
     rows: Rows,
@@ -106,24 +108,23 @@ fn edited_parts(
     Ok(after)
 }
 
-/// These rows, in which the record with this number carries this attribute too, or carries no value of it. `Starved`: out of
-/// memory.
+/// These rows, in which the record with this number carries this attribute too, or carries no value
+/// of it. `Starved`: out of memory.
 #[tactic(auto, unfolding(crate::specs::Entries::entries_of, crate::specs::Entries::values_of))]
 pub(crate) fn edited(
     alloc: Global,
     rows: Rows,
-    pair: &Pair,
+    pair: &PairRef<'_>,
     number: u64,
     edit: Edit,
 ) -> Result<Rows, Starved>
     requires ascends { IsAscending value_cmp rows }
     requires whole { AreRows rows }
-    ensures entries { IfOk result (λ after. (e : Entry) → has_entry (entries_of_rows after) e ≡ is_after edit (has_entry (entries_of_rows rows) e) (has_entry (entries_of pair.now number) e)) }
+    ensures entries { IfOk result (λ after. (e : Entry) → has_entry (entries_of_rows after) e ≡ is_after edit (has_entry (entries_of_rows rows) e) (has_entry (entries_of (pair_seen pair.now) number) e)) }
     ensures ascends { IfOk result (λ after. IsAscending value_cmp after) }
     ensures whole { IfOk result (λ after. AreRows after) }
 {
-    let name = pair.name.as_str();
-    let value = pair.value.as_str();
+    let PairRef { name, value } = *pair;
     if is_list_name(name) {
         return edited_parts(alloc, rows, name, value, number, edit);
     }

@@ -1,9 +1,9 @@
 -- Pairs in ascending order of their keys.
-use Rattle.std.specs.Prelude.{◌≡◌, Bool, false, List, [], ◌∷◌, Option, Some, None}
+use Rattle.std.specs.Prelude.{◌≡◌, Bool, false, List, [], ◌∷◌, Option, Some, None, if◌then◌else◌}
 use Rattle.std.specs.List.{AllByRecursion}
 use Rattle.std.specs.declared.cmp.Ordering.{Ordering}
 use Rattle.std.specs.declared.cmp.Ordering.TheVariants.{Less, Greater}
-use Rattle.std.specs.Ordering.{is_ge}
+use Rattle.std.specs.Ordering.{is_eq, is_ge}
 
 -- each key is below all that follow it: so the pairs are sorted, and no key is there twice
 unfoldable pub IsAscending : {K V : Type 0} → (K → K → Ordering) → List (K × V) → Type 0
@@ -19,6 +19,11 @@ HasAny (x ∷ xs) = Unit {0}
 abbrev pub begins_by : {K V : Type 0} → (K → K → Ordering) → List (K × V) → K → Bool
 begins_by cmp [] key = false
 begins_by cmp (e ∷ es) key = is_ge (cmp key e.0)
+
+-- the value of the first pair, where it has this key
+abbrev pub first_value : {K V : Type 0} → (K → K → Ordering) → K → List (K × V) → Option V
+first_value cmp key [] = None
+first_value cmp key (e ∷ es) = if is_eq (cmp key e.0) then Some e.1 else None
 
 -- the key is above all of these
 abbrev pub AllGreater : {K V : Type 0} → (K → K → Ordering) → K → List (K × V) → Type 0

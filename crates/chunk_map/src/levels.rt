@@ -150,8 +150,8 @@ impl<K: Ord + Shared, V: Shared> Levels<K, V> {
         }
     }
 
-    /// Levels that show the pairs after a change of the value at this key, and what it does to their number. What nobody else
-    /// has is changed in place.
+    /// Levels that show the pairs after a change of the value at this key, and what it does to
+    /// their number. What nobody else has is changed in place.
     pub(crate) fn changed<C: Change<V>>(
         self,
         alloc: Global,

@@ -13,10 +13,11 @@ use rd_base::Starved;
 use std::alloc::Global;
 use std::marker::Model;
 
-/// A version of a sorted map. A version never changes: [`ChunkMap::put`] and [`ChunkMap::take`] make another one, which
-/// copies one part of each level, and shares all else. [`ChunkMap::changed`] makes another one of a version that is given up,
-/// and changes in place what no other version has. Contracts see it as the list of its pairs in ascending order of
-/// their keys, each key once.
+/// A version of a sorted map. A version never changes: [`ChunkMap::put`] and [`ChunkMap::take`]
+/// make another one, which copies one part of each level, and shares all else.
+/// [`ChunkMap::changed`] makes another one of a version that is given up, and changes in place what
+/// no other version has. Contracts see it as the list of its pairs in ascending order of their
+/// keys, each key once.
 #[derive(Drop)]
 pub struct ChunkMap<K: Ord + Shared, V: Shared> {
     /// The pairs.
@@ -85,6 +86,14 @@ impl<K: Ord + Shared, V: Shared> ChunkMap<K, V> {
         RangeIter::from(&self.levels, from)
     }
 
+    /// A cursor over all pairs, in ascending order.
+    pub fn all(&self) -> RangeIter<'_, K, V>
+        ensures pairs { result ≡ self.now }
+        ensures ascends { IsAscending K.cmp self.now }
+    {
+        RangeIter::all(&self.levels)
+    }
+
     /// The map after a change of the value at this key. A key that is there stays, where a value is there then.
     pub fn change<C: Change<V>>(&self, key: &K, change: C) -> Result<ChunkMap<K, V>, Starved>
         ensures ascends { IfOk result (λ map. IsAscending K.cmp map) }
@@ -93,9 +102,9 @@ impl<K: Ord + Shared, V: Shared> ChunkMap<K, V> {
         self.share()?.changed(key, change)
     }
 
-    /// This map after a change of the value at this key, as [`ChunkMap::change`] makes one: what no other version has is
-    /// changed in place, so that several changes of one version copy each part of it once. `Starved`: out of memory; this map
-    /// is gone then, and all others are as before.
+    /// This map after a change of the value at this key, as [`ChunkMap::change`] makes one: what no
+    /// other version has is changed in place, so that several changes of one version copy each part
+    /// of it once. `Starved`: out of memory; this map is gone then, and all others are as before.
     pub fn changed<C: Change<V>>(self, key: &K, change: C) -> Result<ChunkMap<K, V>, Starved>
         ensures ascends { IfOk result (λ map. IsAscending K.cmp map) }
         ensures pairs { IfOk result (λ map. IsChanged K.cmp (C.gives change) self key.now map) }

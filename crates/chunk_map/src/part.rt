@@ -74,8 +74,9 @@ pub(crate) trait Part<K: Ord + Drop, V: Drop>: Drop {
         requires ascends { IsAscending K.cmp (pairs self.now) }
         ensures { option_map (λ v. v.now) result ≡ lookup (is_at (K.cmp key.now)) (pairs self.now) };
 
-    /// Changes the value at this key: what is left where the part stands, and what that does to the number of its pairs. What
-    /// nobody else has is changed in place, and a copy comes in place of the rest.
+    /// Changes the value at this key: what is left where the part stands, and what that does to the
+    /// number of its pairs. What nobody else has is changed in place, and a copy comes in place of
+    /// the rest.
     fn change<C: Change<V>>(
         &mut self,
         alloc: Global,

@@ -196,7 +196,8 @@ fn join_before<K: Ord + Drop, V: Drop, P: Part<K, V>>(
     join_next(alloc, parts, at - 1)
 }
 
-/// Puts what is left where the part at this index stands: small parts that stand side by side are joined.
+/// Puts what is left where the part at this index stands: small parts that stand side by side are
+/// joined.
 fn settle<K: Ord + Drop, V: Drop, P: Part<K, V>>(
     alloc: Global,
     parts: &mut Vec<P>,
@@ -226,7 +227,8 @@ fn settle<K: Ord + Drop, V: Drop, P: Part<K, V>>(
     }
 }
 
-/// Gives a list that has no part its first one, where the change of the value at this key brings a value.
+/// Gives a list that has no part its first one, where the change of the value at this key brings a
+/// value.
 fn begin_in<K: Ord + Drop, V: Drop, P: Part<K, V>, C: Change<V>>(
     alloc: Global,
     parts: &mut Vec<P>,
@@ -247,8 +249,8 @@ fn begin_in<K: Ord + Drop, V: Drop, P: Part<K, V>, C: Change<V>>(
     }
 }
 
-/// Changes the value at this key in these parts: what that does to the number of their pairs. What nobody else has is changed
-/// in place, and a copy comes in place of the rest.
+/// Changes the value at this key in these parts: what that does to the number of their pairs. What
+/// nobody else has is changed in place, and a copy comes in place of the rest.
 pub(crate) fn change_in<K: Ord + Drop, V: Drop, P: Part<K, V>, C: Change<V>>(
     alloc: Global,
     parts: &mut Vec<P>,
@@ -286,8 +288,8 @@ fn front_count<K: Ord + Drop, V: Drop, P: Part<K, V>>(parts: &[P], most: usize, 
     }
 }
 
-/// Leaves of these parts what one list keeps, after a change of the value at this key: the parts behind, where they are too
-/// many for one.
+/// Leaves of these parts what one list keeps, after a change of the value at this key: the parts
+/// behind, where they are too many for one.
 pub(crate) fn divide<K: Ord + Drop, V: Drop, P: Part<K, V>>(
     parts: &mut Vec<P>,
     key: &K,

@@ -1,13 +1,16 @@
 //! The pairs of a map from a key on, one after another.
-ghost use Rattle.std.specs.Prelude.{◌≡◌, ◌<◌, ◌+◌, [], ◌∷◌, ◌++◌, length, IfSome, IfNone};
+ghost use Rattle.std.specs.Prelude.{◌≡◌, ◌<◌, ◌+◌, [], ◌∷◌, ◌++◌, length, IfSome, IfNone, option_map};
 ghost use Rattle.std.specs.List.{All, flat_map};
+ghost use Rattle.std.specs.Map.{lookup};
+ghost use Rattle.std.specs.BTreeMap.{is_at};
 ghost use Rattle.std.specs.BTreeMap.Range.{entries_from};
-ghost use Rattle.chunk_map.specs.Sorted.{IsAscending};
+ghost use Rattle.chunk_map.specs.Sorted.{IsAscending, begins_by, first_value};
 ghost use Rattle.chunk_map.specs.Groups.{chunk_pairs, group_pairs, section_pairs, division_pairs, IsWholeChunk, IsWholeGroup, IsWholeSection, IsWholeDivision};
 ghost use Rattle.chunk_map.specs.Levels.{AreWhole, pairs_in};
 
 use crate::Shared;
 use crate::levels::{Chunk, Division, Group, Levels, Section};
+use crate::part::Part;
 use crate::parts::{cut, find, first, parts_of};
 use rd_base::Steps;
 use std::cmp::Ordering;
@@ -242,6 +245,124 @@ fn in_divisions<'a, K: Ord + Shared, V: Shared>(
     (pairs, chunks, groups, sections, divisions)
 }
 
+/// Whether the pairs of these parts begin by a key that is not above this one.
+fn begin_by<K: Ord + Drop, V: Drop, P: Part<K, V>>(parts: &[P], key: &K) -> bool
+    requires whole { All P.is_whole parts.now }
+    ensures { result ≡ begins_by K.cmp (flat_map P.pairs parts.now) key.now }
+{
+    if parts.is_empty() {
+        return false;
+    }
+    let (first, _) = first(parts);
+    first.begins_by(key)
+}
+
+/// What is left of these pairs and of the chunks behind them from the first key that is not below
+/// this one.
+fn from_chunks<'a, K: Ord + Shared, V: Shared>(
+    pairs: &'a [(K, V)],
+    chunks: &'a [Chunk<K, V>],
+    from: &K,
+) -> (&'a [(K, V)], &'a [Chunk<K, V>])
+    requires whole { All IsWholeChunk chunks.now }
+    requires ascends { IsAscending K.cmp (pairs.now ++ flat_map chunk_pairs chunks.now) }
+    ensures pairs { result.0.now ++ flat_map chunk_pairs result.1.now ≡ entries_from (K.cmp from.now) (pairs.now ++ flat_map chunk_pairs chunks.now) }
+    ensures whole { All IsWholeChunk result.1.now }
+{
+    if begin_by(chunks, from) {
+        return in_chunks(chunks, from);
+    }
+    (pairs_from(pairs, from), chunks)
+}
+
+/// The same with groups behind the chunks.
+fn from_groups<'a, K: Ord + Shared, V: Shared>(
+    pairs: &'a [(K, V)],
+    chunks: &'a [Chunk<K, V>],
+    groups: &'a [Group<K, V>],
+    from: &K,
+) -> (&'a [(K, V)], &'a [Chunk<K, V>], &'a [Group<K, V>])
+    requires chunks { All IsWholeChunk chunks.now }
+    requires groups { All IsWholeGroup groups.now }
+    requires ascends { IsAscending K.cmp ((pairs.now ++ flat_map chunk_pairs chunks.now) ++ flat_map group_pairs groups.now) }
+    ensures pairs { result.0.now ++ (flat_map chunk_pairs result.1.now ++ flat_map group_pairs result.2.now) ≡ entries_from (K.cmp from.now) ((pairs.now ++ flat_map chunk_pairs chunks.now) ++ flat_map group_pairs groups.now) }
+    ensures chunks { All IsWholeChunk result.1.now }
+    ensures groups { All IsWholeGroup result.2.now }
+{
+    if begin_by(groups, from) {
+        return in_groups(groups, from);
+    }
+    let (pairs, chunks) = from_chunks(pairs, chunks, from);
+    (pairs, chunks, groups)
+}
+
+/// The same with sections behind the groups.
+fn from_sections<'a, K: Ord + Shared, V: Shared>(
+    pairs: &'a [(K, V)],
+    chunks: &'a [Chunk<K, V>],
+    groups: &'a [Group<K, V>],
+    sections: &'a [Section<K, V>],
+    from: &K,
+) -> (
+    &'a [(K, V)],
+    &'a [Chunk<K, V>],
+    &'a [Group<K, V>],
+    &'a [Section<K, V>],
+)
+    requires chunks { All IsWholeChunk chunks.now }
+    requires groups { All IsWholeGroup groups.now }
+    requires sections { All IsWholeSection sections.now }
+    requires ascends { IsAscending K.cmp (((pairs.now ++ flat_map chunk_pairs chunks.now) ++ flat_map group_pairs groups.now) ++ flat_map section_pairs sections.now) }
+    ensures pairs { result.0.now ++ (flat_map chunk_pairs result.1.now ++ (flat_map group_pairs result.2.now ++ flat_map section_pairs result.3.now)) ≡ entries_from (K.cmp from.now) (((pairs.now ++ flat_map chunk_pairs chunks.now) ++ flat_map group_pairs groups.now) ++ flat_map section_pairs sections.now) }
+    ensures chunks { All IsWholeChunk result.1.now }
+    ensures groups { All IsWholeGroup result.2.now }
+    ensures sections { All IsWholeSection result.3.now }
+{
+    if begin_by(sections, from) {
+        return in_sections(sections, from);
+    }
+    let (pairs, chunks, groups) = from_groups(pairs, chunks, groups, from);
+    (pairs, chunks, groups, sections)
+}
+
+/// The same with divisions behind the sections.
+fn from_divisions<'a, K: Ord + Shared, V: Shared>(
+    pairs: &'a [(K, V)],
+    chunks: &'a [Chunk<K, V>],
+    groups: &'a [Group<K, V>],
+    sections: &'a [Section<K, V>],
+    divisions: &'a [Division<K, V>],
+    from: &K,
+) -> Next<'a, K, V>
+    requires chunks { All IsWholeChunk chunks.now }
+    requires groups { All IsWholeGroup groups.now }
+    requires sections { All IsWholeSection sections.now }
+    requires divisions { All IsWholeDivision divisions.now }
+    requires ascends { IsAscending K.cmp ((((pairs.now ++ flat_map chunk_pairs chunks.now) ++ flat_map group_pairs groups.now) ++ flat_map section_pairs sections.now) ++ flat_map division_pairs divisions.now) }
+    ensures pairs { result.0.now ++ (flat_map chunk_pairs result.1.now ++ (flat_map group_pairs result.2.now ++ (flat_map section_pairs result.3.now ++ flat_map division_pairs result.4.now))) ≡ entries_from (K.cmp from.now) ((((pairs.now ++ flat_map chunk_pairs chunks.now) ++ flat_map group_pairs groups.now) ++ flat_map section_pairs sections.now) ++ flat_map division_pairs divisions.now) }
+    ensures chunks { All IsWholeChunk result.1.now }
+    ensures groups { All IsWholeGroup result.2.now }
+    ensures sections { All IsWholeSection result.3.now }
+    ensures divisions { All IsWholeDivision result.4.now }
+{
+    if begin_by(divisions, from) {
+        return in_divisions(divisions, from);
+    }
+    let (pairs, chunks, groups, sections) = from_sections(pairs, chunks, groups, sections, from);
+    (pairs, chunks, groups, sections, divisions)
+}
+
+/// The value of the first pair, where it has this key.
+fn value_at<'a, K: Ord + Shared, V: Shared>(pairs: &'a [(K, V)], key: &K) -> Option<&'a V>
+    ensures { option_map (λ v. v.now) result ≡ first_value K.cmp key.now pairs.now }
+{
+    let (first, _) = pairs.split_first()?;
+    match key.cmp(&first.0) {
+        Ordering::Equal => Some(&first.1),
+        _ => None,
+    }
+}
+
 impl<'a, K: Ord + Shared, V: Shared> RangeIter<'a, K, V> {
     /// A cursor over the pairs in these levels from the first key that is not below this one.
     pub(crate) fn from(levels: &'a Levels<K, V>, from: &K) -> RangeIter<'a, K, V>
@@ -294,6 +415,73 @@ impl<'a, K: Ord + Shared, V: Shared> RangeIter<'a, K, V> {
                 }
             }
         }
+    }
+
+    /// A cursor over all pairs in these levels.
+    pub(crate) fn all(levels: &'a Levels<K, V>) -> RangeIter<'a, K, V>
+        requires whole { AreWhole levels.now }
+        ensures { result ≡ pairs_in levels.now }
+    {
+        let mut cursor = RangeIter {
+            pairs: &[],
+            chunks: &[],
+            groups: &[],
+            sections: &[],
+            divisions: &[],
+        };
+        match levels {
+            Levels::Chunks(chunks) => cursor.chunks = chunks.as_slice(),
+            Levels::Groups(groups) => cursor.groups = groups.as_slice(),
+            Levels::Sections(sections) => cursor.sections = sections.as_slice(),
+            Levels::Divisions(divisions) => cursor.divisions = divisions.as_slice(),
+        }
+        cursor
+    }
+
+    /// The value of the next pair, where it has this key: the pair stays.
+    fn next_value(&mut self, key: &K) -> Option<&'a V>
+        ensures same { self.new ≡ self.old }
+        ensures found { option_map (λ v. v.now) result ≡ first_value K.cmp key.now self.old }
+    {
+        if !self.pairs.is_empty() {
+            return value_at(self.pairs, key);
+        }
+        let (pairs, chunks, groups, sections, divisions) = next_chunk(
+            self.chunks,
+            self.groups,
+            self.sections,
+            self.divisions,
+        )?;
+        self.pairs = pairs;
+        self.chunks = chunks;
+        self.groups = groups;
+        self.sections = sections;
+        self.divisions = divisions;
+        value_at(pairs, key)
+    }
+
+    /// Goes forward to the first pair whose key is not below this one: its value, where it has this
+    /// key. It goes on from where it stands, so that keys that ascend are found without a walk from
+    /// the first level for each. Takes no memory.
+    pub fn seek(&mut self, key: &K) -> Option<&'a V>
+        requires { IsAscending K.cmp self.old }
+        ensures left { self.new ≡ entries_from (K.cmp key.now) self.old }
+        ensures found { option_map (λ v. v.now) result ≡ lookup (is_at (K.cmp key.now)) self.old }
+    {
+        let (pairs, chunks, groups, sections, divisions) = from_divisions(
+            self.pairs,
+            self.chunks,
+            self.groups,
+            self.sections,
+            self.divisions,
+            key,
+        );
+        self.pairs = pairs;
+        self.chunks = chunks;
+        self.groups = groups;
+        self.sections = sections;
+        self.divisions = divisions;
+        self.next_value(key)
     }
 
     /// The next pair; None exactly at the end. Each call counts one step, that at the end too. Takes no memory.

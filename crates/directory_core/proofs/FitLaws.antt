@@ -33,6 +33,7 @@ use Rattle.history_model.proofs.NumberLaws.{IsBelow}
 use Rattle.history_model.proofs.SweepLaws.{number_named-live}
 use Rattle.directory_core.specs.AfterEntries.{renewed, without, after_entry, IsSound}
 use Rattle.directory_core.specs.Changes.{IsRegistrationOf, IsUpdateOf, IsRemovalOf}
+use Rattle.directory_core.proofs.AgainstLaws.{draft_against}
 use Rattle.directory_core.proofs.ChangeLaws.{only_one, its_number, changed_known, numbered-filter}
 use Rattle.directory_core.proofs.EntryLaws.{Fits}
 use Rattle.directory_core.proofs.SlotLaws.{all_numbered}
@@ -40,7 +41,7 @@ use Rattle.directory_core.proofs.SlotLaws.{all_numbered}
 -- ---- drafts
 
 pub draft_sound : (draft : Draft) → IsDraft draft → IsSound draft
-draft_sound draft h = let lt = draft_lifetime draft h in record { lasting = (lt.lasting, lt.small); references = draft_references draft h; base = draft_base draft h }
+draft_sound draft h = let lt = draft_lifetime draft h in record { lasting = (lt.lasting, lt.small); references = draft_references draft h; against = draft_against draft h; base = draft_base draft h }
 
 -- an entry by its parts
 made_entry : Moment → ℕ → Peer → Change → Entry

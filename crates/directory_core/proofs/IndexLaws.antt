@@ -1,18 +1,13 @@
 -- The index of records: what it has of a record, and what it has after a change.
 use Rattle.std.proofs.Common.{◌≡◌, ℕ, ◌==◌, ◌||◌, ◌&&◌, Bool, true, false, not, cond, List, [], ◌∷◌, ◌++◌, map, bytes_eq, codes, Some, Result, Ok, Err, refl, sym, ap, ap₂, ◌∙◌, subst, append_assoc, arith, eqb-true}
-use Rattle.std.specs.Prelude.{IfOk}
+use Rattle.std.specs.Prelude.{IfOk, ◌↔◌}
 use Rattle.std.specs.List.{AllByRecursion, list_any, flat_map}
-use Rattle.std.proofs.lemmas.Bool.{true≢false, and_parts}
+use Rattle.std.proofs.lemmas.Bool.{true≢false, false≢true, and_parts}
 use Rattle.std.proofs.lemmas.Bool.Decides.{nat_tests}
-use Rattle.std.proofs.lemmas.Iterator.{YieldsList, YieldsList-from_slice}
 use Rattle.std.proofs.lemmas.List.Folds.{list_any-append, flat_map-map}
-use Rattle.std.proofs.lemmas.Fn.{fronts}
 use Rattle.std.proofs.lemmas.Slice.Eq.{bytes_eq-Decides, slice_eq-Decides}
 use Rattle.std.specs.Bool.{Decides}
 use Rattle.std.specs.Cmp.Lexicographic.{pointwise}
-use Rattle.std.specs.Iterator.{AlwaysYields}
-use Rattle.std.specs.declared.slice.Iter.{Iter}
-use Rattle.std.specs.Slice.Iter.{iter_rest}
 use Rattle.rd_base.specs.declared.attributes.Pair.{Pair}
 use Rattle.rd_base.specs.declared.records.Item.{Item}
 use Rattle.rd_base.specs.declared.records.Name.{Name}
@@ -122,13 +117,42 @@ pairs_decided xs ys same is = slice_eq-Decides one xs ys same is
       λ same. ap₂ (λ a b. a && b) ((bytes_eq-Decides x.name y.name).1 (ap (λ (p : Pair). p.name) same)) ((bytes_eq-Decides x.value y.value).1 (ap (λ (p : Pair). p.value) same)),
     )
 
--- what a slice of links gives, by their attributes
-pub pairs_from_slice : {s : Iter Item} (items : List Item) → iter_rest s ≡ items → YieldsList fronts (λ y. y.now.pairs) s (map (λ (i : Item). i.pairs) items)
-pairs_from_slice items e = let whole = YieldsList-from_slice items e in record { runs = seen items _ whole.runs }
+-- ---- links that are gone over side by side, by their attributes
+
+abbrev pub carried : List Item → List (List Pair)
+carried items = map (λ item. item.pairs) items
+
+-- one more of each, which carry the same
+pub alike_more : (left right more further : List Item) (x y : Item) (W : Type 0) → left ≡ x ∷ more → right ≡ y ∷ further → x.pairs ≡ y.pairs → (carried left ≡ carried right) ↔ W → (carried more ≡ carried further) ↔ W
+alike_more left right more further x y W e f same h = (
+  λ s. h.0 (ap carried e ∙ (ap₂ (λ (p : List Pair) (ps : List (List Pair)). p ∷ ps) same s ∙ sym (ap carried f))),
+  λ w. behind (sym (ap carried e) ∙ (h.1 w ∙ ap carried f)),
+)
   where
-    seen : (items : List Item) (s : Iter Item) → AlwaysYields fronts (λ y. y.now) s items → AlwaysYields fronts (λ y. y.now.pairs) s (map (λ (i : Item). i.pairs) items)
-    seen [] s none = none
-    seen (item ∷ items) s more = (more.0, λ x j step. let next = more.1 x j step in (ap (λ (i : Item). i.pairs) next.0, seen items j next.1))
+    behind : carried (x ∷ more) ≡ carried (y ∷ further) → carried more ≡ carried further
+    behind s = cc
+
+-- one of each, which differ
+pub alike_not : (left right more further : List Item) (x y : Item) (W : Type 0) → left ≡ x ∷ more → right ≡ y ∷ further → (x.pairs ≡ y.pairs → ⊥) → (carried left ≡ carried right) ↔ W → (false ≡ true) ↔ W
+alike_not left right more further x y W e f differ h = (λ s. absurd (false≢true s), λ w. absurd (differ (first (sym (ap carried e) ∙ (h.1 w ∙ ap carried f)))))
+  where
+    first : carried (x ∷ more) ≡ carried (y ∷ further) → x.pairs ≡ y.pairs
+    first s = cc
+
+-- there are fewer of the others
+pub alike_fewer : (left right more : List Item) (x : Item) (W : Type 0) → left ≡ x ∷ more → right ≡ [] → (carried left ≡ carried right) ↔ W → (false ≡ true) ↔ W
+alike_fewer left right more x W e f h = (λ s. absurd (false≢true s), λ w. absurd (none (sym (ap carried e) ∙ (h.1 w ∙ ap carried f))))
+  where
+    none : carried (x ∷ more) ≡ [] → ⊥
+    none s = cc
+
+-- none is left
+pub alike_ended : (left right : List Item) (b : Bool) (W : Type 0) → left ≡ [] → (b ≡ true) ↔ (right ≡ []) → (carried left ≡ carried right) ↔ W → (b ≡ true) ↔ W
+alike_ended left right b W e is h = (λ s. h.0 (ap carried e ∙ sym (ap carried (is.0 s))), λ w. is.1 (none right (sym (ap carried e) ∙ h.1 w)))
+  where
+    none : (items : List Item) → [] ≡ carried items → items ≡ []
+    none [] s = refl
+    none (item ∷ items) s = absurd (cc)
 
 -- ---- the number of an entry
 

@@ -22,6 +22,7 @@ use Rattle.lease_queue.specs.Leases.{with_lease, without_lease}
 use Rattle.directory_core.specs.declared.names.NameSlot.{NameSlot}
 use Rattle.directory_core.specs.AfterEntries.{renewed, without, after_entry}
 use Rattle.directory_core.specs.LapseOrder.{in_order_of, in_order_of_lapse}
+use Rattle.directory_core.specs.LinksAgainst.{AreAgainst}
 use Rattle.directory_core.specs.NameSlots.{hash_of, slot_of, slots_of, with_slot, without_slot}
 use Rattle.directory_core.specs.Shown.{counted_at, IsStored, IsKept, lease_of, leases_of}
 use Rattle.directory_core.proofs.InOrderLaws.{DifferFrom, each_in_order, in_order-IsOrdered, differ_in_order, filter_in_order}
@@ -60,7 +61,7 @@ stored_on v w r a b c s =
     let high = s.numbered.1 in
     let granted = s.granted in
     let unswept = s.unswept in
-    record { numbered = (low, omega arith); granted = omega arith; unswept = omega (arith, c, unswept); lasting = s.lasting; references = s.references; base = s.base }
+    record { numbered = (low, omega arith); granted = omega arith; unswept = omega (arith, c, unswept); lasting = s.lasting; references = s.references; against = s.against; base = s.base }
 
 -- ---- an entry more
 
@@ -69,6 +70,7 @@ pub record IsMade (now : ℕ) (r : Record) : Type 0 where
   pub granted : r.granted.0 ≡ now
   pub lasting : (0 < r.lt) × (r.lt < 2 ^ 32)
   pub references : list_all has_references r.items ≡ true
+  pub against : AreAgainst r.base r.items
   pub base : is_base r.base ≡ true
 
 pub made_live : (now moment : ℕ) (r : Record) → IsMade now r → moment ≤ now → is_live_at moment r ≡ true
@@ -78,7 +80,7 @@ made_stored : (w : Version) (r : Record) → IsMade w.at r → w.swept ≤ w.at 
 made_stored w r m order low high =
     let granted = m.granted in
     let lasts = m.lasting.0 in
-    record { numbered = (low, high); granted = omega (arith, granted); unswept = omega (arith, granted, lasts); lasting = m.lasting; references = m.references; base = m.base }
+    record { numbered = (low, high); granted = omega (arith, granted); unswept = omega (arith, granted, lasts); lasting = m.lasting; references = m.references; against = m.against; base = m.base }
 
 -- the live records were counted at the moment of the entry
 counted_now : (now swept : ℕ) → swept ≤ now → max now swept ≡ now

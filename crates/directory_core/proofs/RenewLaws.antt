@@ -31,7 +31,7 @@ use Rattle.directory_core.proofs.ChangeLaws.{with_record-renewed, with_record-la
 
 pub record_made : (number : ℕ) (now : Moment) (draft : Draft) → IsSound draft → IsMade now.0 (recorded number now draft)
 unfolding recorded
-record_made number now draft sound = record { granted = refl; lasting = sound.lasting; references = sound.references; base = sound.base }
+record_made number now draft sound = record { granted = refl; lasting = sound.lasting; references = sound.references; against = sound.against; base = sound.base }
 
 pub record_number : (number : ℕ) (now : Moment) (draft : Draft) → (recorded number now draft).number ≡ number
 unfolding recorded
@@ -40,6 +40,10 @@ record_number number now draft = refl
 pub record_name : (number : ℕ) (now : Moment) (draft : Draft) → (recorded number now draft).name ≡ draft.name
 unfolding recorded
 record_name number now draft = refl
+
+pub record_items : (number : ℕ) (now : Moment) (draft : Draft) → (recorded number now draft).items ≡ draft.items
+unfolding recorded
+record_items number now draft = refl
 
 pub record_granted : (number : ℕ) (now : Moment) (draft : Draft) → (recorded number now draft).granted ≡ now
 unfolding recorded

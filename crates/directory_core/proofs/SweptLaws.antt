@@ -189,7 +189,7 @@ kept_swept v names leases count sum now counted k after_at after_swept counts re
     record {
       rising = up;
       stored = subst (AllByRecursion (IsStored w)) (sym left) (each_both (IsStored v) (λ r. is_live_at now r ≡ true) (IsStored w)
-          (λ r s passes. record { numbered = s.numbered; granted = s.granted; unswept = ltb-true _ _ passes; lasting = s.lasting; references = s.references; base = s.base })
+          (λ r s passes. record { numbered = s.numbered; granted = s.granted; unswept = ltb-true _ _ passes; lasting = s.lasting; references = s.references; against = s.against; base = s.base })
           (live_among now v.records) (each_filter (IsStored v) (is_live_at now) v.records k.stored) (each_passes (is_live_at now) v.records));
       named = named;
       leased = unlapsed ∙ ap (unlapsed_at now) k.leased ∙ unlapsed-leases_of now v.records k.rising ∙ ap leases_of (sym left);

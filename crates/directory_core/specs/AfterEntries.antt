@@ -11,6 +11,7 @@ use Rattle.registration.specs.Drafts.{has_references}
 use Rattle.registration.specs.Weights.{capped}
 use Rattle.directory_core.specs.declared.refusals.Refusal.{Refusal}
 use Rattle.directory_core.specs.declared.refusals.Refusal.TheVariants as answer
+use Rattle.directory_core.specs.LinksAgainst.{AreAgainst}
 
 -- the records with this one in place of that of its number
 abbrev pub renewed : Record → List Record → List Record
@@ -35,6 +36,7 @@ after_entry v now records last_number = record {
 pub record IsSound (draft : Draft) : Type 0 where
   pub lasting : (0 < draft.lt) × (draft.lt < 2 ^ 32)
   pub references : list_all has_references draft.items ≡ true
+  pub against : AreAgainst draft.base draft.items
   pub base : is_base draft.base ≡ true
 
 -- so much text may be, and one entry more is counted; else what is answered

@@ -12,5 +12,6 @@ pub mod AfterEntries
 pub mod EntryAnswers
 pub mod Swept
 pub mod IndexedPairs
+pub mod LinksAgainst
 pub mod Races
 pub mod Pages

@@ -12,6 +12,7 @@ use Rattle.lease_queue.specs.declared.leases.Lease.{Lease}
 use Rattle.registration.specs.Drafts.{has_references}
 use Rattle.directory_core.specs.declared.names.NameSlot.{NameSlot}
 use Rattle.directory_core.specs.LapseOrder.{in_order_of_lapse}
+use Rattle.directory_core.specs.LinksAgainst.{AreAgainst}
 use Rattle.directory_core.specs.NameSlots.{slots_of}
 
 -- the moment at which the live records of a version were counted: that of its last entry or of its last sweep, the later one
@@ -25,6 +26,7 @@ pub record IsStored (v : Version) (r : Record) : Type 0 where
   pub unswept : v.swept < lapse r
   pub lasting : (0 < r.lt) × (r.lt < 2 ^ 32)
   pub references : list_all has_references r.items ≡ true
+  pub against : AreAgainst r.base r.items
   pub base : is_base r.base ≡ true
 
 -- the lease of a record

@@ -2,6 +2,7 @@
 ghost use Rattle.std.specs.Prelude.{◌≡◌, ◌↔◌, ◌||◌, ◌&&◌, not, List, map, Some, IsTrue, IfOk};
 ghost use Rattle.attribute_index.specs.Entries.{Entry, IsAscending, has_entry, entries_of_all};
 ghost use Rattle.rd_base.specs.declared.records.Record.{Record};
+ghost use Rattle.rd_base.specs.PairRefs.{pair_seen};
 ghost use Rattle.rd_base.proofs.lemmas.Pairs.{PairsByRecursion};
 ghost use Rattle.record_model.specs.ListingLines.{own_pairs};
 ghost use Rattle.history_model.specs.Replay.{numbered};
@@ -9,9 +10,11 @@ ghost use Rattle.history_model.proofs.NumberLaws.{IsBelow};
 ghost use Rattle.directory_core.specs.AfterEntries.{renewed};
 ghost use Rattle.directory_core.specs.Bounds.{record_entries, AreEntriesOf};
 ghost use Rattle.directory_core.specs.IndexedPairs.{item_pairs};
+ghost use Rattle.directory_core.specs.LinksAgainst.{AreAfter};
 
+use crate::links_after::LinksAfter;
 use attribute_index::AttributeIndex;
-use rd_base::{Item, Pair, Record, Starved, Text};
+use rd_base::{Link, LinkPairs, Links, Pair, PairRef, Record, Starved, Text};
 use std::alloc::Global;
 
 /// An attribute with copies of this name and this value. `Starved`: out of memory.
@@ -21,6 +24,16 @@ fn pair_of(alloc: Global, name: &str, value: &Text) -> Result<Pair, Starved>
     let name = Text::copy_of(alloc, name)?;
     let value = value.copy(alloc)?;
     Ok(Pair { name, value })
+}
+
+/// An attribute, borrowed.
+fn borrowed(pair: &Pair) -> PairRef<'_>
+    ensures { pair_seen result ≡ pair.now }
+{
+    PairRef {
+        name: pair.name.as_str(),
+        value: pair.value.as_str(),
+    }
 }
 
 /// The attributes that each endpoint has: its base, its name, its sector where it has one, and its type (RFC 9176 section
@@ -53,7 +66,7 @@ fn with_pairs(
     let mut after = index;
     let mut left = pairs;
     'pairs: while let Some((pair, more)) = left.split_first() {
-        after = after.with(alloc, pair, number)?;
+        after = after.with(alloc, &borrowed(pair), number)?;
         left = more;
     }
     Ok(after)
@@ -73,8 +86,29 @@ fn without_pairs(
     let mut after = index;
     let mut left = pairs;
     'pairs: while let Some((pair, more)) = left.split_first() {
-        after = after.without(alloc, pair, number)?;
+        after = after.without(alloc, &borrowed(pair), number)?;
         left = more;
+    }
+    Ok(after)
+}
+
+/// The index with these attributes of a link of the record of this number. `Starved`: out of
+/// memory.
+fn with_link_pairs(
+    alloc: Global,
+    index: AttributeIndex,
+    pairs: LinkPairs<'_>,
+    number: u64,
+) -> Result<AttributeIndex, Starved>
+    requires { IsAscending index }
+    ensures entries { IfOk result (λ after. (e : Entry) → has_entry after e ≡ (has_entry index e
+        || has_entry (entries_of_all pairs.entry number) e)) }
+    ensures ascends { IfOk result (λ after. IsAscending after) }
+{
+    let mut after = index;
+    let mut left = pairs;
+    'pairs: while let Some(pair) = left.next() {
+        after = after.with(alloc, &pair, number)?;
     }
     Ok(after)
 }
@@ -83,18 +117,39 @@ fn without_pairs(
 fn with_links(
     alloc: Global,
     index: AttributeIndex,
-    items: &[Item],
+    links: Links<'_>,
     number: u64,
 ) -> Result<AttributeIndex, Starved>
     requires { IsAscending index }
-    ensures entries { IfOk result (λ after. (e : Entry) → has_entry after e ≡ (has_entry index e || has_entry (entries_of_all (item_pairs items.now) number) e)) }
+    ensures entries { IfOk result (λ after. (e : Entry) → has_entry after e ≡ (has_entry index e
+        || has_entry (entries_of_all (item_pairs links.entry) number) e)) }
     ensures ascends { IfOk result (λ after. IsAscending after) }
 {
     let mut after = index;
-    let mut left = items;
-    'links: while let Some((item, more)) = left.split_first() {
-        after = with_pairs(alloc, after, item.pairs.as_slice(), number)?;
-        left = more;
+    let mut left = links;
+    'links: while let Some(link) = left.next() {
+        after = with_link_pairs(alloc, after, link.pairs(), number)?;
+    }
+    Ok(after)
+}
+
+/// The index without these attributes of a link of the record of this number. `Starved`: out of
+/// memory.
+fn without_link_pairs(
+    alloc: Global,
+    index: AttributeIndex,
+    pairs: LinkPairs<'_>,
+    number: u64,
+) -> Result<AttributeIndex, Starved>
+    requires { IsAscending index }
+    ensures entries { IfOk result (λ after. (e : Entry) → has_entry after e ≡ (has_entry index e
+        && not (has_entry (entries_of_all pairs.entry number) e))) }
+    ensures ascends { IfOk result (λ after. IsAscending after) }
+{
+    let mut after = index;
+    let mut left = pairs;
+    'pairs: while let Some(pair) = left.next() {
+        after = after.without(alloc, &pair, number)?;
     }
     Ok(after)
 }
@@ -103,24 +158,24 @@ fn with_links(
 fn without_links(
     alloc: Global,
     index: AttributeIndex,
-    items: &[Item],
+    links: Links<'_>,
     number: u64,
 ) -> Result<AttributeIndex, Starved>
     requires { IsAscending index }
-    ensures entries { IfOk result (λ after. (e : Entry) → has_entry after e ≡ (has_entry index e && not (has_entry (entries_of_all (item_pairs items.now) number) e))) }
+    ensures entries { IfOk result (λ after. (e : Entry) → has_entry after e ≡ (has_entry index e
+        && not (has_entry (entries_of_all (item_pairs links.entry) number) e))) }
     ensures ascends { IfOk result (λ after. IsAscending after) }
 {
     let mut after = index;
-    let mut left = items;
-    'links: while let Some((item, more)) = left.split_first() {
-        after = without_pairs(alloc, after, item.pairs.as_slice(), number)?;
-        left = more;
+    let mut left = links;
+    'links: while let Some(link) = left.next() {
+        after = without_link_pairs(alloc, after, link.pairs(), number)?;
     }
     Ok(after)
 }
 
-/// This index with a record: with every attribute by which one of its links or its endpoint can match by itself. `Starved`:
-/// out of memory.
+/// This index with a record: with every attribute by which one of its links or its endpoint can
+/// match by itself. `Starved`: out of memory.
 fn with_record(
     alloc: Global,
     index: AttributeIndex,
@@ -134,12 +189,12 @@ fn with_record(
     let number = record_of.number;
     let index = with_pairs(alloc, index, own.as_slice(), number)?;
     let index = with_pairs(alloc, index, record_of.attrs.as_slice(), number)?;
-    let index = with_links(alloc, index, record_of.items.as_slice(), number)?;
+    let index = with_links(alloc, index, record_of.items.links(), number)?;
     Ok(index)
 }
 
-/// The index with a record: with every attribute by which one of its links or its endpoint can match by itself. `Starved`:
-/// out of memory.
+/// The index with a record: with every attribute by which one of its links or its endpoint can
+/// match by itself. `Starved`: out of memory.
 pub(crate) fn index_with(
     alloc: Global,
     index: &AttributeIndex,
@@ -166,37 +221,55 @@ pub(crate) fn index_without(
     let number = record_of.number;
     let index = without_pairs(alloc, index.share(alloc)?, own.as_slice(), number)?;
     let index = without_pairs(alloc, index, record_of.attrs.as_slice(), number)?;
-    let index = without_links(alloc, index, record_of.items.as_slice(), number)?;
+    let index = without_links(alloc, index, record_of.items.links(), number)?;
     Ok(index)
 }
 
 /// Whether two links carry the same attributes.
-fn carries_alike(item: &Item, other: &Item) -> bool
-    ensures { IsTrue result ↔ (item.now.pairs ≡ other.now.pairs) }
+fn carries_alike(link: &Link<'_>, other: &Link<'_>) -> bool
+    ensures { IsTrue result ↔ (link.now.pairs ≡ other.now.pairs) }
 {
-    item.pairs == other.pairs
+    link.pairs() == other.pairs()
 }
 
 /// Whether links carry the same attributes, one link after another.
-fn carry_alike(items: &[Item], others: &[Item]) -> bool
-    ensures { IsTrue result ↔ (map (λ item. item.pairs) items.now ≡ map (λ item. item.pairs) others.now) }
+fn carry_alike(links: Links<'_>, others: Links<'_>) -> bool
+    ensures { IsTrue result ↔ (map (λ item. item.pairs) links.entry
+        ≡ map (λ item. item.pairs) others.entry) }
 {
-    items.len() == others.len()
-        && items
-            .iter()
-            .zip(others)
-            .all(|(item, other)| carries_alike(item, other))
+    let mut left = links;
+    let mut right = others;
+    'links: while let Some(link) = left.next() {
+        let Some(other) = right.next() else {
+            return false;
+        };
+        if !carries_alike(&link, &other) {
+            return false;
+        }
+    }
+    right.is_empty()
+}
+
+/// Whether the links of two records carry the same attributes. Links that were kept do, and are not
+/// compared.
+fn links_carry_alike(old: &Record, new: &Record, links: LinksAfter) -> bool
+    requires { AreAfter links old.now.items new.now.items }
+    ensures { IsTrue result ↔ (map (λ item. item.pairs) old.now.items ≡ map (λ item. item.pairs) new.now.items) }
+{
+    match links {
+        LinksAfter::Kept => true,
+        LinksAfter::Replaced => carry_alike(old.items.links(), new.items.links()),
+    }
 }
 
 /// Whether two records of one number and one name carry the same attributes, so that they have the same entries.
-fn is_indexed_alike(old: &Record, new: &Record) -> bool
+fn is_indexed_alike(old: &Record, new: &Record, links: LinksAfter) -> bool
     requires numbered { new.now.number ≡ old.now.number }
     requires named { new.now.name ≡ old.now.name }
+    requires links { AreAfter links old.now.items new.now.items }
     ensures { IsTrue result → record_entries new.now ≡ record_entries old.now }
 {
-    old.base == new.base
-        && old.attrs == new.attrs
-        && carry_alike(old.items.as_slice(), new.items.as_slice())
+    old.base == new.base && old.attrs == new.attrs && links_carry_alike(old, new, links)
 }
 
 /// The index with a record in place of one of its number and its name. Where both carry the same attributes, as where only a
@@ -206,12 +279,14 @@ pub(crate) fn index_renewed(
     index: &AttributeIndex,
     old: &Record,
     new: &Record,
+    links: LinksAfter,
 ) -> Result<AttributeIndex, Starved>
     requires numbered { new.now.number ≡ old.now.number }
     requires named { new.now.name ≡ old.now.name }
+    requires links { AreAfter links old.now.items new.now.items }
     ensures { (records : List Record) → PairsByRecursion IsBelow records → numbered old.now.number records ≡ Some old.now → AreEntriesOf records index.now → IfOk result (AreEntriesOf (renewed new.now records)) }
 {
-    if is_indexed_alike(old, new) {
+    if is_indexed_alike(old, new, links) {
         return index.share(alloc);
     }
     let left = index_without(alloc, index, old)?;

@@ -7,6 +7,7 @@ mod directory;
 mod index;
 mod kept;
 mod lapsing;
+mod links_after;
 mod lookup;
 mod names;
 mod pages;

@@ -1,5 +1,6 @@
 //! Pages of listings, to which registrations give their lines one after another (RFC 9176 section 6).
 ghost use Rattle.std.specs.Prelude.{◌≡◌, ◌<◌, ◌^◌, ◌++◌, [], ℕ, List, length, OnOk};
+ghost use Rattle.rd_base.proofs.lemmas.Pairs.{PairsByRecursion};
 ghost use Rattle.record_model.specs.ListingLines.{shown};
 ghost use Rattle.directory_core.specs.Pages.{finished, live_part, live_lines, numbered_lines};
 
@@ -76,8 +77,9 @@ impl Page {
         Ok(())
     }
 
-    /// Adds the lines of the records of these numbers that are live at this moment, in their order; it goes no further once
-    /// the page is full. `Starved`: out of memory.
+    /// Adds the lines of the records of these numbers, which ascend, that are live at this moment,
+    /// in their order; it goes no further once the page is full. One cursor goes forward from
+    /// record to record. `Starved`: out of memory.
     pub(crate) fn add_numbered(
         &mut self,
         alloc: Global,
@@ -86,14 +88,16 @@ impl Page {
         numbers: &[u64],
         now: Moment,
     ) -> Result<(), Starved>
+        requires rising { PairsByRecursion (λ m n. m < n) numbers.now }
         ensures { OnOk result (finished self.new [] ≡ finished self.old (numbered_lines query.now now.0 records.now numbers.now)) }
     {
+        let mut seeker = records.seeker();
         let mut left = numbers;
         'numbers: while let Some((number, more)) = left.split_first() {
             if self.most == 0 {
                 return Ok(());
             }
-            if let Some(kept) = records.get(*number) {
+            if let Some(kept) = seeker.seek(number) {
                 self.add(alloc, query, kept, now)?;
             }
             left = more;

@@ -1,8 +1,11 @@
 //! Records by their numbers, as versions that never change.
-ghost use Rattle.std.specs.Prelude.{◌≡◌, [], not, filter, IfOk, option_map};
-ghost use Rattle.std.specs.Map.{values_of};
+ghost use Rattle.std.specs.Prelude.{◌≡◌, [], not, filter, IfOk, option_map, ℕ};
+ghost use Rattle.std.specs.Map.{lookup, values_of};
+ghost use Rattle.std.specs.BTreeMap.{is_at};
+ghost use Rattle.std.specs.Ordering.{nat_cmp};
 ghost use Rattle.std.specs.Option.{option_copied};
 ghost use Rattle.rd_base.proofs.lemmas.Pairs.{PairsByRecursion};
+ghost use Rattle.chunk_map.specs.Sorted.{IsAscending};
 ghost use Rattle.history_model.specs.Replay.{is_numbered, numbered};
 ghost use Rattle.history_model.proofs.NumberLaws.{IsBelow};
 ghost use Rattle.directory_core.specs.NumberOrder.{with_record};
@@ -60,6 +63,14 @@ impl Records {
         ensures { option_copied result ≡ numbered number self.now }
     {
         self.pairs.get(&number)
+    }
+
+    /// A cursor over all of them that goes forward to numbers that ascend. Takes no memory.
+    pub(crate) fn seeker(&self) -> RangeIter<'_, u64, Kept>
+        ensures found { (n : ℕ) → lookup (is_at (nat_cmp n)) result ≡ numbered n self.now }
+        ensures ascends { IsAscending nat_cmp result }
+    {
+        self.pairs.all()
     }
 
     /// A cursor over all of them, in ascending number. Takes no memory.

@@ -13,6 +13,7 @@ ghost use Rattle.directory_core.specs.LiveCounts.{counts_of};
 
 use crate::counts::Counts;
 use crate::kept::Kept;
+use crate::links_after::LinksAfter;
 use crate::room::MAX_REGISTRATIONS;
 use crate::{Directory, Refusal};
 use rd_base::Moment;
@@ -73,7 +74,7 @@ impl Directory {
         ensures at { IfOk result (λ version. version.at ≡ now.0) }
     {
         let _ = &self.alloc;
-        self.renewed(now, counts, old, draft)
+        self.renewed(now, counts, old, draft, LinksAfter::Replaced)
     }
 
     /// The version with this registration, and its number: that of the live registration of the name, whose all else is

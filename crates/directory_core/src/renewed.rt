@@ -5,24 +5,28 @@ ghost use Rattle.history_model.specs.Refusals.{max_registrations, text_of};
 ghost use Rattle.history_model.specs.Replay.{numbered};
 ghost use Rattle.registration.specs.Drafts.{recorded};
 ghost use Rattle.directory_core.specs.AfterEntries.{renewed, without, after_entry, IsSound, IsMadeWithRoom};
+ghost use Rattle.directory_core.specs.LinksAgainst.{AreAfter};
 ghost use Rattle.directory_core.specs.LiveCounts.{counts_of};
 
 use crate::counts::Counts;
 use crate::index::{index_renewed, index_with, index_without};
 use crate::kept::Kept;
+use crate::links_after::LinksAfter;
 use crate::room::{record_from, room_for_entry, text_with};
 use crate::{Directory, Refusal};
 use rd_base::Moment;
 use registration::{Draft, weight};
 
 impl Directory {
-    /// The version in which a live record is made anew by a draft, under its number and its name, where there is room.
+    /// The version in which a live record is made anew by a draft, under its number and its name, where
+    /// there is room. What became of the links of the record is handed in too.
     pub(crate) fn renewed(
         &self,
         now: Moment,
         counts: Counts,
         old: &Kept,
         draft: Draft,
+        links: LinksAfter,
     ) -> Result<Directory, Refusal>
         requires after_at { self.now.at ≤ now.0 }
         requires after_sweep { self.now.swept ≤ now.0 }
@@ -32,6 +36,7 @@ impl Directory {
         requires live { is_live_at now.0 old.now ≡ true }
         requires named { draft.name ≡ old.now.name }
         requires sound { IsSound draft }
+        requires links { AreAfter links old.now.items draft.items }
         ensures { IsMadeWithRoom (text_of (renewed (recorded old.now.number now draft) (live_among now.0 self.now.records))) self.now.entries (after_entry self.now now.0 (renewed (recorded old.now.number now draft) self.now.records) self.now.last_number) result }
     {
         let entries = self.entries;
@@ -45,7 +50,13 @@ impl Directory {
         let leases = self.leases.take(old.lapse(), number)?;
         let leases = leases.put(kept.lapse(), number)?;
         let names = self.names.share()?;
-        let index = index_renewed(self.alloc, &self.index, old.as_record(), kept.as_record())?;
+        let index = index_renewed(
+            self.alloc,
+            &self.index,
+            old.as_record(),
+            kept.as_record(),
+            links,
+        )?;
         let records = self.records.put(kept)?;
         Ok(Directory {
             records,

@@ -43,7 +43,7 @@ impl Directory {
         let Some(old) = self.live_numbered(number, now) else {
             return Err(Refusal::Gone(number));
         };
-        let draft = updated_draft(self.alloc, old.as_record(), change, peer)?;
-        self.renewed(now, self.counts_at(now), old, draft)
+        let (draft, links) = updated_draft(self.alloc, old.as_record(), change, peer)?;
+        self.renewed(now, self.counts_at(now), old, draft, links)
     }
 }

@@ -1,5 +1,5 @@
 //! What an update makes of a registration (RFC 9176 section 5.3.1).
-ghost use Rattle.std.specs.Prelude.{◌≡◌, ◌<◌, ◌^◌, [], true, false, not, filter, None, IfOk, IfSome};
+ghost use Rattle.std.specs.Prelude.{◌≡◌, ◌<◌, ◌^◌, [], true, false, not, filter, map, None, IfOk, IfSome};
 ghost use Rattle.std.specs.List.{list_all};
 ghost use Rattle.rd_base.specs.Peers.{IsHost};
 ghost use Rattle.rd_base.specs.declared.moments.Moment.{Moment};
@@ -9,8 +9,11 @@ ghost use Rattle.record_model.specs.Parameters.{is_base};
 ghost use Rattle.record_model.specs.Records as records;
 ghost use Rattle.registration.specs.Drafts.{has_references, recorded};
 ghost use Rattle.directory_core.specs.AfterEntries.{IsSound};
+ghost use Rattle.directory_core.specs.LinksAgainst.{AreAfter, AreAgainst};
+ghost use Rattle.directory_core.specs.declared.links_after.LinksAfter.TheVariants as after;
 
-use rd_base::{Pair, Pairs, Peer, Record, Starved, Text, UpdateParams, base_of};
+use crate::links_after::LinksAfter;
+use rd_base::{Items, Pair, Pairs, Peer, Record, Starved, Text, UpdateParams, base_of};
 use registration::{Draft, rebased};
 use std::alloc::Global;
 
@@ -75,35 +78,59 @@ fn attributes_after(alloc: Global, given: Pairs, old: &Pairs) -> Result<Pairs, S
     Ok(Pairs::of(pairs))
 }
 
-/// What an update from a peer makes of a record, as a draft under its name: its links are resolved against the base as it is
-/// then.
+/// The links of a record against a base, and what became of them: where it is the base of the record,
+/// they are shared as they are, and else each is resolved anew (RFC 9176 section 5.3.1).
+fn items_against(alloc: Global, old: &Record, base: &Text) -> Result<(Items, LinksAfter), Starved>
+    requires references { list_all has_references old.now.items ≡ true }
+    requires against { AreAgainst old.now.base old.now.items }
+    requires base { is_base base.now ≡ true }
+    ensures items { IfOk result (λ made. made.0 ≡ map (records.rebased base.now) old.now.items) }
+    ensures references { IfOk result (λ made. list_all has_references made.0 ≡ true) }
+    ensures against { IfOk result (λ made. AreAgainst base.now made.0) }
+    ensures links { IfOk result (λ made. AreAfter made.1 old.now.items made.0) }
+    ensures kept { IfOk result (λ made. base.now ≡ old.now.base → made.1 ≡ after.Kept) }
+{
+    if *base == old.base {
+        let items = old.items.share()?;
+        return Ok((items, LinksAfter::Kept));
+    }
+    let items = rebased(alloc, &old.items, base)?;
+    Ok((items, LinksAfter::Replaced))
+}
+
+/// What an update from a peer makes of a record, as a draft under its name, and what became of its
+/// links: they are resolved against the base as it is then, and kept where that base is as it was.
 #[tactic(auto, unfolding(record_model::specs::Records::updated, registration::specs::Drafts::recorded))]
 pub(crate) fn updated_draft(
     alloc: Global,
     old: &Record,
     change: UpdateParams,
     peer: Peer,
-) -> Result<Draft, Starved>
+) -> Result<(Draft, LinksAfter), Starved>
     requires change { IsAllowedChange change }
     requires lasting { (0 < old.now.lt) × (old.now.lt < 2 ^ 32) }
     requires references { list_all has_references old.now.items ≡ true }
+    requires against { AreAgainst old.now.base old.now.items }
     requires base { is_base old.now.base ≡ true }
-    ensures made { IfOk result (λ draft. (now : Moment) → recorded old.now.number now draft ≡ records.updated now peer change old.now) }
-    ensures named { IfOk result (λ draft. draft.name ≡ old.now.name) }
-    ensures sound { IfOk result IsSound }
+    ensures made { IfOk result (λ made. (now : Moment) → recorded old.now.number now made.0 ≡ records.updated now peer change old.now) }
+    ensures named { IfOk result (λ made. made.0.name ≡ old.now.name) }
+    ensures sound { IfOk result (λ made. IsSound made.0) }
+    ensures links { IfOk result (λ made. AreAfter made.1 old.now.items made.0.items) }
+    ensures kept { IfOk result (λ made. made.0.base ≡ old.now.base → made.1 ≡ after.Kept) }
 {
     let UpdateParams { lt, base, attrs } = change;
     let base_given = base.is_some() || old.base_given;
     let base = base_after(alloc, base, old, peer)?;
-    let items = rebased(alloc, &old.items, &base)?;
+    let (items, links) = items_against(alloc, old, &base)?;
     let attrs = attributes_after(alloc, attrs, &old.attrs)?;
     let name = old.name.copy(alloc)?;
-    Ok(Draft {
+    let draft = Draft {
         name,
         lt: lt.unwrap_or(old.lt),
         base,
         base_given,
         attrs,
         items,
-    })
+    };
+    Ok((draft, links))
 }

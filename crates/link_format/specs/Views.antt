@@ -1,8 +1,10 @@
 -- Links and parameters as contracts see them.
-use Rattle.std.specs.Prelude.{option_map}
+use Rattle.std.specs.Prelude.{ℕ, List, option_map}
 use Rattle.link_model.specs.Documents.{Parameter, Link}
 use Rattle.link_format.specs.declared.links.LinkRef.{LinkRef}
 use Rattle.link_format.specs.declared.parameters.Param.{Param}
+use Rattle.link_format.specs.declared.values.Value.{Value}
+use Rattle.link_format.specs.declared.values.Value.TheVariants as value
 use Rattle.link_format.specs.LinksOfText.{parameters_in}
 
 -- the link that an item is
@@ -12,3 +14,8 @@ link_seen l = record { target = l.target.now; parameters = parameters_in l.param
 -- the parameter that an item is
 abbrev pub parameter_seen : Param → Parameter
 parameter_seen p = record { name = p.name.now; value = option_map (λ text. text.now) p.value }
+
+-- what a value says
+abbrev pub value_seen : Value → List ℕ
+value_seen (value.Written text) = text.now
+value_seen (value.Unescaped text) = text

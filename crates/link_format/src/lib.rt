@@ -15,4 +15,4 @@ mod values;
 pub use documents::{LinkBad, check};
 pub use links::{LinkRef, Links, params};
 pub use parameters::{Param, Params};
-pub use values::{quoted, value_of};
+pub use values::{Value, quoted, read_value, value_of};

@@ -6,33 +6,68 @@ ghost use Rattle.std.specs.List.{list_all};
 ghost use Rattle.link_model.specs.Characters.{quote_mark, backslash, is_not_control};
 ghost use Rattle.link_model.specs.Documents.{is_quoted_string};
 ghost use Rattle.link_model.specs.Quoting as quoting;
-ghost use Rattle.link_format.specs.Views.{parameter_seen};
+ghost use Rattle.link_format.specs.Views.{parameter_seen, value_seen};
 
 use crate::cuts::{Quotes, cut};
 use crate::parameters::Param;
 use rd_base::{Starved, Text};
 use std::alloc::Global;
 
-/// The value of a parameter, without quotes and escapes; empty where it has none. An error says that memory ran out.
-pub fn value_of(alloc: Global, param: &Param<'_>) -> Result<Text, Starved>
-    ensures { IfOk result (λ text. text ≡ quoting.value_of (parameter_seen param.now)) }
+/// What a value says.
+#[derive(Debug, Drop)]
+pub enum Value<'a> {
+    /// As it is written.
+    Written(&'a str),
+    /// In a text of its own, since it is written with escapes.
+    Unescaped(Text),
+}
+
+impl<'a> Value<'a> {
+    /// The text, without quotes and escapes.
+    pub fn as_str(&self) -> &str
+        ensures { result.now ≡ value_seen self.now }
+    {
+        match self {
+            Value::Written(text) => text,
+            Value::Unescaped(text) => text.as_str(),
+        }
+    }
+}
+
+/// The value of a parameter, without quotes and escapes; empty where it has none. Takes memory for
+/// escapes alone. An error says that memory ran out.
+pub fn read_value<'a>(alloc: Global, param: &Param<'a>) -> Result<Value<'a>, Starved>
+    ensures { IfOk result (λ value. value_seen value
+        ≡ quoting.value_of (parameter_seen param.now)) }
 {
     match param.value {
-        None => Ok(Text::new()),
+        None => Ok(Value::Written("")),
         Some(value) => unquoted(alloc, value),
     }
 }
 
+/// The value of a parameter in a text of its own, without quotes and escapes; empty where it has
+/// none. An error says that memory ran out.
+pub fn value_of(alloc: Global, param: &Param<'_>) -> Result<Text, Starved>
+    ensures { IfOk result (λ text. text ≡ quoting.value_of (parameter_seen param.now)) }
+{
+    match read_value(alloc, param) {
+        Ok(Value::Written(text)) => Text::copy_of(alloc, text),
+        Ok(Value::Unescaped(text)) => Ok(text),
+        Err(starved) => Err(starved),
+    }
+}
+
 /// What a value says: a token itself, a quoted string its content.
-fn unquoted(alloc: Global, value: &str) -> Result<Text, Starved>
-    ensures { IfOk result (λ text. text ≡ quoting.unquoted value.now) }
+fn unquoted<'a>(alloc: Global, value: &'a str) -> Result<Value<'a>, Starved>
+    ensures { IfOk result (λ said. value_seen said ≡ quoting.unquoted value.now) }
 {
     let mut characters = value.chars();
     let Some(first) = characters.next() else {
-        return Ok(Text::new());
+        return Ok(Value::Written(""));
     };
     if first != '"' {
-        return Text::copy_of(alloc, value);
+        return Ok(Value::Written(value));
     }
     content(alloc, characters.as_str())
 }
@@ -49,12 +84,12 @@ fn content_as_written(inner: &str) -> Option<&str>
 }
 
 /// The characters up to a closing quote, each escape replaced by the character that it escapes.
-fn content(alloc: Global, inner: &str) -> Result<Text, Starved>
-    ensures { IfOk result (λ text. text ≡ quoting.content_up_to_quote false inner.now) }
+fn content<'a>(alloc: Global, inner: &'a str) -> Result<Value<'a>, Starved>
+    ensures { IfOk result (λ said. value_seen said ≡ quoting.content_up_to_quote false inner.now) }
 {
     match content_as_written(inner) {
-        Some(text) => Text::copy_of(alloc, text),
-        None => unescaped(alloc, inner),
+        Some(text) => Ok(Value::Written(text)),
+        None => Ok(Value::Unescaped(unescaped(alloc, inner)?)),
     }
 }
 

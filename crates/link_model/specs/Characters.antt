@@ -1,10 +1,8 @@
 -- Octets that have a meaning in link documents and references, and the classes of characters.
 use Rattle.std.specs.Prelude.{ℕ, Bool, true, false, not, ◌&&◌, ◌||◌, ◌==◌, List, [], ◌∷◌, codes}
 use Rattle.std.specs.List.{list_any, list_all}
+pub use Rattle.rd_base.specs.LinkLines.{quote_mark, comma, backslash}
 use Rattle.std.specs.Char.{is_ascii, is_ascii_control, is_ascii_alphanumeric, is_ascii_hexdigit}
-
-abbrev pub quote_mark : ℕ
-quote_mark = 34
 
 abbrev pub number_sign : ℕ
 number_sign = 35
@@ -14,9 +12,6 @@ percent_sign = 37
 
 abbrev pub asterisk : ℕ
 asterisk = 42
-
-abbrev pub comma : ℕ
-comma = 44
 
 abbrev pub full_stop : ℕ
 full_stop = 46
@@ -47,9 +42,6 @@ at_sign = 64
 
 abbrev pub left_bracket : ℕ
 left_bracket = 91
-
-abbrev pub backslash : ℕ
-backslash = 92
 
 abbrev pub right_bracket : ℕ
 right_bracket = 93

@@ -2,6 +2,8 @@
 use Rattle.std.specs.Prelude.{ℕ, Bool, true, false, ◌||◌, ◌==◌, List, [], ◌∷◌, ◌++◌, map, flat_map, filter, find, not, codes, Option, Some, None, option_map, bytes_eq, if◌then◌else◌}
 use Rattle.rd_base.specs.declared.attributes.Pair.{Pair}
 use Rattle.rd_base.specs.declared.submitted_links.SubmittedLink.{SubmittedLink}
+pub use Rattle.rd_base.specs.LinkLines.{escaped_character}
+unfoldable pub use Rattle.rd_base.specs.LinkLines.{quoted}
 use Rattle.link_model.specs.Characters.{quote_mark, backslash}
 use Rattle.link_model.specs.Documents.{Parameter, Link, parameters_text}
 use Rattle.link_model.specs.DocumentReading.{document}
@@ -20,14 +22,6 @@ content_up_to_quote false (c ∷ cs) = if c == quote_mark then [] else kept_befo
 unfoldable pub unquoted : List ℕ → List ℕ
 unquoted [] = []
 unquoted (c ∷ cs) = if c == quote_mark then content_up_to_quote false cs else c ∷ cs
-
--- a character in a quoted string, with a backslash before a quote and a backslash
-abbrev pub escaped_character : ℕ → List ℕ
-escaped_character c = if c == quote_mark || c == backslash then backslash ∷ c ∷ [] else c ∷ []
-
--- the text in quotes (RFC 6690 section 2, quoted-string)
-unfoldable pub quoted : List ℕ → List ℕ
-quoted text = quote_mark ∷ (flat_map escaped_character text ++ quote_mark ∷ [])
 
 -- the value of a parameter, which is empty where it has none
 abbrev pub value_of : Parameter → List ℕ

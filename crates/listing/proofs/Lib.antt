@@ -1,6 +1,6 @@
--- Proofs of the code that lists one registration. PatternLaws, PartCuts, EndpointLaws: criteria. PieceLaws: lines, piece by
--- piece. StepLaws, PartLaws, SamePartLaws: the lines of a registration, and when those of two are the same.
--- OwnLaws: the directory's own links.
+-- Proofs of the code that lists one registration. PatternLaws, PartCuts, SoughtLaws, SieveLaws: criteria and links.
+-- EndpointLaws: criteria and endpoints. PieceLaws: lines of endpoints, piece by piece. StepLaws, PartLaws: the lines of a
+-- registration. AlikeLaws, SamePartLaws: when those of two are the same. OwnLaws: the directory's own links.
 pub mod PatternLaws
 pub mod EndpointLaws
 pub mod PieceLaws
@@ -10,3 +10,5 @@ pub mod OwnLaws
 pub mod SamePartLaws
 pub mod PartCuts
 pub mod AlikeLaws
+pub mod SoughtLaws
+pub mod SieveLaws

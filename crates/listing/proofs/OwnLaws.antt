@@ -15,9 +15,9 @@ use Rattle.listing.specs.OwnLinks.{own_item}
 use Rattle.listing.proofs.PartLaws.{appended-joined}
 
 -- its links, as they are made
-pub own_links : own_items ≡ own_item (codes "/rd") (codes ";rt=\"core.rd\";ct=40") (codes "core.rd") false
-    ∷ own_item (codes "/rd-lookup/ep") (codes ";rt=\"core.rd-lookup-ep\";ct=40;obs") (codes "core.rd-lookup-ep") true
-    ∷ own_item (codes "/rd-lookup/res") (codes ";rt=\"core.rd-lookup-res\";ct=40;obs") (codes "core.rd-lookup-res") true ∷ []
+pub own_links : own_items ≡ own_item (codes "/rd") (codes ";rt=\"core.rd\"") (codes "core.rd") false
+    ∷ own_item (codes "/rd-lookup/ep") (codes ";rt=\"core.rd-lookup-ep\"") (codes "core.rd-lookup-ep") true
+    ∷ own_item (codes "/rd-lookup/res") (codes ";rt=\"core.rd-lookup-res\"") (codes "core.rd-lookup-res") true ∷ []
 unfolding document_on_literals own_items
 own_links = refl
 

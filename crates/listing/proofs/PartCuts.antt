@@ -1,8 +1,9 @@
 -- The parts of a value by its first space.
-use Rattle.std.proofs.Common.{◌≡◌, ◌≢◌, ℕ, ◌<◌, false, List, [], ◌∷◌, ◌++◌, length, get_or, filter, refl, ap, ◌∙◌, not}
+use Rattle.std.proofs.Common.{◌≡◌, ◌≢◌, ℕ, ◌<◌, false, List, [], ◌∷◌, ◌++◌, length, get_or, filter, refl, sym, ap, ◌∙◌, not, eq-eqb}
 use Rattle.std.specs.Prelude.{◌==◌}
-use Rattle.std.specs.List.{All, slice_split}
-use Rattle.std.proofs.lemmas.Bool.{ne_eqb}
+use Rattle.std.specs.List.{All, list_any, slice_split}
+use Rattle.std.proofs.lemmas.Bool.{false≢true, ne_eqb}
+use Rattle.std.proofs.lemmas.List.Folds.{list_any_at}
 use Rattle.std.proofs.lemmas.List.Elements.{All-from_get_or}
 use Rattle.std.proofs.lemmas.List.Splits.{slice_split_none, slice_split_at}
 use Rattle.link_model.specs.Characters.{is_empty}
@@ -32,3 +33,7 @@ one_part (c ∷ cs) nowhere some = ap (λ (texts : List (List ℕ)). filter (λ 
 pub part_before : (value front back : List ℕ) → value ≡ front ++ space ∷ back → HasNoSpace front → front ≢ [] → parts_of value ≡ front ∷ parts_of back
 part_before value [] back e nowhere some = absurd (some refl)
 part_before value (c ∷ cs) back e nowhere some = ap parts_of e ∙ ap (λ (texts : List (List ℕ)). filter (λ part. not (is_empty part)) texts) (cut (c ∷ cs) back nowhere)
+
+-- where no space is found there is none
+pub none_found : (value : List ℕ) → list_any (λ c. c == space) value ≡ false → HasNoSpace value
+none_found value none i h e = false≢true (sym none ∙ list_any_at (λ c. c == space) value i 0 h (eq-eqb (get_or value i 0) space e))

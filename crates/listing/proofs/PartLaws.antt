@@ -1,11 +1,14 @@
 -- Lines that are skipped, and lines that are appended one after another.
-use Rattle.std.proofs.Common.{not, true, ◌≡◌, ℕ, ◌+◌, List, [], ◌∷◌, ◌++◌, flat_map, refl, sym, ap, ◌∙◌, append_assoc, append-nil, add-one, arith}
+use Rattle.std.proofs.Common.{not, true, ◌≡◌, ℕ, ◌+◌, List, [], ◌∷◌, ◌++◌, flat_map, map, refl, sym, ap, ◌∙◌, append_assoc, append-nil, add-one, arith}
 use Rattle.std.specs.List.{join_with_byte, list_all}
+use Rattle.rd_base.specs.declared.records.Item.{Item}
+use Rattle.rd_base.specs.LinkLines.{listed}
 use Rattle.link_model.specs.Characters.{comma, is_empty}
+use Rattle.record_model.specs.ListingLines.{link_line}
 use Rattle.listing.specs.AppendedLines.{appended, separated, shown_lines}
 
 -- what follows the first line stands after commas
-join-cons : (line : List ℕ) (lines : List (List ℕ)) → join_with_byte comma (line ∷ lines) ≡ line ++ flat_map (λ l. comma ∷ l) lines
+pub join-cons : (line : List ℕ) (lines : List (List ℕ)) → join_with_byte comma (line ∷ lines) ≡ line ++ flat_map (λ l. comma ∷ l) lines
 join-cons line [] = sym (append-nil line)
 join-cons line (next ∷ lines) = ap (λ (xs : List ℕ). line ++ comma ∷ xs) (join-cons next lines)
 
@@ -46,3 +49,15 @@ appended-append text [] more full = ap (λ (t : List ℕ). appended t more) (app
 appended-append text ((c ∷ rest) ∷ lines) more full =
     ap (λ (t : List ℕ). appended t more) (sym (appended-cons text (c ∷ rest) rest c lines refl)) ∙ appended-append (separated text ++ c ∷ rest) lines more full ∙ appended-cons text (c ∷ rest) rest c (lines ++ more) refl
 appended-append text ([] ∷ lines) more full = cc
+
+-- the lines of links as one text, after another text
+pub appended-all : (text : List ℕ) (items : List Item) → (items ≡ [] → ⊥) → separated text ++ listed items ≡ appended text (map link_line items)
+unfolding appended listed
+appended-all text [] some = absurd (some refl)
+appended-all [] (x ∷ xs) some = refl
+appended-all (c ∷ cs) (x ∷ xs) some =
+    append_assoc (c ∷ cs) (comma ∷ []) (listed (x ∷ xs)) ∙ ap (λ (t : List ℕ). (c ∷ cs) ++ comma ∷ t) (join-cons (link_line x) (map link_line xs))
+
+-- of no links there are none
+pub appended-none : (text : List ℕ) (items : List Item) → items ≡ [] → text ≡ appended text (map link_line items)
+appended-none text items none = rw none (sym (appended-nil text))

@@ -1,10 +1,8 @@
 -- Lines, as their pieces in a row.
-use Rattle.std.proofs.Common.{◌≡◌, ℕ, true, false, ◌==◌, ◌||◌, List, [], ◌∷◌, ◌++◌, flat_map, codes, Option, Some, None, refl, sym, ap, ◌∙◌, append_assoc, append-nil}
+use Rattle.std.proofs.Common.{◌≡◌, ℕ, true, false, ◌==◌, ◌||◌, List, [], ◌∷◌, ◌++◌, flat_map, codes, Some, None, refl, sym, ap, ◌∙◌, append_assoc}
 use Rattle.rd_base.specs.declared.attributes.Pair.{Pair}
 use Rattle.rd_base.specs.declared.records.Item.{Item}
 use Rattle.rd_base.specs.declared.records.Record.{Record}
-use Rattle.std.specs.List.{list_any}
-use Rattle.std.proofs.lemmas.Bool.{or_parts}
 use Rattle.link_model.specs.Characters.{backslash, is_empty, quote_mark}
 use Rattle.link_model.specs.Quoting.{escaped_character, quoted}
 use Rattle.record_model.specs.Matching.{location}
@@ -18,34 +16,6 @@ seam text rest more c same = sym (append_assoc text (c ∷ []) rest) ∙ ap (λ 
 -- what follows a literal
 after : (literal : List ℕ) {rest more : List ℕ} → rest ≡ more → literal ++ rest ≡ literal ++ more
 after literal same = ap (λ (r : List ℕ). literal ++ r) same
-
--- the line of a link with an anchor
-pub link_with_anchor : (item : Item) (target raw anchor spelled : List ℕ) → target ≡ item.target → raw ≡ item.raw → anchor ≡ spelled → item.anchor ≡ Some spelled
-    → 60 ∷ (target ++ 62 ∷ (raw ++ (codes ";anchor=\"" ++ (flat_map escaped_character anchor ++ 34 ∷ [])))) ≡ link_line item
-unfolding link_line quoted
-link_with_anchor item target raw anchor spelled e f g h =
-    rw (e, f, g, h) (after (60 ∷ []) (seam item.target (item.raw ++ (codes ";anchor=\"" ++ (flat_map escaped_character spelled ++ 34 ∷ []))) _ 62 refl))
-
--- and of one without
-pub link_without_anchor : (item : Item) (target raw : List ℕ) → target ≡ item.target → raw ≡ item.raw → item.anchor ≡ None
-    → 60 ∷ (target ++ 62 ∷ (raw ++ [])) ≡ link_line item
-unfolding link_line
-link_without_anchor item target raw e f h = rw (e, f, h) (after (60 ∷ []) (seam item.target (item.raw ++ []) _ 62 refl))
-
--- the target of a link and its attributes
-pub target_and_raw : (item : Item) (target raw : List ℕ) → target ≡ item.target → raw ≡ item.raw → 60 ∷ (target ++ 62 ∷ (raw ++ [])) ≡ bracketed item.target ++ item.raw
-target_and_raw item target raw e f = rw (e, f) (after (60 ∷ []) (seam item.target (item.raw ++ []) item.raw 62 (append-nil item.raw)))
-
--- its anchor, where it has one
-pub anchor_spelled : (anchor : Option (List ℕ)) (text spelled : List ℕ) → text ≡ spelled → anchor ≡ Some spelled
-    → codes ";anchor=\"" ++ (flat_map escaped_character text ++ 34 ∷ []) ≡ anchor_text anchor
-unfolding quoted
-anchor_spelled anchor text spelled e h = rw (e, h) refl
-
--- the line of a link after a text
-pub link_whole : (item : Item) (text : List ℕ) → (text ++ (bracketed item.target ++ item.raw)) ++ anchor_text item.anchor ≡ text ++ link_line item
-unfolding link_line
-link_whole item text = append_assoc text (bracketed item.target ++ item.raw) (anchor_text item.anchor) ∙ after text (append_assoc (bracketed item.target) item.raw (anchor_text item.anchor))
 
 -- the line of an endpoint with a sector, before its extra attributes
 pub own_with_sector : (r : Record) (location_text base name sector spelled : List ℕ) → base ≡ r.base → name ≡ r.name.ep → sector ≡ spelled → r.name.sector ≡ Some spelled → location_text ≡ location r.number
@@ -98,16 +68,3 @@ endpoint_line_begins r = ((location r.number ++ 62 ∷ []) ++ (flat_map quoted_a
 pub endpoint_parts : (r : Record) → own_line r ++ flat_map extra_attribute r.attrs ≡ endpoint_line r
 unfolding own_line endpoint_line
 endpoint_parts r = append_assoc (bracketed (location r.number)) (flat_map quoted_attribute (own_pairs r)) (flat_map extra_attribute r.attrs)
-
--- links with the same target, attributes and anchor have the same line
-pub same_texts : (old new : Item) → old.target ≡ new.target → old.raw ≡ new.raw → old.anchor ≡ new.anchor → link_line old ≡ link_line new
-unfolding link_line
-same_texts old new e f g = rw (e, f, g) refl
-
--- a text without quotes and backslashes stands in quotes as it is
-pub nothing_escaped : (text : List ℕ) → list_any (λ c. c == quote_mark || c == backslash) text ≡ false → flat_map escaped_character text ≡ text
-nothing_escaped [] h = refl
-nothing_escaped (c ∷ cs) h =
-    let parts = or_parts (c == quote_mark || c == backslash) (list_any (λ d. d == quote_mark || d == backslash) cs) h in
-    let plain : escaped_character c ≡ c ∷ [] = rw (parts.0) refl in
-    ap (λ (t : List ℕ). t ++ flat_map escaped_character cs) plain ∙ ap (λ (t : List ℕ). c ∷ t) (nothing_escaped cs parts.1)

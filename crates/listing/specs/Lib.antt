@@ -3,6 +3,9 @@ pub mod Pieces
 pub mod ListedLinks
 pub mod OwnLinks
 pub mod ValueParts
+pub mod Patterns
+pub mod SoughtLinks
+pub mod Sieves
 pub mod JudgedEndpoints
 pub mod Views
 pub mod AlikeLinks

@@ -11,9 +11,17 @@ abbrev pub listed_of : Query → Option Record → Item → Bool
 listed_of query (Some r) item = link_listed query r item
 listed_of query None item = own_link_listed query item
 
+-- the lines of all links
+abbrev pub all_lines : List Item → List (List ℕ)
+all_lines items = map link_line items
+
+-- the lines of the links that pass a test
+abbrev pub lines_by : (Item → Bool) → List Item → List (List ℕ)
+lines_by test items = all_lines (filter test items)
+
 -- the lines of the links that are listed
 abbrev pub listed_lines : Query → Option Record → List Item → List (List ℕ)
-listed_lines query owner items = map link_line (filter (listed_of query owner) items)
+listed_lines query owner items = lines_by (listed_of query owner) items
 
 -- the line of an endpoint, where it is listed
 abbrev pub listed_endpoint : Query → Record → List (List ℕ)

@@ -1,5 +1,5 @@
 -- The directory's own links, as they stand in memory.
-use Rattle.std.specs.Prelude.{ℕ, Bool, List, [], ◌∷◌, codes, None, if◌then◌else◌}
+use Rattle.std.specs.Prelude.{ℕ, Bool, List, [], ◌∷◌, ◌++◌, codes, None, if◌then◌else◌}
 use Rattle.rd_base.specs.declared.attributes.Pair.{Pair}
 use Rattle.rd_base.specs.declared.records.Item.{Item}
 
@@ -7,13 +7,17 @@ use Rattle.rd_base.specs.declared.records.Item.{Item}
 abbrev pub observable_pairs : Bool → List Pair
 observable_pairs observable = if observable then record { name = codes "obs"; value = [] } ∷ [] else []
 
--- a link of the directory itself: its type, that it gives link documents, and whether it can be observed
+-- attributes as they were written, and that of such a resource
+abbrev pub observed_text : Bool → List ℕ → List ℕ
+observed_text observable raw = if observable then raw ++ codes ";obs" else raw
+
+-- a link of the directory itself: its type, with how it is written, that it gives link documents, and whether it can be observed
 abbrev pub own_item : List ℕ → List ℕ → List ℕ → Bool → Item
-own_item target raw type observable = record {
+own_item target typed type observable = record {
   target_ref = target;
   anchor_ref = None;
   target = target;
   anchor = None;
-  raw = raw;
+  raw = observed_text observable (typed ++ codes ";ct=40");
   pairs = record { name = codes "rt"; value = type } ∷ record { name = codes "ct"; value = codes "40" } ∷ observable_pairs observable;
 }

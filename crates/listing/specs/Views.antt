@@ -1,14 +1,11 @@
 -- What values of the code stand for: a line that is read octet by octet, a piece of it, and the links that are left.
-use Rattle.std.specs.Prelude.{ℕ, ◌+◌, ◌*◌, ◌-◌, ◌^◌, ◌<◌, ◌≤◌, ◌≡◌, List, [], ◌∷◌, ◌++◌, length, drop, flat_map, Option, Some, None}
-use denote.Ref.{Bor}
-use Rattle.rd_base.specs.declared.queries.Query.{Query}
+use Rattle.std.specs.Prelude.{ℕ, Bool, ◌+◌, ◌*◌, ◌-◌, ◌^◌, ◌<◌, ◌≤◌, ◌≡◌, List, [], ◌∷◌, ◌++◌, length, drop, flat_map, Option, Some, None}
 use Rattle.rd_base.specs.declared.records.Item.{Item}
-use Rattle.rd_base.specs.declared.records.Record.{Record}
 use Rattle.link_model.specs.Quoting.{escaped_character}
 use Rattle.record_model.specs.ListingLines.{extra_attribute, link_line}
 use Rattle.listing.specs.declared.octets.Octets.{Octets}
 use Rattle.listing.specs.declared.pieces.Piece.{Piece}
-use Rattle.listing.specs.ListedLinks.{listed_lines}
+use Rattle.listing.specs.ListedLinks.{lines_by}
 use Rattle.listing.specs.Pieces.{octets_of_pieces}
 
 -- the octets that are left
@@ -33,8 +30,7 @@ abbrev pub PieceAt : List Piece → ℕ → Option Piece → Type 0
 PieceAt pieces at (Some piece) = (drop at pieces ≡ piece ∷ drop (at + 1) pieces) × (at < length pieces) × (at + 1 < 2 ^ 64)
 PieceAt pieces at None = length pieces ≤ at
 
--- the first link that is listed, and those after it
-abbrev pub FirstListed : Query → Record → List Item → Option (Bor Item × Bor (List Item)) → Type 0
-FirstListed query r items (Some (item, more)) =
-    (listed_lines query (Some r) items ≡ link_line item.now ∷ listed_lines query (Some r) more.now) × (length more.now < length items)
-FirstListed query r items None = listed_lines query (Some r) items ≡ []
+-- the first link that passes a test, and those after it
+abbrev pub FirstListed : (Item → Bool) → List Item → Option (Item × List Item) → Type 0
+FirstListed test items (Some (item, more)) = (lines_by test items ≡ link_line item ∷ lines_by test more) × (length more < length items)
+FirstListed test items None = lines_by test items ≡ []

@@ -1,15 +1,15 @@
 //! Lines that are appended to a listing.
-ghost use Rattle.std.specs.Prelude.{◌≡◌, ◌==◌, ◌||◌, ◌++◌, ◌∷◌, [], flat_map, OnOk, OnErr};
+ghost use Rattle.std.specs.Prelude.{◌≡◌, ◌==◌, ◌||◌, ◌++◌, ◌∷◌, [], flat_map, map, OnOk, OnErr};
 ghost use Rattle.std.specs.List.{list_any};
 ghost use Rattle.record_model.specs.ListingLines as listing_model;
 ghost use Rattle.link_model.specs.Characters.{backslash, quote_mark};
 ghost use Rattle.link_model.specs.Quoting.{escaped_character};
-ghost use Rattle.listing.specs.AppendedLines.{separated};
+ghost use Rattle.listing.specs.AppendedLines.{appended, separated};
 ghost use Rattle.listing.specs.Pieces.{own_line, octets_of_piece, octets_of_pieces};
 
 use crate::locations::location_of;
 use crate::pieces::{Piece, attribute_pieces, endpoint_pieces, is_escaped};
-use rd_base::{Bytes, Item, Pair, Record, Starved, Text};
+use rd_base::{Bytes, Items, Link, Pair, Record, Starved};
 
 /// Appends an octet of a quoted text.
 fn append_octet(octet: u8, into: &mut Bytes) -> Result<(), Starved>
@@ -104,55 +104,46 @@ fn append_comma(into: &mut Bytes) -> Result<(), Starved>
     into.push(b',')
 }
 
-/// Appends the target of a link between its brackets, and its attributes.
-#[tactic(auto, using(crate::proofs::PieceLaws::target_and_raw))]
-fn append_target(item: &Item, into: &mut Bytes) -> Result<(), Starved>
-    ensures ok { OnOk result (into.new ≡ into.old ++ (listing_model.bracketed item.now.target ++ item.now.raw)) }
-    ensures starved { OnErr result (into.new ≡ into.old) }
-{
-    let target = Piece::Plain(item.target.as_bytes());
-    let raw = Piece::Plain(item.raw.as_bytes());
-    append_pieces(&[Piece::Plain(b"<"), target, Piece::Plain(b">"), raw], into)
-}
-
-/// Appends the anchor of a link, where it has one.
-#[tactic(auto, using(crate::proofs::PieceLaws::anchor_spelled))]
-fn append_anchor(anchor: &Option<Text>, into: &mut Bytes) -> Result<(), Starved>
-    ensures ok { OnOk result (into.new ≡ into.old ++ listing_model.anchor_text anchor.now) }
-    ensures starved { OnErr result (into.new ≡ into.old) }
-{
-    let Some(text) = anchor else {
-        return Ok(());
-    };
-    let anchor = Piece::Escaped(text.as_bytes());
-    append_pieces(
-        &[Piece::Plain(b";anchor=\""), anchor, Piece::Plain(b"\"")],
-        into,
-    )
-}
-
-/// Appends the line of a link. Out of memory, the octets are as before.
-#[tactic(auto, using(crate::proofs::PieceLaws::link_whole))]
-pub fn append_link(item: &Item, into: &mut Bytes) -> Result<(), Starved>
-    ensures ok { OnOk result (into.new ≡ separated into.old ++ listing_model.link_line item.now) }
+/// Appends a text after a comma, which stands after what is there. Out of memory, the octets are as
+/// before.
+fn append_separated(text: &str, into: &mut Bytes) -> Result<(), Starved>
+    ensures ok { OnOk result (into.new ≡ separated into.old ++ text.now) }
     ensures starved { OnErr result (into.new ≡ into.old) }
 {
     let before = into.len();
     append_comma(into)?;
-    if append_target(item, into).is_err() {
-        into.truncate(before);
-        return Err(Starved);
-    }
-    if append_anchor(&item.anchor, into).is_err() {
+    if into.append(text.as_bytes()).is_err() {
         into.truncate(before);
         return Err(Starved);
     }
     Ok(())
 }
 
+/// Appends the line of a link. Out of memory, the octets are as before.
+pub fn append_link(link: &Link<'_>, into: &mut Bytes) -> Result<(), Starved>
+    ensures ok { OnOk result (into.new ≡ separated into.old ++ listing_model.link_line link.now) }
+    ensures starved { OnErr result (into.new ≡ into.old) }
+{
+    append_separated(link.line(), into)
+}
+
+/// Appends the lines of all links of a registration, which stand as one text. Out of memory, the
+/// octets are as before.
+pub fn append_all_links(items: &Items, into: &mut Bytes) -> Result<(), Starved>
+    ensures ok { OnOk result (into.new
+        ≡ appended into.old (map listing_model.link_line items.now)) }
+    ensures starved { OnErr result (into.new ≡ into.old) }
+{
+    if items.is_empty() {
+        return Ok(());
+    }
+    append_separated(items.listed(), into)
+}
+
 /// Appends extra attributes of an endpoint.
 fn append_attributes(pairs: &[Pair], into: &mut Bytes) -> Result<(), Starved>
-    ensures ok { OnOk result (into.new ≡ into.old ++ flat_map listing_model.extra_attribute pairs.now) }
+    ensures ok { OnOk result (into.new
+        ≡ into.old ++ flat_map listing_model.extra_attribute pairs.now) }
     ensures starved { OnErr result (into.new ≡ into.old) }
 {
     let before = into.len();
@@ -180,7 +171,8 @@ fn append_own(record_of: &Record, into: &mut Bytes) -> Result<(), Starved>
 /// Appends the line of an endpoint. Out of memory, the octets are as before.
 #[tactic(auto, using(crate::proofs::PieceLaws::endpoint_whole))]
 pub fn append_endpoint(record_of: &Record, into: &mut Bytes) -> Result<(), Starved>
-    ensures ok { OnOk result (into.new ≡ separated into.old ++ listing_model.endpoint_line record_of.now) }
+    ensures ok { OnOk result (into.new
+        ≡ separated into.old ++ listing_model.endpoint_line record_of.now) }
     ensures starved { OnErr result (into.new ≡ into.old) }
 {
     let before = into.len();

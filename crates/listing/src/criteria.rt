@@ -1,79 +1,56 @@
 //! Which links and endpoints meet criteria (RFC 6690 section 4.1, RFC 9176 section 6.2).
-ghost use Rattle.std.specs.Prelude.{◌≡◌, ◌<◌, ◌&&◌, ◌||◌, bytes_eq, codes, length};
-ghost use Rattle.std.specs.List.{list_all, list_any, HoldsAt};
+ghost use Rattle.std.specs.Prelude.{◌≡◌, ◌<◌, ◌&&◌, bytes_eq, codes, length};
+ghost use Rattle.std.specs.List.{list_any, HoldsAt};
 ghost use Rattle.record_model.specs.Matching as model;
 ghost use Rattle.std.specs.Option.{option_copied};
-ghost use Rattle.record_model.specs.Discovery as discovery_model;
 ghost use Rattle.record_model.specs.ListingLines as listing_model;
-ghost use Rattle.listing.specs.ListedLinks.{listed_of};
 ghost use Rattle.listing.specs.JudgedEndpoints.{AreJudged, AreJudgedOf};
 
 use crate::locations::location_of;
 use crate::patterns::{matches_named, matches_value};
-use rd_base::{Criterion, Item, Pair, Query, Record};
+use crate::sought::{Sought, is_href};
+use rd_base::{Criterion, Link, Links, Pair, Query, Record};
 
 /// Whether a criterion of this name and pattern matches an attribute of that name and value.
 #[inline(always)]
 fn matches_attribute(name: &str, pattern: &str, attribute: &str, value: &str) -> bool
-    ensures { result ≡ (bytes_eq attribute.now name.now && model.matches_named name.now pattern.now value.now) }
+    ensures { result ≡ (bytes_eq attribute.now name.now
+        && model.matches_named name.now pattern.now value.now) }
 {
     attribute == name && matches_named(name, pattern, value)
 }
 
 /// Whether a criterion of this name and pattern matches one of the attributes.
 fn matches_pairs(name: &str, pattern: &str, pairs: &[Pair]) -> bool
-    ensures { result ≡ model.matches_pairs (record { name = name.now; pattern = pattern.now }) pairs.now }
+    ensures { result ≡ model.matches_pairs
+        (record { name = name.now; pattern = pattern.now }) pairs.now }
 {
     pairs.iter().any(|pair| pair.name.as_str() == name
         && matches_named(name, pattern, pair.value.as_str()))
 }
 
-/// Whether criteria of this name are about targets.
-fn is_href(name: &str) -> bool
-    ensures { result ≡ bytes_eq name.now (codes "href") }
+/// Whether the criterion matches the link by itself: `href` by its target, `anchor` by its anchor
+/// where it has one, and any other name by one of its attributes (RFC 9176 section 6.2).
+pub fn link_matches(criterion: &Criterion, link: &Link<'_>) -> bool
+    ensures { result ≡ model.link_matches criterion.now link.now }
 {
-    name == "href"
-}
-
-/// Whether criteria of this name are about anchors.
-fn is_anchor(name: &str) -> bool
-    ensures { result ≡ bytes_eq name.now (codes "anchor") }
-{
-    name == "anchor"
-}
-
-/// Whether the criterion matches the link by itself: `href` by its target, `anchor` by its anchor where it has one,
-/// and any other name by one of its attributes (RFC 9176 section 6.2).
-#[tactic(auto, unfolding(record_model::specs::Matching::link_matches))]
-pub fn link_matches(criterion: &Criterion, item: &Item) -> bool
-    ensures { result ≡ model.link_matches criterion.now item.now }
-{
-    let name = criterion.name.as_str();
-    let pattern = criterion.pattern.as_str();
-    if is_href(name) {
-        return matches_value(pattern, item.target.as_str());
-    }
-    if is_anchor(name) {
-        return match &item.anchor {
-            Some(anchor) => matches_value(pattern, anchor.as_str()),
-            None => false,
-        };
-    }
-    matches_pairs(name, pattern, item.pairs.as_slice())
+    Sought::of(criterion).is_in(link)
 }
 
 /// Whether a criterion of this name and pattern matches the type that each endpoint has.
 #[tactic(auto, using(crate::proofs::EndpointLaws::is_of_type))]
 fn matches_type(name: &str, pattern: &str) -> bool
-    ensures { result ≡ (bytes_eq (codes "rt") name.now && model.matches_named name.now pattern.now model.endpoint_type) }
+    ensures { result ≡ (bytes_eq (codes "rt") name.now
+        && model.matches_named name.now pattern.now model.endpoint_type) }
 {
     name == "rt" && matches_value(pattern, "core.rd-ep")
 }
 
-/// Whether a criterion of this name and pattern matches one of the attributes that each endpoint has: its base, its
-/// name, its sector where it has one, and its type.
+/// Whether a criterion of this name and pattern matches one of the attributes that each endpoint
+/// has: its base, its name, its sector where it has one, and its type.
 fn matches_own(name: &str, pattern: &str, record_of: &Record) -> bool
-    ensures { result ≡ model.matches_pairs (record { name = name.now; pattern = pattern.now }) (listing_model.own_pairs record_of.now) }
+    ensures { result ≡ model.matches_pairs (record { name = name.now; pattern = pattern.now })
+        (listing_model.own_pairs record_of.now) }
 {
     if matches_attribute(name, pattern, "base", record_of.base.as_str()) {
         return true;
@@ -96,8 +73,9 @@ fn matches_location(pattern: &str, number: u64) -> bool
     matches_value(pattern, location_of(number).as_str())
 }
 
-/// Whether the criterion matches the endpoint by itself: `href` by its location, and any other name by its base, its
-/// name, its sector where it has one, its type, and its extra attributes (RFC 9176 section 6.2).
+/// Whether the criterion matches the endpoint by itself: `href` by its location, and any other name
+/// by its base, its name, its sector where it has one, its type, and its extra attributes (RFC 9176
+/// section 6.2).
 #[tactic(auto, unfolding(record_model::specs::Matching::endpoint_matches))]
 pub fn endpoint_matches(criterion: &Criterion, record_of: &Record) -> bool
     ensures { result ≡ model.endpoint_matches criterion.now record_of.now }
@@ -111,32 +89,6 @@ pub fn endpoint_matches(criterion: &Criterion, record_of: &Record) -> bool
         return true;
     }
     matches_pairs(name, pattern, record_of.attrs.as_slice())
-}
-
-/// Whether each criterion matches the link by itself or its endpoint by itself, where the first answers tell of the
-/// endpoint.
-fn link_listed_by(criteria: &[Criterion], judged: &[bool], record_of: &Record, item: &Item) -> bool
-    requires { AreJudged record_of.now judged.now criteria.now }
-    ensures { result ≡ list_all (λ criterion. model.link_matches criterion item.now || model.endpoint_matches criterion record_of.now) criteria.now }
-{
-    let mut rest = criteria;
-    let mut left = judged;
-    'criteria: while let Some((criterion, more)) = rest.split_first() {
-        let by_endpoint = match left.split_first() {
-            Some((answer, further)) => {
-                left = further;
-                *answer
-            }
-            None => endpoint_matches(criterion, record_of),
-        };
-        if !by_endpoint {
-            if !link_matches(criterion, item) {
-                return false;
-            }
-        }
-        rest = more;
-    }
-    true
 }
 
 /// Writes for each criterion whether it matches the endpoint by itself, as far as there is room.
@@ -153,7 +105,8 @@ fn judge_into(criteria: &[Criterion], record_of: &Record, judged: &mut [bool])
     judge_into(more, record_of, left);
 }
 
-/// How many criteria are judged once for all links of a registration; any further ones are judged link by link.
+/// How many criteria are judged once for all links of a registration; any further ones are judged
+/// link by link.
 pub const JUDGED: usize = 64;
 
 /// Which of the first criteria match the endpoint by itself, where there is one.
@@ -169,63 +122,49 @@ pub(crate) fn judge(query: &Query, owner: Option<&Record>) -> [bool; JUDGED]
 
 /// Whether each criterion matches the link by itself or its endpoint by itself.
 #[tactic(auto, unfolding(record_model::specs::ListingLines::link_listed))]
-fn link_listed(query: &Query, record_of: &Record, item: &Item) -> bool
-    ensures { result ≡ listing_model.link_listed query.now record_of.now item.now }
+fn link_listed(query: &Query, record_of: &Record, link: &Link<'_>) -> bool
+    ensures { result ≡ listing_model.link_listed query.now record_of.now link.now }
 {
     query.criteria.as_slice().iter().all(|criterion| {
-        link_matches(criterion, item) || endpoint_matches(criterion, record_of)
+        link_matches(criterion, link) || endpoint_matches(criterion, record_of)
     })
 }
 
-/// Whether each criterion matches the link by itself.
-#[tactic(auto, unfolding(record_model::specs::Discovery::own_link_listed))]
-fn own_link_listed(query: &Query, item: &Item) -> bool
-    ensures { result ≡ discovery_model.own_link_listed query.now item.now }
+/// Whether a resource lookup lists the link with this index: each criterion matches the link by
+/// itself or its endpoint by itself (RFC 9176 section 6.2). The query's kind does not count.
+pub fn matches(query: &Query, record_of: &Record, item: usize) -> bool
+    requires { item < length record_of.now.items }
+    ensures { HoldsAt (λ link. result
+        ≡ listing_model.link_listed query.now record_of.now link) record_of.now.items item }
 {
-    query
-        .criteria
-        .as_slice()
-        .iter()
-        .all(|criterion| link_matches(criterion, item))
-}
-
-/// Whether the query lists a link of this registration, whose endpoint was judged as `judged` says, or of the directory itself, which
-/// has no endpoint.
-#[tactic(auto, unfolding(record_model::specs::ListingLines::link_listed))]
-pub(crate) fn is_listed(query: &Query, owner: Option<&Record>, judged: &[bool], item: &Item) -> bool
-    requires { AreJudgedOf (option_copied owner) judged.now query.now.criteria }
-    ensures { result ≡ listed_of query.now (option_copied owner.entry) item.now }
-{
-    match owner {
-        Some(record_of) => link_listed_by(query.criteria.as_slice(), judged, record_of, item),
-        None => own_link_listed(query, item),
+    match record_of.items.links().get(item) {
+        Some(link) => link_listed(query, record_of, &link),
+        None => unreachable!(),
     }
 }
 
-/// Whether a resource lookup lists the link with this index: each criterion matches the link by itself or its endpoint
-/// by itself (RFC 9176 section 6.2). The query's kind does not count.
-pub fn matches(query: &Query, record_of: &Record, item: usize) -> bool
-    requires { item < length record_of.now.items }
-    ensures { HoldsAt (λ link. result ≡ listing_model.link_listed query.now record_of.now link) record_of.now.items item }
-{
-    link_listed(query, record_of, &record_of.items.as_slice()[item])
-}
-
 /// Whether the criterion matches one of the links by itself.
-fn any_link_matches(criterion: &Criterion, items: &[Item]) -> bool
-    ensures { result ≡ list_any (model.link_matches criterion.now) items.now }
+fn any_link_matches(criterion: &Criterion, links: Links<'_>) -> bool
+    ensures { result ≡ list_any (model.link_matches criterion.now) links.entry }
 {
-    items.iter().any(|item| link_matches(criterion, item))
+    let sought = Sought::of(criterion);
+    let mut left = links;
+    'links: while let Some(link) = left.next() {
+        if sought.is_in(&link) {
+            return true;
+        }
+    }
+    false
 }
 
-/// Whether an endpoint lookup lists the endpoint: each criterion matches the endpoint by itself or any one of its links
-/// by itself (RFC 9176 section 6.2). The query's kind does not count.
+/// Whether an endpoint lookup lists the endpoint: each criterion matches the endpoint by itself or
+/// any one of its links by itself (RFC 9176 section 6.2). The query's kind does not count.
 #[tactic(auto, unfolding(record_model::specs::ListingLines::endpoint_listed))]
 pub fn endpoint_listed(query: &Query, record_of: &Record) -> bool
     ensures { result ≡ listing_model.endpoint_listed query.now record_of.now }
 {
     query.criteria.as_slice().iter().all(|criterion| {
         endpoint_matches(criterion, record_of)
-            || any_link_matches(criterion, record_of.items.as_slice())
+            || any_link_matches(criterion, record_of.items.links())
     })
 }

@@ -1,6 +1,8 @@
-//! Which links and endpoints of one registration a lookup lists, and how their lines are spelled (RFC 9176 section 6).
+//! Which links and endpoints of one registration a lookup lists, and how their lines are spelled
+//! (RFC 9176 section 6).
 #![tactic(auto)]
 
+mod alike_links;
 mod appended_lines;
 mod criteria;
 mod locations;
@@ -10,6 +12,8 @@ mod parts;
 mod patterns;
 mod pieces;
 mod same_parts;
+mod sieves;
+mod sought;
 
 pub use criteria::{endpoint_listed, endpoint_matches, link_matches, matches};
 pub use own_links::{discovery, page_bounds};

@@ -23,7 +23,8 @@ pub struct Octets<'a> {
 
 /// The octets of pieces and of extra attributes after them.
 pub fn octets_of<'a>(pieces: [Piece<'a>; PIECES], extra: &'a [Pair]) -> Octets<'a>
-    ensures { left result ≡ octets_of_pieces pieces.entry ++ flat_map listing_model.extra_attribute extra.now }
+    ensures { left result ≡ octets_of_pieces pieces.entry
+        ++ flat_map listing_model.extra_attribute extra.now }
 {
     Octets {
         run: b"",

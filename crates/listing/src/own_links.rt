@@ -1,83 +1,73 @@
 //! The links of the directory itself (RFC 9176 section 4.1, RFC 6690 section 4).
-ghost use Rattle.std.specs.Prelude.{◌≡◌, ◌*◌, ◌∷◌, ◌^◌, ◌<◌, ℕ, List, [], length, IfOk, OnOk};
+ghost use Rattle.std.specs.Prelude.{◌≡◌, ◌*◌, ◌++◌, ◌∷◌, ◌^◌, ◌<◌, ℕ, List, [], length, IfOk, OnOk};
+ghost use Rattle.rd_base.specs.Drafted.{drafted};
 ghost use Rattle.record_model.specs.Discovery as discovery_model;
 ghost use Rattle.record_model.specs.ListingLines.{page_of};
 ghost use Rattle.listing.specs.AppendedLines.{shown_lines};
-ghost use Rattle.listing.specs.OwnLinks.{own_item};
+ghost use Rattle.listing.specs.OwnLinks.{observable_pairs, observed_text, own_item};
 
 use crate::parts::append_links;
-use rd_base::{Bytes, Item, Items, Pair, Pairs, Query, Starved, Text};
+use rd_base::{Bytes, Items, LinkParts, LinksBuilder, Query, Starved};
 use std::alloc::Global;
 
-/// An attribute.
-fn make_pair(alloc: Global, name: &str, value: &str) -> Result<Pair, Starved>
-    ensures { IfOk result (λ pair. pair ≡ record { name = name.now; value = value.now }) }
+/// The builder, where the next link is that of a resource which can be observed, or not (RFC 7641
+/// section 6).
+fn with_observed(builder: LinksBuilder, observable: bool) -> Result<LinksBuilder, Starved>
+    ensures { IfOk result (λ more. more ≡ drafted builder.links
+        (observed_text observable builder.raw) (builder.pairs ++ observable_pairs observable)) }
 {
-    let name = Text::copy_of(alloc, name)?;
-    let value = Text::copy_of(alloc, value)?;
-    Ok(Pair { name, value })
-}
-
-/// The attributes of a link of the directory itself.
-fn make_pairs(alloc: Global, kind: &str, observable: bool) -> Result<Pairs, Starved>
-    ensures { IfOk result (λ pairs. pairs ≡ (own_item [] [] kind.now observable).pairs) }
-{
-    let mut pairs = Vec::new(alloc);
-    pairs.push(make_pair(alloc, "rt", kind)?)?;
-    pairs.push(make_pair(alloc, "ct", "40")?)?;
     if observable {
-        pairs.push(make_pair(alloc, "obs", "")?)?;
-        return Ok(Pairs::of(pairs));
+        return builder.with_pair(";obs", "obs", "");
     }
-    Ok(Pairs::of(pairs))
+    Ok(builder)
 }
 
-/// A link of the directory itself.
-fn make_own_item(
-    alloc: Global,
+/// The builder with one more link of the directory itself, whose type stands in the first of its
+/// attributes.
+fn with_own_link(
+    builder: LinksBuilder,
     path: &str,
-    attributes: &str,
+    typed: &str,
     kind: &str,
     observable: bool,
-) -> Result<Item, Starved>
-    ensures { IfOk result (λ item. item ≡ own_item path.now attributes.now kind.now observable) }
+) -> Result<LinksBuilder, Starved>
+    requires { builder ≡ drafted builder.links [] [] }
+    ensures { IfOk result (λ more. more ≡ drafted (builder.links
+        ++ own_item path.now typed.now kind.now observable ∷ []) [] []) }
 {
-    let target_ref = Text::copy_of(alloc, path)?;
-    let target = Text::copy_of(alloc, path)?;
-    let raw = Text::copy_of(alloc, attributes)?;
-    let pairs = make_pairs(alloc, kind, observable)?;
-    Ok(Item {
-        target_ref,
+    let typed = builder.with_pair(typed, "rt", kind)?;
+    let formatted = typed.with_pair(";ct=40", "ct", "40")?;
+    let observed = with_observed(formatted, observable)?;
+    observed.with_link(&LinkParts {
+        target_ref: path,
         anchor_ref: None,
-        target,
+        target: path,
         anchor: None,
-        raw,
-        pairs,
     })
 }
 
 /// The links of the directory itself.
 #[tactic(auto, using(crate::proofs::OwnLaws::own_links))]
-fn make_own_items(alloc: Global) -> Result<Items, Starved>
+fn make_own_links(alloc: Global) -> Result<Items, Starved>
     ensures { IfOk result (λ items. items ≡ discovery_model.own_items) }
 {
-    let mut items = Vec::new(alloc);
-    items.push(make_own_item(alloc, "/rd", ";rt=\"core.rd\";ct=40", "core.rd", false)?)?;
-    items.push(make_own_item(
-        alloc,
+    let none = LinksBuilder::new(alloc);
+    let one = with_own_link(none, "/rd", ";rt=\"core.rd\"", "core.rd", false)?;
+    let two = with_own_link(
+        one,
         "/rd-lookup/ep",
-        ";rt=\"core.rd-lookup-ep\";ct=40;obs",
+        ";rt=\"core.rd-lookup-ep\"",
         "core.rd-lookup-ep",
         true,
-    )?)?;
-    items.push(make_own_item(
-        alloc,
+    )?;
+    let three = with_own_link(
+        two,
         "/rd-lookup/res",
-        ";rt=\"core.rd-lookup-res\";ct=40;obs",
+        ";rt=\"core.rd-lookup-res\"",
         "core.rd-lookup-res",
         true,
-    )?)?;
-    Ok(Items::of(items))
+    )?;
+    three.build(alloc)
 }
 
 /// How many lines stand before a page of so many lines.
@@ -89,7 +79,8 @@ fn page_start(page: u32, count: u32) -> u64
 
 /// How many lines stand before the page that a query asks for, and how many lines it has at most.
 pub fn page_bounds(query: &Query) -> (u64, u64)
-    ensures { (lines : List (List ℕ)) → length lines < 2 ^ 64 → page_of query.now.page query.now.count lines ≡ shown_lines result.0 result.1 lines }
+    ensures { (lines : List (List ℕ)) → length lines < 2 ^ 64
+        → page_of query.now.page query.now.count lines ≡ shown_lines result.0 result.1 lines }
 {
     match query.count {
         Some(count) => (page_start(query.page.unwrap_or(0), count), u64::from(count)),
@@ -98,7 +89,7 @@ pub fn page_bounds(query: &Query) -> (u64, u64)
 }
 
 /// Appends the links of the directory itself that the query lists, cut by its page and count.
-fn append_own_links(query: &Query, items: &[Item], into: &mut Bytes) -> Result<(), Starved>
+fn append_own_links(query: &Query, items: &Items, into: &mut Bytes) -> Result<(), Starved>
     requires few { length items.now < 2 ^ 64 }
     requires own { items.now ≡ discovery_model.own_items }
     requires empty { into.old ≡ [] }
@@ -109,13 +100,13 @@ fn append_own_links(query: &Query, items: &[Item], into: &mut Bytes) -> Result<(
     Ok(())
 }
 
-/// The answer to a discovery request: the links of the directory itself that each criterion matches by themselves, cut
-/// by page and count (RFC 9176 section 4.1, RFC 6690 section 4).
+/// The answer to a discovery request: the links of the directory itself that each criterion matches
+/// by themselves, cut by page and count (RFC 9176 section 4.1, RFC 6690 section 4).
 pub fn discovery(alloc: Global, query: &Query) -> Result<Bytes, Starved>
     ensures { IfOk result (λ text. text ≡ discovery_model.discovery query.now) }
 {
-    let items = make_own_items(alloc)?;
+    let items = make_own_links(alloc)?;
     let mut text = Bytes::new(alloc);
-    append_own_links(query, items.as_slice(), &mut text)?;
+    append_own_links(query, &items, &mut text)?;
     Ok(text)
 }

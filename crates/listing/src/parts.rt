@@ -1,38 +1,41 @@
 //! The lines that one registration gives to a listing (RFC 9176 sections 6.3 and 6.4).
-ghost use Rattle.std.specs.Prelude.{◌≡◌, length, min, IfOk, OnOk, OnErr};
+ghost use Rattle.std.specs.Prelude.{◌≡◌, ◌≤◌, length, min, IfOk, IsTrue, OnOk, OnErr};
 ghost use Rattle.std.specs.Option.{option_copied};
 ghost use Rattle.record_model.specs.ListingLines.{part};
 ghost use Rattle.listing.specs.AppendedLines.{appended, shown_lines};
-ghost use Rattle.listing.specs.ListedLinks.{listed_endpoint, listed_lines};
+ghost use Rattle.listing.specs.ListedLinks.{lines_by, listed_endpoint, listed_lines};
+ghost use Rattle.listing.specs.Sieves.{IsJudged, sifts};
 
-use crate::appended_lines::{append_endpoint, append_link};
-use crate::criteria::{endpoint_listed, is_listed, judge};
-use rd_base::{Bytes, Item, Kind, Query, Record, Starved};
+use crate::appended_lines::{append_all_links, append_endpoint, append_link};
+use crate::criteria::{endpoint_listed, judge};
+use crate::sieves::Sieve;
+use rd_base::{Bytes, Items, Kind, Links, Query, Record, Starved};
 use std::alloc::Global;
 
-/// Appends the lines of the links that are listed, after the first `skip` and at most `most`, and answers how many it
-/// skipped and wrote. Out of memory, the octets are as before.
-pub fn append_links(
-    query: &Query,
-    owner: Option<&Record>,
-    items: &[Item],
+/// Appends the lines of the links that the sieve lists, link by link, after the first `skip` and at
+/// most `most`, and answers how many it skipped and wrote. Out of memory, the octets are as before.
+fn append_each(
+    sieve: &Sieve<'_>,
+    links: Links<'_>,
     skip: u64,
     most: u64,
     into: &mut Bytes,
 ) -> Result<(u64, u64), Starved>
-    ensures text { OnOk result (into.new ≡ appended into.old (shown_lines skip most (listed_lines query.now (option_copied owner.entry) items.now))) }
-    ensures skipped { IfOk result (λ counts. counts.0 ≡ min skip (length (listed_lines query.now (option_copied owner.entry) items.now))) }
-    ensures written { IfOk result (λ counts. counts.1 ≡ length (shown_lines skip most (listed_lines query.now (option_copied owner.entry) items.now))) }
+    requires { IsJudged sieve.now }
+    ensures text { OnOk result (into.new ≡ appended into.old
+        (shown_lines skip most (lines_by (sifts sieve.now) links.entry))) }
+    ensures skipped { IfOk result (λ counts. counts.0 ≡ min skip
+        (length (lines_by (sifts sieve.now) links.entry))) }
+    ensures written { IfOk result (λ counts. counts.1 ≡ length
+        (shown_lines skip most (lines_by (sifts sieve.now) links.entry))) }
     ensures starved { OnErr result (into.new ≡ into.old) }
 {
     let before = into.len();
     let mut to_skip = skip;
     let mut to_write = most;
-    let judged = judge(query, owner);
-    let mut rest = items;
-    'items: while let Some((item, more)) = rest.split_first() {
-        rest = more;
-        if !is_listed(query, owner, &judged, item) {
+    let mut left = links;
+    'links: while let Some(link) = left.next() {
+        if !sieve.lists(&link) {
             continue;
         }
         if to_skip > 0 {
@@ -42,13 +45,74 @@ pub fn append_links(
         if to_write == 0 {
             return Ok((skip, most));
         }
-        if append_link(item, into).is_err() {
+        if append_link(&link, into).is_err() {
             into.truncate(before);
             return Err(Starved);
         }
         to_write -= 1;
     }
     Ok((skip - to_skip, most - to_write))
+}
+
+/// Whether so many lines are all that there are of these links, from the first one on.
+fn is_whole(links: &Items, skip: u64, most: u64) -> bool
+    ensures { IsTrue result → (skip ≡ 0) × (length links.now ≤ most) }
+{
+    if skip != 0 {
+        return false;
+    }
+    links.len() as u64 <= most
+}
+
+/// Appends the lines of the links that the sieve lists, after the first `skip` and at most `most`,
+/// and answers how many it skipped and wrote. Out of memory, the octets are as before.
+fn append_sifted(
+    sieve: &Sieve<'_>,
+    items: &Items,
+    skip: u64,
+    most: u64,
+    into: &mut Bytes,
+) -> Result<(u64, u64), Starved>
+    requires { IsJudged sieve.now }
+    ensures text { OnOk result (into.new ≡ appended into.old
+        (shown_lines skip most (lines_by (sifts sieve.now) items.now))) }
+    ensures skipped { IfOk result (λ counts. counts.0 ≡ min skip
+        (length (lines_by (sifts sieve.now) items.now))) }
+    ensures written { IfOk result (λ counts. counts.1 ≡ length
+        (shown_lines skip most (lines_by (sifts sieve.now) items.now))) }
+    ensures starved { OnErr result (into.new ≡ into.old) }
+{
+    if !is_whole(items, skip, most) {
+        return append_each(sieve, items.links(), skip, most, into);
+    }
+    if !sieve.lists_all() {
+        return append_each(sieve, items.links(), skip, most, into);
+    }
+    append_all_links(items, into)?;
+    Ok((0, items.len() as u64))
+}
+
+/// Appends the lines of the links that are listed, after the first `skip` and at most `most`, and
+/// answers how many it skipped and wrote. Out of memory, the octets are as before.
+pub fn append_links(
+    query: &Query,
+    owner: Option<&Record>,
+    items: &Items,
+    skip: u64,
+    most: u64,
+    into: &mut Bytes,
+) -> Result<(u64, u64), Starved>
+    ensures text { OnOk result (into.new ≡ appended into.old
+        (shown_lines skip most (listed_lines query.now (option_copied owner.entry) items.now))) }
+    ensures skipped { IfOk result (λ counts. counts.0 ≡ min skip
+        (length (listed_lines query.now (option_copied owner.entry) items.now))) }
+    ensures written { IfOk result (λ counts. counts.1 ≡ length
+        (shown_lines skip most (listed_lines query.now (option_copied owner.entry) items.now))) }
+    ensures starved { OnErr result (into.new ≡ into.old) }
+{
+    let judged = judge(query, owner);
+    let sieve = Sieve::of(query, owner, &judged);
+    append_sifted(&sieve, items, skip, most, into)
 }
 
 /// Appends the line of the endpoint where it is listed, by the same rules.
@@ -59,9 +123,12 @@ fn append_listed_endpoint(
     most: u64,
     into: &mut Bytes,
 ) -> Result<(u64, u64), Starved>
-    ensures text { OnOk result (into.new ≡ appended into.old (shown_lines skip most (listed_endpoint query.now record_of.now))) }
-    ensures skipped { IfOk result (λ counts. counts.0 ≡ min skip (length (listed_endpoint query.now record_of.now))) }
-    ensures written { IfOk result (λ counts. counts.1 ≡ length (shown_lines skip most (listed_endpoint query.now record_of.now))) }
+    ensures text { OnOk result (into.new ≡ appended into.old
+        (shown_lines skip most (listed_endpoint query.now record_of.now))) }
+    ensures skipped { IfOk result (λ counts. counts.0 ≡ min skip
+        (length (listed_endpoint query.now record_of.now))) }
+    ensures written { IfOk result (λ counts. counts.1 ≡ length
+        (shown_lines skip most (listed_endpoint query.now record_of.now))) }
     ensures starved { OnErr result (into.new ≡ into.old) }
 {
     if !endpoint_listed(query, record_of) {
@@ -77,11 +144,11 @@ fn append_listed_endpoint(
     Ok((0, 1))
 }
 
-/// Appends the lines that the registration gives to a lookup of this kind, after the first `skip` and at most `most`:
-/// the links that a resource lookup lists, or the endpoint where an endpoint lookup lists it. A comma stands before each
-/// line where the octets are not empty (RFC 6690 section 2). Answers how many lines were skipped and how many written;
-/// those skipped are all that there are where that is fewer than `skip`. Out of memory, the octets are as
-/// before.
+/// Appends the lines that the registration gives to a lookup of this kind, after the first `skip`
+/// and at most `most`: the links that a resource lookup lists, or the endpoint where an endpoint
+/// lookup lists it. A comma stands before each line where the octets are not empty (RFC 6690
+/// section 2). Answers how many lines were skipped and how many written; those skipped are all that
+/// there are where that is fewer than `skip`. Out of memory, the octets are as before.
 #[tactic(auto, unfolding(record_model::specs::ListingLines::part))]
 pub fn lines(
     _alloc: Global,
@@ -91,20 +158,18 @@ pub fn lines(
     most: u64,
     into: &mut Bytes,
 ) -> Result<(u64, u64), Starved>
-    ensures text { OnOk result (into.new ≡ appended into.old (shown_lines skip most (part query.now record_of.now))) }
-    ensures skipped { IfOk result (λ counts. counts.0 ≡ min skip (length (part query.now record_of.now))) }
-    ensures written { IfOk result (λ counts. counts.1 ≡ length (shown_lines skip most (part query.now record_of.now))) }
+    ensures text { OnOk result (into.new ≡ appended into.old
+        (shown_lines skip most (part query.now record_of.now))) }
+    ensures skipped { IfOk result (λ counts. counts.0 ≡ min skip
+        (length (part query.now record_of.now))) }
+    ensures written { IfOk result (λ counts. counts.1 ≡ length
+        (shown_lines skip most (part query.now record_of.now))) }
     ensures starved { OnErr result (into.new ≡ into.old) }
 {
     match query.kind {
-        Kind::Resource => append_links(
-            query,
-            Some(record_of),
-            record_of.items.as_slice(),
-            skip,
-            most,
-            into,
-        ),
+        Kind::Resource => {
+            append_links(query, Some(record_of), &record_of.items, skip, most, into)
+        }
         Kind::Endpoint => append_listed_endpoint(query, record_of, skip, most, into),
         Kind::Discovery => Ok((0, 0)),
     }

@@ -1,9 +1,10 @@
 //! Patterns against values (RFC 6690 section 4.1).
-ghost use Rattle.std.specs.Prelude.{◌≡◌};
+ghost use Rattle.std.specs.Prelude.{◌≡◌, ◌==◌, ℕ, List};
 ghost use Rattle.std.specs.Option.{option_copied};
 ghost use Rattle.std.specs.List.{list_any};
 ghost use Rattle.record_model.specs.Options.{is_among};
 ghost use Rattle.record_model.specs.Matching as model;
+ghost use Rattle.listing.specs.Patterns.{fits};
 ghost use Rattle.listing.specs.ValueParts.{FirstPart};
 
 /// What stands before an asterisk that ends the pattern, where one does (RFC 6690 section 4.1).
@@ -13,27 +14,82 @@ pub fn before_wildcard(pattern: &str) -> Option<&str>
     pattern.strip_suffix('*')
 }
 
-/// Whether the pattern matches the value: one that ends with an asterisk a value that begins with the rest of it, and
-/// any other the equal value.
-#[tactic(auto, unfolding(record_model::specs::Matching::matches_value))]
-pub fn matches_value(pattern: &str, value: &str) -> bool
-    ensures { result ≡ model.matches_value pattern.now value.now }
-{
-    match before_wildcard(pattern) {
-        Some(front) => value.starts_with(front),
-        None => value == pattern,
+/// A pattern that is cut once for all values.
+#[derive(Clone, Copy)]
+pub(crate) enum Pattern<'a> {
+    /// What a value begins with: an asterisk ends the pattern.
+    Front(&'a str),
+    /// What a value is.
+    Whole(&'a str),
+}
+
+impl<'a> Pattern<'a> {
+    /// The pattern of this text.
+    pub(crate) fn of(text: &'a str) -> Pattern<'a>
+        ensures { (value : List ℕ) → fits result value ≡ model.matches_value text.now value }
+    {
+        match before_wildcard(text) {
+            Some(front) => Pattern::Front(front),
+            None => Pattern::Whole(text),
+        }
+    }
+
+    /// Whether the value begins with the text of the pattern, or is that text.
+    pub(crate) fn fits(&self, value: &str) -> bool
+        ensures { result ≡ fits self.now value.now }
+    {
+        match self {
+            Pattern::Front(front) => value.starts_with(*front),
+            Pattern::Whole(text) => value == *text,
+        }
+    }
+
+    /// Whether one part of the value does, which spaces part.
+    pub(crate) fn fits_part(&self, value: &str) -> bool
+        ensures { result ≡ list_any (fits self.now) (model.parts_of value.now) }
+    {
+        if has_space(value) {
+            return self.fits_a_part(value);
+        }
+        if value.is_empty() {
+            return false;
+        }
+        self.fits(value)
+    }
+
+    /// The same of a value that has spaces, part by part.
+    fn fits_a_part(&self, value: &str) -> bool
+        ensures { result ≡ list_any (fits self.now) (model.parts_of value.now) }
+    {
+        let mut rest = value;
+        'parts: while let Some((part, more)) = first_part(rest) {
+            if self.fits(part) {
+                return true;
+            }
+            rest = more;
+        }
+        false
     }
 }
 
-/// Whether the values of the name are lists of parts: `rel`, `rev`, `rt` and `if` (RFC 6690 section 2).
+/// Whether the pattern matches the value: one that ends with an asterisk a value that begins with
+/// the rest of it, and any other the equal value.
+pub fn matches_value(pattern: &str, value: &str) -> bool
+    ensures { result ≡ model.matches_value pattern.now value.now }
+{
+    Pattern::of(pattern).fits(value)
+}
+
+/// Whether the values of the name are lists of parts: `rel`, `rev`, `rt` and `if` (RFC 6690 section
+/// 2).
 pub fn is_list_name(name: &str) -> bool
     ensures { result ≡ is_among model.list_names name.now }
 {
     name == "rel" || name == "rev" || name == "rt" || name == "if"
 }
 
-/// The first part of a value, and what stands after it; None where the value has no part. Spaces part a value, and an
-/// empty text is no part (RFC 6690 section 2, relation-types).
+/// The first part of a value, and what stands after it; None where the value has no part. Spaces
+/// part a value, and an empty text is no part (RFC 6690 section 2, relation-types).
 pub fn first_part(value: &str) -> Option<(&str, &str)>
     ensures { FirstPart value.now result }
 {
@@ -50,27 +106,21 @@ pub fn first_part(value: &str) -> Option<(&str, &str)>
     Some((rest, ""))
 }
 
-/// Whether the pattern matches one part of the value, which spaces part.
-fn matches_part(pattern: &str, value: &str) -> bool
-    ensures { result ≡ list_any (model.matches_value pattern.now) (model.parts_of value.now) }
+/// Whether the value has a space.
+fn has_space(value: &str) -> bool
+    ensures { result ≡ list_any (λ c. c == model.space) value.now }
 {
-    let mut rest = value;
-    'parts: while let Some((part, more)) = first_part(rest) {
-        if matches_value(pattern, part) {
-            return true;
-        }
-        rest = more;
-    }
-    false
+    value.as_bytes().contains(&b' ')
 }
 
-/// Whether the pattern matches a value of the name: one part of it where the name's values are lists, and else the value.
+/// Whether the pattern matches a value of the name: one part of it where the name's values are
+/// lists, and else the value.
 #[tactic(auto, unfolding(record_model::specs::Matching::matches_named))]
 pub fn matches_named(name: &str, pattern: &str, value: &str) -> bool
     ensures { result ≡ model.matches_named name.now pattern.now value.now }
 {
     if is_list_name(name) {
-        return matches_part(pattern, value);
+        return Pattern::of(pattern).fits_part(value);
     }
     matches_value(pattern, value)
 }

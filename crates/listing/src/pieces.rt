@@ -1,11 +1,12 @@
-//! The pieces of lines: texts that stand in them as they are, and texts that stand in quotes (RFC 6690 section 2).
+//! The pieces of lines: texts that stand in them as they are, and texts that stand in quotes (RFC
+//! 6690 section 2).
 ghost use Rattle.std.specs.Prelude.{◌≡◌, ◌==◌, ◌||◌};
 ghost use Rattle.link_model.specs.Characters.{backslash, quote_mark};
 ghost use Rattle.record_model.specs.ListingLines as listing_model;
 ghost use Rattle.record_model.specs.Matching as model;
 ghost use Rattle.listing.specs.Pieces.{octets_of_pieces, own_line};
 
-use rd_base::{Item, Pair, Record};
+use rd_base::{Pair, Record};
 
 /// How many pieces each part of a line is cut into; those that are left over are empty.
 pub const PIECES: usize = 9;
@@ -24,41 +25,6 @@ pub fn is_escaped(octet: u8) -> bool
     ensures { result ≡ (octet == quote_mark || octet == backslash) }
 {
     octet == b'"' || octet == b'\\'
-}
-
-/// The line of a link.
-#[tactic(auto, using(crate::proofs::PieceLaws::link_with_anchor, crate::proofs::PieceLaws::link_without_anchor))]
-pub fn link_pieces<'a>(item: &'a Item) -> [Piece<'a>; PIECES]
-    ensures { octets_of_pieces result ≡ listing_model.link_line item.now }
-{
-    let none = Piece::Plain(b"");
-    let target = Piece::Plain(item.target.as_bytes());
-    let raw = Piece::Plain(item.raw.as_bytes());
-    if let Some(text) = &item.anchor {
-        let anchor = Piece::Escaped(text.as_bytes());
-        return [
-            Piece::Plain(b"<"),
-            target,
-            Piece::Plain(b">"),
-            raw,
-            Piece::Plain(b";anchor=\""),
-            anchor,
-            Piece::Plain(b"\""),
-            none,
-            none,
-        ];
-    }
-    [
-        Piece::Plain(b"<"),
-        target,
-        Piece::Plain(b">"),
-        raw,
-        none,
-        none,
-        none,
-        none,
-        none,
-    ]
 }
 
 /// The line of an endpoint before its extra attributes.

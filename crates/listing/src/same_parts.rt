@@ -4,110 +4,20 @@ ghost use Rattle.std.specs.Option.{option_copied};
 ghost use Rattle.record_model.specs.ListingLines as listing_model;
 ghost use Rattle.record_model.specs.Matching as model;
 ghost use Rattle.record_model.specs.ListingLines.{part_or_none, same_lines};
-ghost use Rattle.rd_base.specs.declared.records.Record.{Record};
-ghost use Rattle.listing.specs.AlikeLinks.{AreAlike, AreJudgedAlike, AreLeftAlike};
-ghost use Rattle.listing.specs.JudgedEndpoints.{AreJudged};
+ghost use Rattle.listing.specs.AlikeLinks.{Agree};
 ghost use Rattle.listing.specs.Views.{FirstListed, left};
-ghost use Rattle.listing.specs.ListedLinks.{listed_endpoint, listed_lines};
+ghost use Rattle.listing.specs.ListedLinks.{lines_by, listed_endpoint, listed_lines};
+ghost use Rattle.listing.specs.Sieves.{IsJudged, sifts};
 
-use crate::criteria::{endpoint_listed, is_listed, judge};
+use crate::alike_links::{
+    after_alike, are_all_alike, are_listed_together, same_all_lines, same_line,
+};
+use crate::criteria::{endpoint_listed, judge};
 use crate::locations::location_of;
 use crate::octets::{Octets, octets_of, same_octets};
-use crate::pieces::{endpoint_pieces, link_pieces};
-use rd_base::{Criterion, Item, Kind, Query, Record, Text};
-
-/// Whether both have the same anchor, or none.
-fn same_anchor(old: &Option<Text>, new: &Option<Text>) -> bool
-    ensures { IsTrue result → old.now ≡ new.now }
-{
-    match old {
-        None => new.is_none(),
-        Some(text) => match new {
-            None => false,
-            Some(other) => same_text(text, other),
-        },
-    }
-}
-
-/// Whether both texts are equal.
-fn same_text(old: &Text, new: &Text) -> bool
-    ensures { IsTrue result → old.now ≡ new.now }
-{
-    old == new
-}
-
-/// Whether the lines of both links are spelled of the same texts.
-#[tactic(auto, using(crate::proofs::PieceLaws::same_texts))]
-fn has_same_texts(old: &Item, new: &Item) -> bool
-    ensures { IsTrue result → listing_model.link_line old.now ≡ listing_model.link_line new.now }
-{
-    if !same_text(&old.target, &new.target) {
-        return false;
-    }
-    if !same_text(&old.raw, &new.raw) {
-        return false;
-    }
-    same_anchor(&old.anchor, &new.anchor)
-}
-
-/// Whether the lines of both links have the same octets.
-fn same_link(old: &Item, new: &Item) -> bool
-    ensures { result ≡ bytes_eq (listing_model.link_line old.now) (listing_model.link_line new.now) }
-{
-    if has_same_texts(old, new) {
-        return true;
-    }
-    same_octets(
-        &mut octets_of(link_pieces(old), &[]),
-        &mut octets_of(link_pieces(new), &[]),
-    )
-}
-
-/// Whether both links are alike.
-fn are_alike(old: &Item, new: &Item) -> bool
-    ensures { IsTrue result → AreAlike old.now new.now }
-{
-    if !same_text(&old.target, &new.target) {
-        return false;
-    }
-    if !same_text(&old.raw, &new.raw) {
-        return false;
-    }
-    if !same_anchor(&old.anchor, &new.anchor) {
-        return false;
-    }
-    old.pairs == new.pairs
-}
-
-/// What is left of the links of two registrations after those at the beginning that are alike, where their endpoints are judged alike; else
-/// all.
-fn after_alike<'a>(together: bool, old: &'a [Item], new: &'a [Item]) -> (&'a [Item], &'a [Item])
-    ensures { AreLeftAlike together old.now new.now result.0.now result.1.now }
-{
-    if !together {
-        return (old, new);
-    }
-    let mut left = old;
-    let mut other = new;
-    'items: while let Some((item, more)) = left.split_first() {
-        let Some((next, further)) = other.split_first() else {
-            return (left, other);
-        };
-        if !are_alike(item, next) {
-            return (left, other);
-        }
-        left = more;
-        other = further;
-    }
-    (left, other)
-}
-
-/// Whether, by these answers, each criterion matches both endpoints by themselves, or neither.
-fn are_judged_alike(criteria: &[Criterion], old_judged: &[bool], new_judged: &[bool]) -> bool
-    ensures { IsTrue result → (r s : Record) → AreJudged r old_judged.now criteria.now → AreJudged s new_judged.now criteria.now → AreJudgedAlike criteria.now r s }
-{
-    criteria.len() <= old_judged.len() && old_judged == new_judged
-}
+use crate::pieces::endpoint_pieces;
+use crate::sieves::{Sieve, both_list_all};
+use rd_base::{Items, Kind, Link, Links, Query, Record};
 
 /// The line of an endpoint, octet by octet.
 #[tactic(auto, using(crate::proofs::PieceLaws::endpoint_parts))]
@@ -123,7 +33,8 @@ fn endpoint_octets<'a>(record_of: &'a Record, location: &'a [u8]) -> Octets<'a>
 
 /// Whether the lines of both endpoints have the same octets.
 fn same_endpoint(old: &Record, new: &Record) -> bool
-    ensures { result ≡ bytes_eq (listing_model.endpoint_line old.now) (listing_model.endpoint_line new.now) }
+    ensures { result ≡ bytes_eq (listing_model.endpoint_line old.now)
+        (listing_model.endpoint_line new.now) }
 {
     let old_location = location_of(old.number);
     let new_location = location_of(new.number);
@@ -133,44 +44,47 @@ fn same_endpoint(old: &Record, new: &Record) -> bool
 }
 
 /// The first of the links that is listed, and those after it.
-fn first_listed<'a>(
-    query: &Query,
-    record_of: &Record,
-    judged: &[bool],
-    items: &'a [Item],
-) -> Option<(&'a Item, &'a [Item])>
-    requires { AreJudged record_of.now judged.now query.now.criteria }
-    ensures { FirstListed query.now record_of.now items.now result }
+fn first_listed<'a>(sieve: &Sieve<'_>, links: Links<'a>) -> Option<(Link<'a>, Links<'a>)>
+    requires { IsJudged sieve.now }
+    ensures { FirstListed (sifts sieve.now) links.entry result }
 {
-    let mut rest = items;
-    'items: while let Some((item, more)) = rest.split_first() {
-        if is_listed(query, Some(record_of), judged, item) {
-            return Some((item, more));
+    let mut left = links;
+    'links: while let Some(link) = left.next() {
+        if sieve.lists(&link) {
+            return Some((link, left));
         }
-        rest = more;
     }
     None
 }
 
-/// Whether the links that are listed of both have the same lines in the same order.
-fn same_links(query: &Query, old: &Record, new: &Record) -> bool
-    ensures { result ≡ same_lines (listed_lines query.now (Some old.now) old.now.items) (listed_lines query.now (Some new.now) new.now.items) }
+/// Whether the links that pass through their sieves have the same lines in the same order, which
+/// are compared link by link.
+fn same_link_by_link(
+    together: bool,
+    old: &Sieve<'_>,
+    new: &Sieve<'_>,
+    old_items: &Items,
+    new_items: &Items,
+) -> bool
+    requires old { IsJudged old.now }
+    requires new { IsJudged new.now }
+    requires together { Agree together (sifts old.now) (sifts new.now) }
+    ensures { result
+        ≡ same_lines
+        (lines_by (sifts old.now) old_items.now) (lines_by (sifts new.now) new_items.now) }
 {
-    let old_judged = judge(query, Some(old));
-    let new_judged = judge(query, Some(new));
-    let together = are_judged_alike(query.criteria.as_slice(), &old_judged, &new_judged);
-    let mut old_rest = old.items.as_slice();
-    let mut new_rest = new.items.as_slice();
-    'items: loop {
+    let mut old_rest = old_items.links();
+    let mut new_rest = new_items.links();
+    'links: loop {
         let (old_left, new_left) = after_alike(together, old_rest, new_rest);
-        let old_first = first_listed(query, old, &old_judged, old_left);
-        let new_first = first_listed(query, new, &new_judged, new_left);
+        let old_first = first_listed(old, old_left);
+        let new_first = first_listed(new, new_left);
         match old_first {
             None => return new_first.is_none(),
-            Some((old_item, old_more)) => match new_first {
+            Some((old_link, old_more)) => match new_first {
                 None => return false,
-                Some((new_item, new_more)) => {
-                    if !same_link(old_item, new_item) {
+                Some((new_link, new_more)) => {
+                    if !same_line(&old_link, &new_link) {
                         return false;
                     }
                     old_rest = old_more;
@@ -181,9 +95,48 @@ fn same_links(query: &Query, old: &Record, new: &Record) -> bool
     }
 }
 
+/// Whether the links that pass through their sieves have the same lines in the same order. Where
+/// all pass, or all are alike, their lines are compared as one text.
+fn same_sifted(
+    together: bool,
+    old: &Sieve<'_>,
+    new: &Sieve<'_>,
+    old_items: &Items,
+    new_items: &Items,
+) -> bool
+    requires old { IsJudged old.now }
+    requires new { IsJudged new.now }
+    requires together { Agree together (sifts old.now) (sifts new.now) }
+    ensures { result
+        ≡ same_lines
+        (lines_by (sifts old.now) old_items.now) (lines_by (sifts new.now) new_items.now) }
+{
+    if both_list_all(old, new) {
+        return same_all_lines(old_items, new_items);
+    }
+    if are_all_alike(together, old_items, new_items) {
+        return true;
+    }
+    same_link_by_link(together, old, new, old_items, new_items)
+}
+
+/// Whether the links that are listed of both have the same lines in the same order.
+fn same_links(query: &Query, old: &Record, new: &Record) -> bool
+    ensures { result ≡ same_lines (listed_lines query.now (Some old.now) old.now.items)
+        (listed_lines query.now (Some new.now) new.now.items) }
+{
+    let old_judged = judge(query, Some(old));
+    let new_judged = judge(query, Some(new));
+    let together = are_listed_together(query, &old_judged, &new_judged);
+    let old_sieve = Sieve::of(query, Some(old), &old_judged);
+    let new_sieve = Sieve::of(query, Some(new), &new_judged);
+    same_sifted(together, &old_sieve, &new_sieve, &old.items, &new.items)
+}
+
 /// Whether both give the same lines to an endpoint lookup.
 fn same_listed_endpoint(query: &Query, old: &Record, new: &Record) -> bool
-    ensures { result ≡ same_lines (listed_endpoint query.now old.now) (listed_endpoint query.now new.now) }
+    ensures { result ≡ same_lines (listed_endpoint query.now old.now)
+        (listed_endpoint query.now new.now) }
 {
     if !endpoint_listed(query, old) {
         return !endpoint_listed(query, new);
@@ -197,7 +150,8 @@ fn same_listed_endpoint(query: &Query, old: &Record, new: &Record) -> bool
 /// Whether both give the same lines.
 #[tactic(auto, unfolding(record_model::specs::ListingLines::part))]
 fn same_parts(query: &Query, old: &Record, new: &Record) -> bool
-    ensures { result ≡ same_lines (listing_model.part query.now old.now) (listing_model.part query.now new.now) }
+    ensures { result ≡ same_lines (listing_model.part query.now old.now)
+        (listing_model.part query.now new.now) }
 {
     match query.kind {
         Kind::Resource => same_links(query, old, new),
@@ -214,18 +168,20 @@ fn gives_none(query: &Query, record_of: &Record) -> bool
     match query.kind {
         Kind::Resource => {
             let judged = judge(query, Some(record_of));
-            first_listed(query, record_of, &judged, record_of.items.as_slice()).is_none()
+            let sieve = Sieve::of(query, Some(record_of), &judged);
+            first_listed(&sieve, record_of.items.links()).is_none()
         }
         Kind::Endpoint => !endpoint_listed(query, record_of),
         Kind::Discovery => true,
     }
 }
 
-/// Whether both give the same lines, in the same order, to a lookup of this kind; where there is no registration, there
-/// is no line (RFC 9176 section 6). Takes no memory.
+/// Whether both give the same lines, in the same order, to a lookup of this kind; where there is no
+/// registration, there is no line (RFC 9176 section 6). Takes no memory.
 #[tactic(auto, using(crate::proofs::SamePartLaws::same_lines_answered))]
 pub fn same_part(query: &Query, old: Option<&Record>, new: Option<&Record>) -> bool
-    ensures { IsTrue result ↔ (part_or_none query.now (option_copied old.entry) ≡ part_or_none query.now (option_copied new.entry)) }
+    ensures { IsTrue result ↔ (part_or_none query.now (option_copied old.entry)
+        ≡ part_or_none query.now (option_copied new.entry)) }
 {
     match (old, new) {
         (Some(before), Some(after)) => same_parts(query, before, after),

@@ -5,3 +5,8 @@ pub mod Bases
 pub mod Prefixes
 pub mod Plans
 pub mod Firsts
+pub mod LinkLines
+pub mod Spans
+pub mod LinkTexts
+pub mod Drafted
+pub mod PairRefs

@@ -4,6 +4,10 @@
 mod addresses;
 mod attributes;
 mod keys;
+mod link_equality;
+mod link_reading;
+mod link_texts;
+mod links_builder;
 mod memory_ends;
 mod moments;
 mod octets;
@@ -16,6 +20,8 @@ mod pieces;
 mod prefixes;
 mod queries;
 mod records;
+mod shared_links;
+mod spans;
 mod std_ends;
 mod steps;
 mod submitted_links;
@@ -25,6 +31,8 @@ mod texts;
 
 pub use attributes::{Pair, Pairs};
 pub use keys::Key;
+pub use link_reading::{Link, LinkPairs, Links, PairRef};
+pub use links_builder::{LinkParts, LinksBuilder};
 pub use memory_ends::{MemSink, MemSource};
 pub use moments::Moment;
 pub use octets::Bytes;
@@ -35,7 +43,8 @@ pub use peer_spelling::{PeerBad, base_of, peer_read, peer_read_ascii, peer_text}
 pub use peers::{Host, Peer};
 pub use pieces::Pieces;
 pub use queries::{Criteria, Criterion, Kind, Query};
-pub use records::{Item, Items, Name, Record};
+pub use records::{Item, Name, Record};
+pub use shared_links::Items;
 pub use std_ends::{StdSink, StdSource};
 pub use steps::Steps;
 pub use submitted_links::{SubmittedLink, SubmittedLinks};

@@ -5,9 +5,8 @@ ghost use Rattle.std.proofs.Common.{rules};
 ghost use Rattle.std.specs.Cmp.Rules.{comparing};
 
 use crate::texts::copy_present;
-use crate::{Moment, Pairs, Starved, Text};
+use crate::{Items, Moment, Pairs, Starved, Text};
 use std::alloc::Global;
-use std::marker::Model;
 
 /// The name of an endpoint: no two live registrations have the same.
 #[derive(Debug, PartialEq, Eq, PartialOrd, Ord, Hash, Drop)]
@@ -29,7 +28,8 @@ impl Name {
     }
 }
 
-/// A link of a registration.
+/// A link of a registration, part by part: what contracts say of the links that lie in
+/// [`Items`](crate::Items).
 #[derive(Debug, PartialEq, Eq, Drop)]
 pub struct Item {
     /// The target as it was submitted.
@@ -44,89 +44,6 @@ pub struct Item {
     pub raw: Text,
     /// The attributes, without anchors, with their values.
     pub pairs: Pairs,
-}
-
-/// The links of a registration, in the order of the body.
-#[derive(Debug, Drop)]
-pub struct Items {
-    items: Vec<Item>,
-}
-
-impl Model for Items {
-    ghost use Rattle.std.specs.Prelude.{List};
-    ghost use Rattle.rd_base.specs.declared.records.Item.{Item};
-
-    ghost Value = { List Item };
-
-    ghost view = { λ l. l.items.items };
-}
-
-impl Items {
-    /// These, in order. Takes no memory.
-    pub fn of(items: Vec<Item>) -> Items
-        ensures { result ≡ items.items }
-    {
-        Items { items }
-    }
-
-    /// How many there are.
-    pub fn len(&self) -> usize
-        ensures value { result ≡ length self.now }
-        ensures counted { length self.now < 2 ^ 64 }
-    {
-        self.items.len()
-    }
-
-    /// Whether there are none.
-    pub fn is_empty(&self) -> bool
-        ensures { IsTrue result ↔ (self.now ≡ []) }
-    {
-        self.items.is_empty()
-    }
-
-    /// Appends a link. `Starved`: out of memory, and the list is as before.
-    pub fn push(&mut self, item: Item) -> Result<(), Starved>
-        ensures ok { OnOk result (self.new ≡ self.old ++ item ∷ []) }
-        ensures err { OnErr result (self.new ≡ self.old) }
-    {
-        self.items.push(item)?;
-        Ok(())
-    }
-
-    /// Those that are there, in order.
-    pub fn as_slice(&self) -> &[Item]
-        ensures { result.now ≡ self.now }
-    {
-        self.items.as_slice()
-    }
-
-    /// Gives the vector back. Takes no memory.
-    pub fn into_vec(self) -> Vec<Item>
-        ensures { result.items ≡ self }
-    {
-        let Items { items } = self;
-        items
-    }
-}
-
-impl PartialEq for Items {
-    ghost use Rattle.std.specs.Cmp.Lexicographic.{lists_per};
-    ghost use Rattle.rd_base.specs.contracts.records.ItemPartialEq.TheImpl.Laws.{laws-law};
-
-    ghost eq = { pointwise ⟦<Item as PartialEq>⟧.eq };
-
-    ghost laws = { lists_per laws-law };
-
-    fn eq(&self, other: &Items) -> bool {
-        self.items.as_slice() == other.items.as_slice()
-    }
-}
-
-impl Eq for Items {
-    ghost use Rattle.std.specs.Cmp.Lexicographic.{lists_equiv};
-    ghost use Rattle.rd_base.specs.contracts.records.ItemEq.TheImpl.Laws.{laws-law};
-
-    ghost laws = { lists_equiv laws-law };
 }
 
 /// A registration as the directory has it.

@@ -2,7 +2,7 @@
 
 use attribute_index::AttributeIndex;
 use bench_rows::{Sample, Trouble};
-use rd_base::{Pair, Text};
+use rd_base::{Pair, PairRef, Text};
 use std::alloc::Global;
 
 /// How many calls a round makes.
@@ -15,6 +15,14 @@ fn type_of(alloc: Global, number: u64) -> Result<Pair, Trouble> {
         name: Text::copy_of(alloc, "rt")?,
         value: Text::copy_of(alloc, value.as_str())?,
     })
+}
+
+/// An attribute, borrowed.
+fn borrowed(pair: &Pair) -> PairRef<'_> {
+    PairRef {
+        name: pair.name.as_str(),
+        value: pair.value.as_str(),
+    }
 }
 
 /// The resource types that a round puts and takes: those of the index where many records carry
@@ -51,7 +59,7 @@ impl<const CARRIERS: u64> Sample for Carried<CARRIERS> {
         let mut index = AttributeIndex::empty(alloc)?;
         for number in 0..size {
             let pair = type_of(alloc, number.checked_div(CARRIERS).unwrap_or(0))?;
-            index = index.put(alloc, &pair, number)?;
+            index = index.put(alloc, &borrowed(&pair), number)?;
         }
         Ok(Carried {
             index,
@@ -64,8 +72,9 @@ impl<const CARRIERS: u64> Sample for Carried<CARRIERS> {
     fn round(&mut self) -> Result<u64, Trouble> {
         let mut number = 1_000_000;
         for pair in self.types.as_slice() {
-            let more = self.index.put(self.alloc, pair, number)?;
-            self.index = more.take(self.alloc, pair, number)?;
+            let attribute = borrowed(pair);
+            let more = self.index.put(self.alloc, &attribute, number)?;
+            self.index = more.take(self.alloc, &attribute, number)?;
             number = u64::wrapping_add(number, 1);
         }
         Ok(CALLS)

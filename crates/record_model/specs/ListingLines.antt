@@ -9,6 +9,8 @@ use Rattle.rd_base.specs.declared.queries.Query.{Query}
 use Rattle.rd_base.specs.declared.records.Item.{Item}
 use Rattle.rd_base.specs.declared.records.Record.{Record}
 use Rattle.link_model.specs.Characters.{comma, is_empty}
+pub use Rattle.rd_base.specs.LinkLines.{anchor_text, bracketed}
+unfoldable pub use Rattle.rd_base.specs.LinkLines.{link_line}
 use Rattle.link_model.specs.Quoting.{quoted}
 use Rattle.record_model.specs.Matching.{link_matches, endpoint_matches, endpoint_type, location, sector_pairs}
 
@@ -19,19 +21,6 @@ link_listed query r item = list_all (λ criterion. link_matches criterion item |
 -- each criterion matches the endpoint by itself or any one of its links by itself
 unfoldable pub endpoint_listed : Query → Record → Bool
 endpoint_listed query r = list_all (λ criterion. endpoint_matches criterion r || list_any (link_matches criterion) r.items) query.criteria
-
--- a target between its brackets
-abbrev pub bracketed : List ℕ → List ℕ
-bracketed target = codes "<" ++ (target ++ codes ">")
-
--- the anchor of a link, where it has one
-abbrev pub anchor_text : Option (List ℕ) → List ℕ
-anchor_text None = []
-anchor_text (Some anchor) = codes ";anchor=" ++ quoted anchor
-
--- the line of a link: its target, its attributes as they were submitted, and its anchor
-unfoldable pub link_line : Item → List ℕ
-link_line item = bracketed item.target ++ (item.raw ++ anchor_text item.anchor)
 
 -- an attribute with its value in quotes
 abbrev pub quoted_attribute : Pair → List ℕ

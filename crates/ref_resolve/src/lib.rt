@@ -10,4 +10,4 @@ mod resolution;
 
 pub use components::Parts;
 pub use references::{RefBad, host, is_uri, parts};
-pub use resolution::resolve;
+pub use resolution::{resolve, resolve_into};

@@ -203,8 +203,41 @@ fn room_for(parts: [Option<&str>; 4], path: usize) -> usize {
     room
 }
 
-/// The text of a reference, resolved against a base (RFC 3986 sections 5.2.2 and 5.3, strict). Dot segments are removed of
-/// a reference with a scheme too. A base has a scheme and an authority; where it has none, the answer has none from it.
+/// Writes the text of a reference, resolved against a base (RFC 3986 sections 5.2.2 and 5.3,
+/// strict), in place of another text. Dot segments are removed of a reference with a scheme too. A
+/// base has a scheme and an authority; where it has none, the answer has none from it.
+///
+/// # Errors
+///
+/// `Starved` where memory runs out, and for nothing else; what the text is then is not said.
+pub fn resolve_into(
+    alloc: Global,
+    base: &Parts<'_>,
+    reference: &Parts<'_>,
+    text: &mut String,
+) -> Result<(), Starved>
+    ensures value { OnOk result (string_bytes text.new
+        ≡ references.recomposed (resolution.resolution (components_of base.now)
+        (components_of reference.now))) }
+    ensures texts { OnOk result ((b r : List ℕ) → references.IsReference b (components_of base.now)
+        → references.IsReference r (components_of reference.now) → string_bytes text.new
+        ≡ resolution.resolved b r) }
+{
+    let scheme = target_scheme(base, reference);
+    let authority = target_authority(base, reference);
+    let query = target_query(base, reference);
+    let path = room_for_path(base.path, reference.path);
+    let room = room_for([scheme, authority, query, reference.fragment], path);
+    text.clear();
+    text.reserve(room)?;
+    append_front(text, scheme, authority)?;
+    append_path(alloc, text, base, reference)?;
+    append_query(text, query)?;
+    append_fragment(text, reference.fragment)?;
+    Ok(())
+}
+
+/// The text of a reference, resolved against a base, as [`resolve_into`] writes it.
 ///
 /// # Errors
 ///
@@ -213,15 +246,7 @@ pub fn resolve(alloc: Global, base: &Parts<'_>, reference: &Parts<'_>) -> Result
     ensures value { IfOk result (λ text. text ≡ references.recomposed (resolution.resolution (components_of base.now) (components_of reference.now))) }
     ensures texts { IfOk result (λ text. (b r : List ℕ) → references.IsReference b (components_of base.now) → references.IsReference r (components_of reference.now) → text ≡ resolution.resolved b r) }
 {
-    let scheme = target_scheme(base, reference);
-    let authority = target_authority(base, reference);
-    let query = target_query(base, reference);
-    let path = room_for_path(base.path, reference.path);
-    let room = room_for([scheme, authority, query, reference.fragment], path);
-    let mut text = String::with_capacity(alloc, room)?;
-    append_front(&mut text, scheme, authority)?;
-    append_path(alloc, &mut text, base, reference)?;
-    append_query(&mut text, query)?;
-    append_fragment(&mut text, reference.fragment)?;
+    let mut text = String::new(alloc);
+    resolve_into(alloc, base, reference, &mut text)?;
     Ok(Text::of(text))
 }

@@ -1,6 +1,8 @@
 -- What one parameter adds to what is gathered, and what all of them say.
 use Rattle.std.proofs.Common.{◌≡◌, ℕ, ◌+◌, ◌<◌, ◌^◌, Bool, true, false, List, [], ◌∷◌, ◌++◌, length, map, find, Option, Some, None, option_map, refl, sym, ap, ◌∙◌, append_assoc, append-nil, arith, length-append}
+use Rattle.rd_base.specs.Drafted.{Drafted, drafted}
 use Rattle.rd_base.specs.declared.attributes.Pair.{Pair}
+use Rattle.rd_base.specs.declared.records.Item.{Item}
 use Rattle.record_model.specs.BodyFaults.{TextAtOffset, shifted, quote_length, anchor_offset}
 use Rattle.link_model.specs.Documents.{Parameter, parameter_text, parameters_text}
 use Rattle.link_model.specs.Quoting.{value_of, is_anchor, pair_of}
@@ -20,21 +22,24 @@ end_moves : (start old new : ℕ) (all rest : List Parameter) (p : Parameter) �
     → new + length (parameters_text rest) ≡ start + length (parameters_text all)
 end_moves start old new all rest p moved known = let joined = length-append (parameter_text p) (parameters_text rest) in omega (arith, moved, known, joined)
 
-module _ (start : ℕ) (all rest : List Parameter) (p : Parameter) (old new : Gathered) (moved : new.end ≡ old.end + length (parameter_text p)) (known : IsGathered start all (p ∷ rest) old) where
+module _ (before : List Item) (start : ℕ) (all rest : List Parameter) (p : Parameter) (old new : Gathered) (moved : new.end ≡ old.end + length (parameter_text p)) (known : IsGathered before start all (p ∷ rest) old) where
   end_known : new.end + length (parameters_text rest) ≡ start + length (parameters_text all)
   end_known = end_moves start old.end new.end all rest p moved known.end
 
   -- an attribute goes to the others
-  pub takes_attribute : is_anchor p ≡ false → new.anchor ≡ old.anchor → new.raw ≡ old.raw ++ parameter_text p → new.pairs.items ≡ old.pairs.items ++ pair_of p ∷ [] → IsGathered start all rest new
-  takes_attribute attribute anchor raw pairs =
+  pub takes_attribute : is_anchor p ≡ false → new.anchor ≡ old.anchor → new.builder ≡ drafted old.builder.links (old.builder.raw ++ parameter_text p) (old.builder.pairs ++ pair_of p ∷ []) → IsGathered before start all rest new
+  takes_attribute attribute anchor is =
+      let raw : new.builder.raw ≡ old.builder.raw ++ parameter_text p = ap (λ (d : Drafted). d.raw) is in
+      let pairs : new.builder.pairs ≡ old.builder.pairs ++ pair_of p ∷ [] = ap (λ (d : Drafted). d.pairs) is in
       let kept : without_anchors (p ∷ rest) ≡ p ∷ without_anchors rest = rw attribute refl in
       let offset : anchor_offset (p ∷ rest) ≡ shifted (length (parameter_text p)) (anchor_offset rest) = rw attribute refl in
       record {
+        links = ap (λ (d : Drafted). d.links) is ∙ known.links;
         anchor = ap (λ a. anchor_from a new.end rest) anchor ∙ still old.anchor offset ∙ known.anchor;
-        raw = ap (λ (t : List ℕ). t ++ parameters_text (without_anchors rest)) raw ∙ append_assoc old.raw (parameter_text p) (parameters_text (without_anchors rest))
-            ∙ ap (λ ps. old.raw ++ parameters_text ps) (sym kept) ∙ known.raw;
-        pairs = ap (λ (ps : List Pair). ps ++ map pair_of (without_anchors rest)) pairs ∙ append_assoc old.pairs.items (pair_of p ∷ []) (map pair_of (without_anchors rest))
-            ∙ ap (λ ps. old.pairs.items ++ map pair_of ps) (sym kept) ∙ known.pairs;
+        raw = ap (λ (t : List ℕ). t ++ parameters_text (without_anchors rest)) raw ∙ append_assoc old.builder.raw (parameter_text p) (parameters_text (without_anchors rest))
+            ∙ ap (λ ps. old.builder.raw ++ parameters_text ps) (sym kept) ∙ known.raw;
+        pairs = ap (λ (ps : List Pair). ps ++ map pair_of (without_anchors rest)) pairs ∙ append_assoc old.builder.pairs (pair_of p ∷ []) (map pair_of (without_anchors rest))
+            ∙ ap (λ ps. old.builder.pairs ++ map pair_of ps) (sym kept) ∙ known.pairs;
         end = end_known;
       }
     where
@@ -43,23 +48,33 @@ module _ (start : ℕ) (all rest : List Parameter) (p : Parameter) (old new : Ga
       still None offset = sym (ap (shifted old.end) offset ∙ shifted_twice old.end (length (parameter_text p)) (anchor_offset rest) ∙ ap (λ n. shifted n (anchor_offset rest)) (sym moved))
 
   -- an anchor does not
-  module _ (named : is_anchor p ≡ true) (raw : new.raw ≡ old.raw) (pairs : new.pairs.items ≡ old.pairs.items) where
+  module _ (named : is_anchor p ≡ true) (is : new.builder ≡ old.builder) where
+    raw : new.builder.raw ≡ old.builder.raw
+    raw = ap (λ (d : Drafted). d.raw) is
+
+    pairs : new.builder.pairs ≡ old.builder.pairs
+    pairs = ap (λ (d : Drafted). d.pairs) is
+
+    links_known : new.builder.links ≡ before
+    links_known = ap (λ (d : Drafted). d.links) is ∙ known.links
+
     dropped : without_anchors (p ∷ rest) ≡ without_anchors rest
     dropped = rw named refl
 
-    raw_known : new.raw ++ parameters_text (without_anchors rest) ≡ parameters_text (without_anchors all)
-    raw_known = ap (λ (t : List ℕ). t ++ parameters_text (without_anchors rest)) raw ∙ ap (λ ps. old.raw ++ parameters_text ps) (sym dropped) ∙ known.raw
+    raw_known : new.builder.raw ++ parameters_text (without_anchors rest) ≡ parameters_text (without_anchors all)
+    raw_known = ap (λ (t : List ℕ). t ++ parameters_text (without_anchors rest)) raw ∙ ap (λ ps. old.builder.raw ++ parameters_text ps) (sym dropped) ∙ known.raw
 
-    pairs_known : new.pairs.items ++ map pair_of (without_anchors rest) ≡ map pair_of (without_anchors all)
-    pairs_known = ap (λ (ps : List Pair). ps ++ map pair_of (without_anchors rest)) pairs ∙ ap (λ ps. old.pairs.items ++ map pair_of ps) (sym dropped) ∙ known.pairs
+    pairs_known : new.builder.pairs ++ map pair_of (without_anchors rest) ≡ map pair_of (without_anchors all)
+    pairs_known = ap (λ (ps : List Pair). ps ++ map pair_of (without_anchors rest)) pairs ∙ ap (λ ps. old.builder.pairs ++ map pair_of ps) (sym dropped) ∙ known.pairs
 
     -- the first one is kept, with its offset
-    pub takes_anchor : (a : Anchor) → old.anchor ≡ None → new.anchor ≡ Some a → a.offset ≡ old.end + length p.name + 2 + quote_length p.value → a.text ≡ value_of p → IsGathered start all rest new
+    pub takes_anchor : (a : Anchor) → old.anchor ≡ None → new.anchor ≡ Some a → a.offset ≡ old.end + length p.name + 2 + quote_length p.value → a.text ≡ value_of p → IsGathered before start all rest new
     takes_anchor a none some offset text =
         let first : anchor_offset (p ∷ rest) ≡ (length p.name + 2 + quote_length p.value, value_of p) ∷ [] = rw named refl in
         let there : a.offset ≡ old.end + (length p.name + 2 + quote_length p.value) = omega (arith, offset) in
         record {
           anchor = ap (λ b. anchor_from b new.end rest) some ∙ same a.offset _ a.text _ there text ∙ sym (ap (λ b. anchor_from b old.end (p ∷ rest)) none ∙ ap (shifted old.end) first) ∙ known.anchor;
+          links = links_known;
           raw = raw_known;
           pairs = pairs_known;
           end = end_known;
@@ -72,9 +87,10 @@ module _ (start : ℕ) (all rest : List Parameter) (p : Parameter) (old new : Ga
         same n m t u e f = rw (e, f) refl
 
     -- and later ones do not count
-    pub drops_anchor : (a : Anchor) → old.anchor ≡ Some a → new.anchor ≡ Some a → IsGathered start all rest new
+    pub drops_anchor : (a : Anchor) → old.anchor ≡ Some a → new.anchor ≡ Some a → IsGathered before start all rest new
     drops_anchor a was is = record {
       anchor = ap (λ b. anchor_from b new.end rest) is ∙ sym (ap (λ b. anchor_from b old.end (p ∷ rest)) was) ∙ known.anchor;
+      links = links_known;
       raw = raw_known;
       pairs = pairs_known;
       end = end_known;
@@ -118,15 +134,15 @@ said_placed_anchor : (o : Option Anchor) (n : ℕ) → said (anchor_from o n [])
 said_placed_anchor None n = refl
 said_placed_anchor (Some a) n = refl
 
-module _ (start : ℕ) (all : List Parameter) (g : Gathered) (known : IsGathered start all [] g) where
+module _ (before : List Item) (start : ℕ) (all : List Parameter) (g : Gathered) (known : IsGathered before start all [] g) where
   pub all_anchor : anchor_said g.anchor ≡ option_map value_of (find is_anchor all)
   all_anchor = listed_same _ _ (sym (said_placed_anchor g.anchor g.end) ∙ ap said known.anchor ∙ said_placed start (anchor_offset all) ∙ said_anchor all)
 
-  pub all_raw : g.raw ≡ parameters_text (without_anchors all)
-  all_raw = sym (append-nil g.raw) ∙ known.raw
+  pub all_raw : g.builder.raw ≡ parameters_text (without_anchors all)
+  all_raw = sym (append-nil g.builder.raw) ∙ known.raw
 
-  pub all_pairs : g.pairs.items ≡ map pair_of (without_anchors all)
-  all_pairs = sym (append-nil g.pairs.items) ∙ known.pairs
+  pub all_pairs : g.builder.pairs ≡ map pair_of (without_anchors all)
+  all_pairs = sym (append-nil g.builder.pairs) ∙ known.pairs
 
   pub all_end : g.end ≡ start + length (parameters_text all)
   all_end = let e = known.end in omega (arith, e)

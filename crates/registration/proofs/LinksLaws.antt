@@ -31,13 +31,13 @@ use Rattle.registration.proofs.FaultLaws.{fault_here, fault_of_all, fault_of_non
 -- ---- one link
 
 -- the fault of a link that is left is that of all
-pub links_refused : (base : Parts) (start index : ℕ) (unlimited : Option ℕ) (all left rest : List Link) (l : Link) (e : DraftFault) → left ≡ l ∷ rest
-    → fault_from start index unlimited left ≡ fault_from 0 0 None all → LinkReads base start l (Err e) → IsLinksFault all e
-links_refused base start index unlimited all left rest l (fault.Links offset) first same h = absurd h
-links_refused base start index unlimited all left rest l (fault.Reference offset) first same h =
+pub links_refused : (base : Parts) (start index : ℕ) (unlimited : Option ℕ) (all left rest : List Link) (l : Link) (before : List Item) (e : DraftFault) → left ≡ l ∷ rest
+    → fault_from start index unlimited left ≡ fault_from 0 0 None all → LinkReads base start l before (Err e) → IsLinksFault all e
+links_refused base start index unlimited all left rest l before (fault.Links offset) first same h = absurd h
+links_refused base start index unlimited all left rest l before (fault.Reference offset) first same h =
     sym (fault_of_all all) ∙ sym same ∙ ap (fault_from start index unlimited) first ∙ fault_here start index offset unlimited l rest h
-links_refused base start index unlimited all left rest l (fault.Limited link) first same h = absurd h
-links_refused base start index unlimited all left rest l fault.Starved first same h = tt
+links_refused base start index unlimited all left rest l before (fault.Limited link) first same h = absurd h
+links_refused base start index unlimited all left rest l before fault.Starved first same h = tt
 
 -- an item more
 pub one_more : (xs ys : List Item) (x : Item) (rest all : List Item) → ys ≡ xs ++ x ∷ [] → xs ++ (x ∷ rest) ≡ all → ys ++ rest ≡ all

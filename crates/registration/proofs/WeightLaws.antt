@@ -1,10 +1,14 @@
 -- The octets of lines, part by part.
-use Rattle.std.proofs.Common.{◌≡◌, ℕ, ◌+◌, List, ◌∷◌, ◌++◌, [], length, flat_map, sum_by, decimal, codes, refl, ap, ◌∙◌, arith, length-append}
+use Rattle.std.proofs.Common.{◌≡◌, ℕ, ◌+◌, Bool, true, false, List, ◌∷◌, map, sym, ◌++◌, [], length, flat_map, sum_by, decimal, codes, refl, ap, ◌∙◌, arith, length-append}
 use Rattle.std.proofs.lemmas.Grind.{flat_map-append}
 use Rattle.rd_base.specs.declared.attributes.Pair.{Pair}
 use Rattle.rd_base.specs.declared.moments.Moment.{Moment}
 use Rattle.rd_base.specs.declared.records.Item.{Item}
 use Rattle.link_model.specs.Characters.{quote_mark}
+use Rattle.rd_base.specs.LinkLines.{comma, listed}
+use Rattle.std.specs.Prelude.{IsTrue, ◌↔◌}
+use Rattle.std.specs.List.{join_with_byte}
+use Rattle.std.proofs.lemmas.List.Sums.{sum_by-cons}
 use Rattle.record_model.specs.ListingLines.{link_line, endpoint_line, weight, quoted_attribute, extra_attribute, anchor_text}
 use Rattle.record_model.specs.Matching.{location, sector_pairs}
 use Rattle.link_model.specs.Quoting.{quoted, escaped_character}
@@ -16,13 +20,22 @@ pub quoted_size : (text : List ℕ) → length (quoted text) ≡ 2 + length (fla
 unfolding quoted
 quoted_size text = let joined = length-append (flat_map escaped_character text) (quote_mark ∷ []) in omega (arith, joined)
 
-pub link_size : (item : Item) → length (link_line item) ≡ 2 + length item.target + length item.raw + length (anchor_text item.anchor)
-unfolding link_line
-link_size item =
-    let closed = length-append item.target (codes ">") in
-    let behind = length-append item.raw (anchor_text item.anchor) in
-    let whole = length-append (codes "<" ++ (item.target ++ codes ">")) (item.raw ++ anchor_text item.anchor) in
-    omega (arith, closed, behind, whole)
+-- links: their lines with commas between them, and one octet more
+pub listed_size : (item : Item) (items : List Item) → length (listed (item ∷ items)) + 1 ≡ sum_by (λ item. length (link_line item) + 1) (item ∷ items)
+unfolding listed
+listed_size item [] = let all = sum_by-cons (λ (i : Item). length (link_line i) + 1) item [] in omega (arith, all)
+listed_size item (next ∷ items) =
+    let all = sum_by-cons (λ (i : Item). length (link_line i) + 1) item (next ∷ items) in
+    let joined = length-append (link_line item) (comma ∷ join_with_byte comma (map link_line (next ∷ items))) in
+    let rest = listed_size next items in
+    omega (arith, all, joined, rest)
+
+pub links_size : (items : List Item) (b : Bool) → (IsTrue b ↔ (items ≡ [])) → b ≡ false → length (listed items) + 1 ≡ sum_by (λ item. length (link_line item) + 1) items
+links_size [] b h e = absurd (wrong (sym e ∙ h.1 refl))
+  where
+    wrong : false ≡ true → ⊥
+    wrong same = cc
+links_size (item ∷ items) b h e = listed_size item items
 
 -- the line of an endpoint, part by part
 pub endpoint_size : (number : ℕ) (now : Moment) (draft : Draft) → length (endpoint_line (recorded number now draft))

@@ -1,6 +1,8 @@
 -- Links read one after another: the first fault of those that are left, and what is read.
-use Rattle.std.specs.Prelude.{◌≡◌, ⊤, ℕ, ◌+◌, Bool, true, false, not, ◌||◌, List, length, map, find, sum_by, Option, Some, None, option_map, Result, Ok, Err, if◌then◌else◌}
+use Rattle.std.specs.Prelude.{◌≡◌, ⊤, ℕ, ◌+◌, Bool, true, false, not, ◌||◌, List, [], ◌∷◌, ◌++◌, length, map, find, sum_by, Option, Some, None, option_map, Result, Ok, Err, if◌then◌else◌}
 use Rattle.std.specs.List.{list_all}
+use Rattle.std.specs.String.{string_bytes}
+use Rattle.rd_base.specs.Drafted.{Drafted, drafted}
 use Rattle.rd_base.specs.declared.records.Item.{Item}
 use Rattle.ref_resolve.specs.declared.components.Parts.{Parts}
 use Rattle.ref_resolve.specs.ComponentsOfParts.{components_of}
@@ -28,28 +30,41 @@ room_of links = sum_by (λ l. length (link_text l) + 1) links
 abbrev pub first_bad : List TextAtOffset → Option ℕ
 first_bad references = option_map (λ r. r.0) (find (λ r. not (is_reference r.1)) references)
 
--- what an anchor is against a base; a fault has its offset
-abbrev pub AnchorReads : Parts → Option Anchor → Result (Option Referred) DraftFault → Type 0
-AnchorReads base None (Ok None) = ⊤
-AnchorReads base (Some anchor) (Ok (Some r)) = IsReferred base anchor.text r
-AnchorReads base (Some anchor) (Err (fault.Reference offset)) = (offset ≡ anchor.offset) × (is_reference anchor.text ≡ false)
-AnchorReads base anchor (Err fault.Starved) = ⊤
-AnchorReads base anchor _ = ⊥
+-- what is written of an anchor against a base, and whether it has a scheme; a fault has its offset
+abbrev pub AnchorReads : Parts → Option Anchor → List ℕ → Result (Option Bool) DraftFault → Type 0
+AnchorReads base None referred (Ok None) = ⊤
+AnchorReads base (Some anchor) referred (Ok (Some has_scheme)) = IsReferred base anchor.text referred has_scheme
+AnchorReads base (Some anchor) referred (Err (fault.Reference offset)) = (offset ≡ anchor.offset) × (is_reference anchor.text ≡ false)
+AnchorReads base anchor referred (Err fault.Starved) = ⊤
+AnchorReads base anchor referred _ = ⊥
 
--- a link that begins at an octet is read, and has no fault of its references
-pub record IsRead (base : Parts) (start : ℕ) (l : Link) (read : Read) : Type 0 where
+-- a link by its target as it was submitted, its anchor, and both against a base, with the attributes that wait for it
+abbrev pub added : List ℕ → Option Anchor → Option Bool → Referred → Drafted → Item
+added target_ref submitted has_scheme referred waiting = record {
+  target_ref = target_ref;
+  anchor_ref = option_map (λ a. a.text) submitted;
+  target = string_bytes referred.target;
+  anchor = option_map (λ _. string_bytes referred.anchor) has_scheme;
+  raw = waiting.raw;
+  pairs = waiting.pairs;
+}
+
+-- a link that begins at an octet is read behind other links, and has no fault of its references
+pub record IsRead (base : Parts) (start : ℕ) (l : Link) (before : List Item) (read : Read) : Type 0 where
   pub good : first_bad (link_references l) ≡ None
-  pub item : (spelled : List ℕ) → IsReference spelled (components_of base) → read.item ≡ item_of spelled (submitted_link l)
-  pub references : has_references read.item ≡ true
+  pub more : Item
+  pub builder : read.builder ≡ drafted (before ++ more ∷ []) [] []
+  pub item : (spelled : List ℕ) → IsReference spelled (components_of base) → more ≡ item_of spelled (submitted_link l)
+  pub references : has_references more ≡ true
   pub limited : read.is_limited ≡ is_limited (submitted_link l)
   pub end : read.end ≡ start + length (link_text l)
 
 -- what is read of a link; a fault has the offset of the first reference that is none
-abbrev pub LinkReads : Parts → ℕ → Link → Result Read DraftFault → Type 0
-LinkReads base start l (Ok read) = IsRead base start l read
-LinkReads base start l (Err (fault.Reference offset)) = option_map (λ at. start + at) (first_bad (link_references l)) ≡ Some offset
-LinkReads base start l (Err fault.Starved) = ⊤
-LinkReads base start l (Err _) = ⊥
+abbrev pub LinkReads : Parts → ℕ → Link → List Item → Result Read DraftFault → Type 0
+LinkReads base start l before (Ok read) = IsRead base start l before read
+LinkReads base start l before (Err (fault.Reference offset)) = option_map (λ at. start + at) (first_bad (link_references l)) ≡ Some offset
+LinkReads base start l before (Err fault.Starved) = ⊤
+LinkReads base start l before (Err _) = ⊥
 
 -- the fault of links of which some are left: of the references left, which begin at an octet, and else the first unlimited link
 abbrev pub fault_with : ℕ → ℕ → Option ℕ → Option ℕ → Option ℕ → Option BodyFault
@@ -64,9 +79,9 @@ abbrev pub noted : ℕ → Bool → Option ℕ → Option ℕ
 noted index limited unlimited = or_else unlimited (if limited then None else Some index)
 
 -- a link is limited: its target has a scheme, or its anchor has none
-abbrev pub is_limited_as_referred : Bool → Option Referred → Bool
-is_limited_as_referred has_scheme None = true
-is_limited_as_referred has_scheme (Some r) = has_scheme || not r.has_scheme
+abbrev pub is_limited_as_referred : Bool → Option Bool → Bool
+is_limited_as_referred target None = true
+is_limited_as_referred target (Some anchor) = target || not anchor
 
 -- a fault of links
 abbrev pub IsLinksFault : List Link → DraftFault → Type 0

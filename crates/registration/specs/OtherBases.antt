@@ -1,5 +1,6 @@
 -- Links against another base, whatever text spells it.
-use Rattle.std.specs.Prelude.{◌≡◌, ⊤, ℕ, List, Option, Some, None}
+use Rattle.std.specs.Prelude.{◌≡◌, ⊤, ℕ, List, [], ◌∷◌, ◌++◌, Option, Some, None}
+use Rattle.rd_base.specs.Drafted.{Drafted, drafted}
 use Rattle.rd_base.specs.declared.records.Item.{Item}
 use Rattle.ref_resolve.specs.declared.components.Parts.{Parts}
 use Rattle.ref_resolve.specs.ComponentsOfParts.{components_of}
@@ -11,11 +12,16 @@ abbrev pub IsBased : Parts → List ℕ → List ℕ → Type 0
 IsBased base text new = (spelled : List ℕ) → IsReference spelled (components_of base) → new ≡ based spelled text
 
 -- the text, where there is one
-abbrev pub AreBased : Parts → Option (List ℕ) → Option (List ℕ) → Type 0
-AreBased base None None = ⊤
-AreBased base (Some text) (Some new) = IsBased base text new
-AreBased base text new = ⊥
+abbrev pub AreBased : Parts → Option (List ℕ) → List ℕ → Type 0
+AreBased base None new = ⊤
+AreBased base (Some text) new = IsBased base text new
 
 -- the link against each base that spells these parts
 abbrev pub IsRebased : Parts → Item → Item → Type 0
 IsRebased base item new = (spelled : List ℕ) → IsReference spelled (components_of base) → new ≡ rebased spelled item
+
+-- the link against each such base stands behind other links
+pub record AddsRebased (base : Parts) (item : Item) (before : List Item) (new : Drafted) : Type 0 where
+  pub added : Item
+  pub builder : new ≡ drafted (before ++ added ∷ []) [] []
+  pub rebased : IsRebased base item added

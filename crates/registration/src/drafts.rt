@@ -15,7 +15,7 @@ ghost use Rattle.registration.specs.Links.{BodyReads};
 
 use crate::links::read_links;
 use link_format::{LinkBad, check};
-use rd_base::{Items, Name, Pairs, Peer, RegParams, Starved, Text, base_of};
+use rd_base::{Items, LinksBuilder, Name, Pairs, Peer, RegParams, Starved, Text, base_of};
 use ref_resolve::parts;
 use std::alloc::{AllocFailed, Global};
 
@@ -94,11 +94,15 @@ fn items_of(alloc: Global, base: &str, body: &[u8]) -> Result<Items, DraftFault>
     requires { is_base base.now ≡ true }
     ensures { BodyReads base.now body.now result }
 {
+    let listed = usize::saturating_add(base.len(), body.len());
     let Ok(base) = parts(base) else {
         unreachable!();
     };
     match check(body) {
-        Ok(links) => read_links(alloc, &base, links),
+        Ok(links) => {
+            let builder = LinksBuilder::with_room(alloc, body.len(), listed)?;
+            read_links(alloc, &base, links, builder)
+        }
         Err(LinkBad { at }) => Err(DraftFault::Links(at)),
     }
 }

@@ -1,14 +1,17 @@
 //! What the parameters of a link say: its anchor, and its attributes (RFC 6690 sections 2 and 3).
-ghost use Rattle.std.specs.Prelude.{◌≡◌, ◌<◌, ◌+◌, ◌^◌, ◌∷◌, ℕ, List, [], length, option_map, IfOk, OnOk};
+ghost use Rattle.std.specs.Prelude.{◌≡◌, ◌<◌, ◌+◌, ◌^◌, ◌∷◌, ◌++◌, ℕ, List, [], length, option_map};
+ghost use Rattle.std.specs.Prelude.{IfOk};
+ghost use Rattle.rd_base.specs.Drafted.{drafted};
+ghost use Rattle.rd_base.specs.declared.records.Item.{Item};
 ghost use Rattle.record_model.specs.BodyFaults as faults;
 ghost use Rattle.link_model.specs.Documents.{Parameter, parameter_text, parameters_text};
 ghost use Rattle.link_model.specs.Quoting as quoting;
 ghost use Rattle.link_format.specs.LinksOfText.{parameters_in};
 ghost use Rattle.link_format.specs.Views.{parameter_seen};
-ghost use Rattle.registration.specs.LinkParameters.{IsGathered};
+ghost use Rattle.registration.specs.LinkParameters.{IsGathered, WaitsForNone};
 
-use link_format::{LinkRef, Param, params, value_of};
-use rd_base::{Pair, Starved, Text};
+use link_format::{LinkRef, Param, params, read_value, value_of};
+use rd_base::{LinksBuilder, Starved, Text};
 use std::alloc::Global;
 
 /// An anchor as it was submitted.
@@ -23,23 +26,29 @@ pub struct Anchor {
 /// What parameters say.
 #[derive(Debug, Drop)]
 pub struct Gathered {
+    /// The links before, and what the other parameters say, as attributes of the next.
+    pub builder: LinksBuilder,
     /// The first anchor, where there is one.
     pub anchor: Option<Anchor>,
-    /// The other parameters as they were written, each from its semicolon on.
-    pub raw: Text,
-    /// The other parameters with their values.
-    pub pairs: Vec<Pair>,
     /// Where the parameters end in the body, in octets.
     pub end: usize,
 }
 
-/// A parameter's name with its value.
-fn pair_of(alloc: Global, param: &Param<'_>) -> Result<Pair, Starved>
-    ensures { IfOk result (λ pair. pair ≡ quoting.pair_of (parameter_seen param.now)) }
+/// Links, where the next has what a parameter says as one attribute more.
+fn with_attribute(
+    alloc: Global,
+    builder: LinksBuilder,
+    param: &Param<'_>,
+) -> Result<LinksBuilder, Starved>
+    ensures { IfOk result (λ new. new ≡ drafted builder.links (builder.raw
+        ++ parameter_text (parameter_seen param.now)) (builder.pairs
+        ++ quoting.pair_of (parameter_seen param.now) ∷ [])) }
 {
-    let name = Text::copy_of(alloc, param.name)?;
-    let value = value_of(alloc, param)?;
-    Ok(Pair { name, value })
+    let raw = whole(param);
+    match read_value(alloc, param) {
+        Ok(value) => builder.with_pair(raw, param.name, value.as_str()),
+        Err(starved) => Err(starved),
+    }
 }
 
 /// How many octets a value has before what it says: a quote or none.
@@ -75,49 +84,72 @@ fn whole<'a>(param: &Param<'a>) -> &'a str
 
 impl Gathered {
     /// Nothing, where the parameters begin at this octet. Takes no memory.
-    fn nothing(alloc: Global, start: usize) -> Gathered
-        ensures { (all : List Parameter) → IsGathered start all all result }
+    fn nothing(builder: LinksBuilder, start: usize) -> Gathered
+        requires { WaitsForNone builder }
+        ensures { (all : List Parameter) → IsGathered builder.links start all all result }
     {
         Gathered {
+            builder,
             anchor: None,
-            raw: Text::new(),
-            pairs: Vec::new(alloc),
             end: start,
         }
     }
 
-    /// Keeps what the next parameter says.
-    fn keep(&mut self, alloc: Global, param: &Param<'_>) -> Result<(), Starved>
-        requires { self.old.end + length (parameter_text (parameter_seen param.now)) < 2 ^ 63 }
-        ensures { OnOk result ((start : ℕ) (all rest : List Parameter) → IsGathered start all (parameter_seen param.now ∷ rest) self.old → IsGathered start all rest self.new) }
+    /// With what the next parameter says.
+    fn with(self, alloc: Global, param: &Param<'_>) -> Result<Gathered, Starved>
+        requires { self.end + length (parameter_text (parameter_seen param.now)) < 2 ^ 63 }
+        ensures { IfOk result (λ new. (before : List Item) (start : ℕ) (all rest : List Parameter)
+            → IsGathered before start all (parameter_seen param.now ∷ rest) self
+            → IsGathered before start all rest new) }
     {
-        let start = self.end;
-        let raw = whole(param);
-        self.end += raw.len();
+        let Gathered {
+            builder,
+            anchor,
+            end: start,
+        } = self;
+        let end = start + whole(param).len();
         if !is_anchor(param) {
-            self.raw.append(alloc, raw)?;
-            self.pairs.push(pair_of(alloc, param)?)?;
-            return Ok(());
+            let builder = with_attribute(alloc, builder, param)?;
+            return Ok(Gathered {
+                builder,
+                anchor,
+                end,
+            });
         }
-        if self.anchor.is_some() {
-            return Ok(());
+        if anchor.is_some() {
+            return Ok(Gathered {
+                builder,
+                anchor,
+                end,
+            });
         }
         let offset = start + param.name.len() + 2 + quote_length(param.value);
         let text = value_of(alloc, param)?;
-        self.anchor = Some(Anchor { offset, text });
-        Ok(())
+        Ok(Gathered {
+            builder,
+            anchor: Some(Anchor { offset, text }),
+            end,
+        })
     }
 }
 
-/// What the parameters of a link say, which begin at this octet of the body.
-pub fn gather(alloc: Global, link: &LinkRef<'_>, start: usize) -> Result<Gathered, Starved>
-    requires { start + length (parameters_text (parameters_in link.now.params.now)) < 2 ^ 63 }
-    ensures { IfOk result (λ gathered. IsGathered start (parameters_in link.now.params.now) [] gathered) }
+/// What the parameters of a link say, which begin at this octet of the body: its attributes are
+/// those of the next link.
+pub fn gather(
+    alloc: Global,
+    link: &LinkRef<'_>,
+    start: usize,
+    builder: LinksBuilder,
+) -> Result<Gathered, Starved>
+    requires fits { start + length (parameters_text (parameters_in link.now.params.now)) < 2 ^ 63 }
+    requires waits { WaitsForNone builder }
+    ensures { IfOk result (λ gathered. IsGathered builder.links start
+        (parameters_in link.now.params.now) [] gathered) }
 {
-    let mut gathered = Gathered::nothing(alloc, start);
+    let mut gathered = Gathered::nothing(builder, start);
     let mut left = params(link);
     'parameters: while let Some(param) = left.next() {
-        gathered.keep(alloc, &param)?;
+        gathered = gathered.with(alloc, &param)?;
     }
     Ok(gathered)
 }

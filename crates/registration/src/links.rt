@@ -1,102 +1,133 @@
 //! Links of a document, one after another, against the base of a registration.
-ghost use Rattle.std.specs.Prelude.{◌≡◌, ◌<◌, ◌+◌, ◌≤◌, ◌^◌, length, option_map};
+ghost use Rattle.std.specs.Prelude.{◌≡◌, ◌<◌, ◌+◌, ◌≤◌, ◌^◌, ◌∷◌, ◌++◌, [], length, option_map};
+ghost use Rattle.std.specs.Prelude.{IfOk};
+ghost use Rattle.std.specs.String.{string_bytes};
+ghost use Rattle.rd_base.specs.Drafted.{drafted};
+ghost use Rattle.rd_base.specs.PairRefs.{text_seen};
 ghost use Rattle.link_model.specs.Documents.{link_text};
 ghost use Rattle.link_format.specs.Views.{link_seen};
-ghost use Rattle.registration.specs.Links.{AnchorReads, LinkReads, Reads, is_limited_as_referred, noted, room_of};
+ghost use Rattle.registration.specs.LinkParameters.{WaitsForNone};
+ghost use Rattle.registration.specs.Links.{AnchorReads, LinkReads, Reads, added};
+ghost use Rattle.registration.specs.Links.{is_limited_as_referred, noted, room_of};
 
 use crate::drafts::DraftFault;
 use crate::link_parameters::{Anchor, Gathered, gather};
 use crate::references::{Referred, refer};
 use link_format::{LinkRef, Links};
-use rd_base::{Item, Items, Pairs, Starved, Text};
+use rd_base::{Items, LinkParts, LinksBuilder, Starved};
 use ref_resolve::Parts;
 use std::alloc::Global;
 
-/// A link that was read.
+/// Links that were read.
 #[derive(Debug, Drop)]
 struct Read {
-    /// The link against the base.
-    item: Item,
-    /// Whether it is in the Limited Link Format (RFC 9176 appendix C).
+    /// The links against the base.
+    builder: LinksBuilder,
+    /// Whether the last is in the Limited Link Format (RFC 9176 appendix C).
     is_limited: bool,
     /// Where it ends in the body, in octets.
     end: usize,
 }
 
-/// An anchor against the base, where there is one.
+/// Writes an anchor against the base, where there is one, and says whether it has a scheme.
 fn refer_anchor(
     alloc: Global,
     base: &Parts<'_>,
     anchor: &Option<Anchor>,
-) -> Result<Option<Referred>, DraftFault>
-    ensures { AnchorReads base.now anchor.now result }
+    referred: &mut String,
+) -> Result<Option<bool>, DraftFault>
+    ensures { AnchorReads base.now anchor.now (string_bytes referred.new) result }
 {
     let Some(anchor) = anchor else {
         return Ok(None);
     };
-    match refer(alloc, base, anchor.text.as_str())? {
+    match refer(alloc, base, anchor.text.as_str(), referred)? {
         None => Err(DraftFault::Reference(anchor.offset)),
-        Some(referred) => Ok(Some(referred)),
+        Some(has_scheme) => Ok(Some(has_scheme)),
     }
 }
 
 /// Whether a link is in the Limited Link Format: a target without a scheme has no anchor with one (RFC 9176 appendix C).
-fn is_limited(target: &Referred, anchor: &Option<Referred>) -> bool
-    ensures { result ≡ is_limited_as_referred target.now.has_scheme anchor.now }
+fn is_limited(target: bool, anchor: Option<bool>) -> bool
+    ensures { result ≡ is_limited_as_referred target anchor }
 {
     match anchor {
         None => true,
-        Some(anchor) => target.has_scheme || !anchor.has_scheme,
+        Some(anchor) => target || !anchor,
     }
 }
 
-/// The text of a reference, where there is one.
-fn text_of(referred: Option<Referred>) -> Option<Text>
-    ensures { result ≡ option_map (λ r. r.text) referred }
+/// The text of an anchor as it was submitted, where there is one.
+fn submitted_text(anchor: &Option<Anchor>) -> Option<&str>
+    ensures { text_seen result ≡ option_map (λ a. a.text) anchor.now }
 {
-    referred.map(|referred| referred.text)
+    match anchor {
+        None => None,
+        Some(anchor) => Some(anchor.text.as_str()),
+    }
 }
 
-/// The text of an anchor, where there is one.
-fn anchor_text(anchor: Option<Anchor>) -> Option<Text>
-    ensures { result ≡ option_map (λ a. a.text) anchor }
+/// The text of an anchor against the base, where there is one.
+fn referred_text(anchor: Option<bool>, referred: &str) -> Option<&str>
+    ensures { text_seen result ≡ option_map (λ _. referred.now) anchor }
 {
-    anchor.map(|anchor| anchor.text)
+    match anchor {
+        None => None,
+        Some(_) => Some(referred),
+    }
 }
 
-/// A link that begins at this octet of the body, against a base.
+/// Links and one more, with the attributes that wait for it: its target as it was submitted, its
+/// anchor and whether that has a scheme, and both against the base.
+fn with_referred(
+    builder: LinksBuilder,
+    target_ref: &str,
+    submitted: &Option<Anchor>,
+    has_scheme: Option<bool>,
+    referred: &Referred,
+) -> Result<LinksBuilder, Starved>
+    ensures { IfOk result (λ new. new ≡ drafted (builder.links
+        ++ added target_ref.now submitted.now has_scheme referred.now builder ∷ []) [] []) }
+{
+    let anchor_ref = submitted_text(submitted);
+    let target = referred.target.as_str();
+    let anchor = referred_text(has_scheme, referred.anchor.as_str());
+    let parts = LinkParts {
+        target_ref,
+        anchor_ref,
+        target,
+        anchor,
+    };
+    builder.with_link(&parts)
+}
+
+/// Links and one more, against a base: that which begins at this octet of the body.
 fn read_link(
     alloc: Global,
     base: &Parts<'_>,
     link: &LinkRef<'_>,
     start: usize,
+    builder: LinksBuilder,
+    referred: &mut Referred,
 ) -> Result<Read, DraftFault>
-    requires { start + length (link_text (link_seen link.now)) < 2 ^ 63 }
-    ensures { LinkReads base.now start (link_seen link.now) result }
+    requires fits { start + length (link_text (link_seen link.now)) < 2 ^ 63 }
+    requires waits { WaitsForNone builder }
+    ensures { LinkReads base.now start (link_seen link.now) builder.links result }
 {
-    let Some(target) = refer(alloc, base, link.target)? else {
+    let Some(has_scheme) = refer(alloc, base, link.target, &mut referred.target)? else {
         return Err(DraftFault::Reference(start + 1));
     };
-    let gathered = gather(alloc, link, start + link.target.len() + 2)?;
-    let anchor = refer_anchor(alloc, base, &gathered.anchor)?;
-    let target_ref = Text::copy_of(alloc, link.target)?;
-    let is_limited = is_limited(&target, &anchor);
+    let gathered = gather(alloc, link, start + link.target.len() + 2, builder)?;
+    let anchor = refer_anchor(alloc, base, &gathered.anchor, &mut referred.anchor)?;
+    let is_limited = is_limited(has_scheme, anchor);
     let Gathered {
+        builder,
         anchor: submitted,
-        raw,
-        pairs,
         end,
     } = gathered;
-    let item = Item {
-        target_ref,
-        anchor_ref: anchor_text(submitted),
-        target: target.text,
-        anchor: text_of(anchor),
-        raw,
-        pairs: Pairs::of(pairs),
-    };
+    let builder = with_referred(builder, link.target, &submitted, anchor, referred)?;
     Ok(Read {
-        item,
+        builder,
         is_limited,
         end,
     })
@@ -113,24 +144,32 @@ fn noted(unlimited: Option<usize>, is_limited: bool, index: usize) -> Option<usi
 }
 
 /// The links of a document against a base, or the first fault of their references, and else that of the Limited Link Format.
-pub fn read_links(alloc: Global, base: &Parts<'_>, links: Links<'_>) -> Result<Items, DraftFault>
-    requires { room_of links ≤ 2 ^ 63 }
+/// The builder has no link yet.
+pub fn read_links(
+    alloc: Global,
+    base: &Parts<'_>,
+    links: Links<'_>,
+    builder: LinksBuilder,
+) -> Result<Items, DraftFault>
+    requires room { room_of links ≤ 2 ^ 63 }
+    requires empty { builder ≡ drafted [] [] [] }
     ensures { Reads base.now links.entry result }
 {
-    let mut items = Vec::new(alloc);
+    let mut builder = builder;
+    let mut referred = Referred::new(alloc);
     let mut left = links;
     let mut start = 0;
     let mut index = 0;
     let mut unlimited = None;
     'links: while let Some(link) = left.next() {
-        let read = read_link(alloc, base, &link, start)?;
+        let read = read_link(alloc, base, &link, start, builder, &mut referred)?;
         unlimited = noted(unlimited, read.is_limited, index);
-        items.push(read.item)?;
         start = read.end + 1;
         index += 1;
+        builder = read.builder;
     }
     match unlimited {
         Some(index) => Err(DraftFault::Limited(index)),
-        None => Ok(Items::of(items)),
+        None => Ok(builder.build(alloc)?),
     }
 }

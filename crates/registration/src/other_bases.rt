@@ -1,86 +1,89 @@
 //! Links against another base (RFC 9176 section 5.3.1).
-ghost use Rattle.std.specs.Prelude.{◌≡◌, true, map, IfOk};
+ghost use Rattle.std.specs.Prelude.{◌≡◌, true, map, option_map, IfOk, OnOk};
 ghost use Rattle.std.specs.List.{list_all};
+ghost use Rattle.std.specs.String.{string_bytes};
+ghost use Rattle.rd_base.specs.PairRefs.{text_seen};
 ghost use Rattle.record_model.specs.Bodies.{is_reference};
 ghost use Rattle.record_model.specs.Parameters.{is_base};
 ghost use Rattle.reference_model.specs.References.{where_present};
 ghost use Rattle.record_model.specs.Records as records;
 ghost use Rattle.registration.specs.Drafts.{has_references};
-ghost use Rattle.registration.specs.OtherBases.{AreBased, IsBased, IsRebased};
+ghost use Rattle.registration.specs.LinkParameters.{WaitsForNone};
+ghost use Rattle.registration.specs.OtherBases.{AddsRebased, AreBased, IsBased};
 
-use crate::references::refer;
-use rd_base::{Item, Items, Pair, Pairs, Starved, Text};
+use crate::references::{Referred, refer};
+use rd_base::{Items, Link, LinkParts, LinksBuilder, Starved, Text};
 use ref_resolve::{Parts, parts};
 use std::alloc::Global;
 
-/// A copy of a text, where there is one.
-fn copy_of(alloc: Global, text: &Option<Text>) -> Result<Option<Text>, Starved>
-    ensures { IfOk result (λ copy. copy ≡ text.now) }
-{
-    match text {
-        None => Ok(None),
-        Some(text) => Ok(Some(Text::copy_of(alloc, text.as_str())?)),
-    }
-}
-
-/// A copy of attributes.
-fn copy_of_pairs(alloc: Global, pairs: &Pairs) -> Result<Pairs, Starved>
-    ensures { IfOk result (λ copy. copy ≡ pairs.now) }
-{
-    let mut copies = Vec::new(alloc);
-    'pairs: for pair in pairs.as_slice() {
-        let name = Text::copy_of(alloc, pair.name.as_str())?;
-        let value = Text::copy_of(alloc, pair.value.as_str())?;
-        copies.push(Pair { name, value })?;
-    }
-    Ok(Pairs::of(copies))
-}
-
-/// A reference against a base.
-fn refer_again(alloc: Global, base: &Parts<'_>, text: &Text) -> Result<Text, Starved>
+/// Writes a reference against a base.
+fn refer_again(
+    alloc: Global,
+    base: &Parts<'_>,
+    text: &str,
+    referred: &mut String,
+) -> Result<(), Starved>
     requires { is_reference text.now ≡ true }
-    ensures { IfOk result (λ referred. IsBased base.now text.now referred) }
+    ensures { OnOk result (IsBased base.now text.now (string_bytes referred.new)) }
 {
-    match refer(alloc, base, text.as_str())? {
-        Some(referred) => Ok(referred.text),
+    match refer(alloc, base, text, referred)? {
+        Some(_) => Ok(()),
         None => unreachable!(),
     }
 }
 
-/// A reference against a base, where there is one.
+/// Writes a reference against a base, where there is one.
 fn refer_where_present(
     alloc: Global,
     base: &Parts<'_>,
-    text: &Option<Text>,
-) -> Result<Option<Text>, Starved>
-    requires { where_present is_reference text.now ≡ true }
-    ensures { IfOk result (λ referred. AreBased base.now text.now referred) }
+    text: Option<&str>,
+    referred: &mut String,
+) -> Result<(), Starved>
+    requires { where_present is_reference (text_seen text) ≡ true }
+    ensures { OnOk result (AreBased base.now (text_seen text.entry) (string_bytes referred.new)) }
 {
     match text {
-        None => Ok(None),
-        Some(text) => Ok(Some(refer_again(alloc, base, text)?)),
+        None => Ok(()),
+        Some(text) => refer_again(alloc, base, text, referred),
     }
 }
 
-/// A link against another base.
-fn rebased_item(alloc: Global, base: &Parts<'_>, item: &Item) -> Result<Item, Starved>
-    requires { has_references item.now ≡ true }
-    ensures { IfOk result (λ new. IsRebased base.now item.now new) }
+/// The text that was written of a reference, where there is one.
+fn written<'a>(text: Option<&str>, referred: &'a str) -> Option<&'a str>
+    ensures { text_seen result ≡ option_map (λ _. referred.now) (text_seen text.entry) }
 {
-    let target = refer_again(alloc, base, &item.target_ref)?;
-    let anchor = refer_where_present(alloc, base, &item.anchor_ref)?;
-    let target_ref = Text::copy_of(alloc, item.target_ref.as_str())?;
-    let anchor_ref = copy_of(alloc, &item.anchor_ref)?;
-    let raw = Text::copy_of(alloc, item.raw.as_str())?;
-    let pairs = copy_of_pairs(alloc, &item.pairs)?;
-    Ok(Item {
+    match text {
+        None => None,
+        Some(_) => Some(referred),
+    }
+}
+
+/// Links and one more, against another base.
+fn with_rebased(
+    alloc: Global,
+    base: &Parts<'_>,
+    link: &Link<'_>,
+    builder: LinksBuilder,
+    referred: &mut Referred,
+) -> Result<LinksBuilder, Starved>
+    requires references { has_references link.now ≡ true }
+    requires waits { WaitsForNone builder }
+    ensures { IfOk result (λ new. AddsRebased base.now link.now builder.links new) }
+{
+    let target_ref = link.target_ref();
+    let anchor_ref = link.anchor_ref();
+    refer_again(alloc, base, target_ref, &mut referred.target)?;
+    refer_where_present(alloc, base, anchor_ref, &mut referred.anchor)?;
+    let target = referred.target.as_str();
+    let anchor = written(anchor_ref, referred.anchor.as_str());
+    let parts = LinkParts {
         target_ref,
         anchor_ref,
         target,
         anchor,
-        raw,
-        pairs,
-    })
+    };
+    let builder = builder.with_pairs_of(link)?.with_link(&parts)?;
+    Ok(builder)
 }
 
 /// The links against another base: each target and anchor as it was submitted, resolved anew where it has no scheme. The
@@ -95,11 +98,12 @@ pub fn rebased(alloc: Global, items: &Items, base: &Text) -> Result<Items, Starv
     let Ok(base) = parts(base.as_str()) else {
         unreachable!();
     };
-    let mut new = Vec::new(alloc);
-    let mut left = items.as_slice();
-    'items: while let Some((item, more)) = left.split_first() {
-        new.push(rebased_item(alloc, &base, item)?)?;
-        left = more;
+    let none = LinksBuilder::with_room_of(alloc, items)?;
+    let mut builder = none;
+    let mut referred = Referred::new(alloc);
+    let mut left = items.links();
+    'links: while let Some(link) = left.next() {
+        builder = with_rebased(alloc, &base, &link, builder, &mut referred)?;
     }
-    Ok(Items::of(new))
+    builder.build(alloc)
 }

@@ -1,37 +1,49 @@
 //! A reference of a link against the base of its registration (RFC 3986 section 5.2).
 ghost use Rattle.std.specs.Prelude.{◌≡◌};
+ghost use Rattle.std.specs.String.{string_bytes};
 ghost use Rattle.registration.specs.References.{Refers};
 
-use rd_base::{Starved, Text};
-use ref_resolve::{Parts, is_uri, parts, resolve};
+use rd_base::Starved;
+use ref_resolve::{Parts, is_uri, parts, resolve_into};
 use std::alloc::Global;
 
-/// A reference against a base.
+/// Texts into which the references of one link after another are written against a base.
 #[derive(Debug, Drop)]
 pub struct Referred {
-    /// Its text: unchanged where it has a scheme, else resolved.
-    pub text: Text,
-    /// Whether it has a scheme.
-    pub has_scheme: bool,
+    /// The target.
+    pub target: String,
+    /// The anchor, where there is one.
+    pub anchor: String,
 }
 
-/// A reference against a base, and None where the text is no URI-reference. A reference with a scheme stays as it is.
-pub fn refer(alloc: Global, base: &Parts<'_>, text: &str) -> Result<Option<Referred>, Starved>
-    ensures { Refers base.now text.now result }
+impl Referred {
+    /// Empty ones. Takes no memory.
+    pub fn new(alloc: Global) -> Referred {
+        Referred {
+            target: String::new(alloc),
+            anchor: String::new(alloc),
+        }
+    }
+}
+
+/// Writes a reference against a base in place of another text, and says whether it has a scheme;
+/// None where the text is no URI-reference. A reference with a scheme stays as it is.
+pub fn refer(
+    alloc: Global,
+    base: &Parts<'_>,
+    text: &str,
+    referred: &mut String,
+) -> Result<Option<bool>, Starved>
+    ensures { Refers base.now text.now (string_bytes referred.new) result }
 {
     let Ok(reference) = parts(text) else {
         return Ok(None);
     };
     if is_uri(&reference) {
-        let text = Text::copy_of(alloc, text)?;
-        return Ok(Some(Referred {
-            text,
-            has_scheme: true,
-        }));
+        referred.clear();
+        referred.push_str(text)?;
+        return Ok(Some(true));
     }
-    let text = resolve(alloc, base, &reference)?;
-    Ok(Some(Referred {
-        text,
-        has_scheme: false,
-    }))
+    resolve_into(alloc, base, &reference, referred)?;
+    Ok(Some(false))
 }

@@ -9,7 +9,7 @@ ghost use Rattle.registration.specs.Weights.{capped};
 
 use crate::drafts::Draft;
 use itoa::write_digits;
-use rd_base::{Item, Pair, Text};
+use rd_base::{Items, Pair, Text};
 
 /// The digits that a number of 64 bits has at most.
 const DIGITS: usize = 20;
@@ -102,35 +102,14 @@ fn add_endpoint(weight: u64, draft: &Draft, number: u64) -> u64
     add_extras(sum, draft.attrs.as_slice())
 }
 
-/// With the anchor of a link, where it has one.
-fn add_anchor(weight: u64, anchor: &Option<Text>) -> u64
-    ensures { result ≡ capped (weight + length (listing_model.anchor_text anchor.now)) }
-{
-    match anchor {
-        None => weight,
-        Some(anchor) => add_attribute(weight, "anchor", anchor.as_str()),
-    }
-}
-
-/// With the line of a link.
-fn add_link(weight: u64, item: &Item) -> u64
-    ensures { result ≡ capped (weight + length (listing_model.link_line item.now)) }
-{
-    let sum = add(weight, 2);
-    let sum = add(sum, item.target.len());
-    let sum = add(sum, item.raw.len());
-    add_anchor(sum, &item.anchor)
-}
-
-/// With the lines of links, each with one octet more.
-fn add_links(weight: u64, items: &[Item]) -> u64
+/// With the lines of links, each with one octet more: all of them, with a comma after each.
+fn add_links(weight: u64, items: &Items) -> u64
     ensures { result ≡ capped (weight + sum_by (λ item. length (listing_model.link_line item) + 1) items.now) }
 {
-    let mut sum = weight;
-    'items: for item in items {
-        sum = add(add_link(sum, item), 1);
+    if items.is_empty() {
+        return weight;
     }
-    sum
+    add(add(weight, items.listed().len()), 1)
 }
 
 /// What a draft weighs under a number, in octets: its endpoint line and each of its link lines, each with one octet more
@@ -140,5 +119,5 @@ pub fn weight(draft: &Draft, number: u64) -> u64
     ensures { (now : Moment) → result ≡ capped (listing_model.weight (recorded number now draft.now)) }
 {
     let sum = add(add_endpoint(0, draft, number), 1);
-    add_links(sum, draft.items.as_slice())
+    add_links(sum, &draft.items)
 }

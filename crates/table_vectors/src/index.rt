@@ -5,7 +5,7 @@ use crate::draws::{next_drawn, sum_of, summed};
 use crate::versions::Versions;
 use crate::words::{numbers_of, put_numbers, put_sum};
 use attribute_index::{AttributeIndex, Carriers};
-use rd_base::{Pair, Starved, Steps, Text};
+use rd_base::{Pair, PairRef, Starved, Steps, Text};
 use std::alloc::Global;
 use std::marker::Brand;
 use std::sync::ledger::{Blank, Ledger};
@@ -72,9 +72,13 @@ fn change(
     let (number, pair) = cut(said);
     let number = number_of(number, u64::MAX)?;
     let pair = pair_of(alloc, pair)?;
+    let attribute = PairRef {
+        name: pair.name.as_str(),
+        value: pair.value.as_str(),
+    };
     let next = match verb {
-        "put" => index.put(alloc, &pair, number)?,
-        _ => index.take(alloc, &pair, number)?,
+        "put" => index.put(alloc, &attribute, number)?,
+        _ => index.take(alloc, &attribute, number)?,
     };
     put_numbers(
         page,
@@ -95,15 +99,16 @@ fn change(
 fn change_drawn(index: &mut AttributeIndex, alloc: Global, drawn: u64) -> Result<u64, Starved> {
     let value = u64::wrapping_add(10, (drawn >> 40) % 20);
     let number = (drawn >> 50) % 70;
-    let pair = Pair {
-        name: Text::copy_of(alloc, "ct")?,
-        value: Text::of(format!(in alloc; "{value}")?),
+    let value = format!(in alloc; "{value}")?;
+    let pair = PairRef {
+        name: "ct",
+        value: value.as_str(),
     };
     *index = match (drawn >> 60) % 3 {
         0 => index.take(alloc, &pair, number)?,
         _ => index.put(alloc, &pair, number)?,
     };
-    let numbers = carriers_of(index, alloc, "ct", pair.value.as_str())?;
+    let numbers = carriers_of(index, alloc, "ct", pair.value)?;
     Ok(sum_of(numbers.as_slice()))
 }
 

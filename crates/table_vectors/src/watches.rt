@@ -2,8 +2,8 @@
 
 use crate::words::put_numbers;
 use rd_base::{
-    Bytes, Criteria, Criterion, Item, Items, Kind, Moment, Name, Pair, Pairs, Query, Record,
-    Starved, Text,
+    Bytes, Criteria, Criterion, Items, Kind, LinkParts, LinksBuilder, Moment, Name, Pair, Pairs,
+    Query, Record, Starved, Text,
 };
 use std::alloc::Global;
 use std::sync::Arc;
@@ -22,16 +22,19 @@ fn pairs_of(alloc: Global, name: &str, value: &str) -> Result<Pairs, Starved> {
     Ok(Pairs::of(pairs))
 }
 
-/// A link to a target, with its resource type. `Starved`: out of memory.
-fn item_of(alloc: Global, target: &str, resource_type: &str) -> Result<Item, Starved> {
-    Ok(Item {
-        target_ref: Text::copy_of(alloc, "/s")?,
+/// A link to a target, with its resource type, where it has one. `Starved`: out of memory.
+fn link_to(alloc: Global, target: &str, resource_type: &str) -> Result<Items, Starved> {
+    let mut builder = LinksBuilder::new(alloc);
+    if !resource_type.is_empty() {
+        builder = builder.with_pair(resource_type, "rt", resource_type)?;
+    }
+    let parts = LinkParts {
+        target_ref: "/s",
         anchor_ref: None,
-        target: Text::copy_of(alloc, target)?,
+        target,
         anchor: None,
-        raw: Text::copy_of(alloc, resource_type)?,
-        pairs: pairs_of(alloc, "rt", resource_type)?,
-    })
+    };
+    builder.with_link(&parts)?.build(alloc)
 }
 
 /// A registration of one link, which is all that is said of it: its target, which is its base
@@ -40,8 +43,6 @@ fn item_of(alloc: Global, target: &str, resource_type: &str) -> Result<Item, Sta
 fn record_of(alloc: Global, said: &str) -> Result<Record, Starved> {
     let (target, rest) = said.split_once(';').unwrap_or((said, ""));
     let (resource_type, floor) = rest.split_once(';').unwrap_or((rest, ""));
-    let mut links = Vec::new(alloc);
-    links.push(item_of(alloc, target, resource_type)?)?;
     Ok(Record {
         number: 1,
         name: Name {
@@ -53,7 +54,7 @@ fn record_of(alloc: Global, said: &str) -> Result<Record, Starved> {
         base: Text::copy_of(alloc, target)?,
         base_given: false,
         attrs: pairs_of(alloc, "floor", floor)?,
-        items: Items::of(links),
+        items: link_to(alloc, target, resource_type)?,
     })
 }
 

@@ -77,7 +77,7 @@ fn put_draft(page: &mut String, draft: &Draft) -> Result<(), Starved> {
         " of the peer"
     })?;
     put_pairs(page, draft.attrs.as_slice())?;
-    put_items(page, draft.items.as_slice())
+    put_items(page, draft.items.links())
 }
 
 /// Writes what `build` answers for a registration.
@@ -124,11 +124,11 @@ fn put_rebased(page: &mut String, alloc: Global, said: &str) -> Result<(), NoAns
     let base = base_of(alloc, update)?;
     let draft = draft_of(alloc, registration)?;
     let items = rebased(alloc, &draft.items, &base)?;
-    put_items(page, items.as_slice())?;
+    put_items(page, items.links())?;
     begin(page)?;
     page.push_str("back")?;
     let items = rebased(alloc, &items, &draft.base)?;
-    Ok(put_items(page, items.as_slice())?)
+    Ok(put_items(page, items.links())?)
 }
 
 /// Writes what the call answers, and tells whether it is one of these.

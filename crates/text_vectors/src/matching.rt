@@ -67,8 +67,8 @@ fn is_named_matched(alloc: Global, criterion: &Criterion, value: &str) -> Result
 /// Whether a criterion matches a link. `Form`: no link is said.
 fn is_link_matched(alloc: Global, criterion: &Criterion, said: &str) -> Result<bool, NoAnswer> {
     let items = items_of(alloc, said)?;
-    match items.as_slice().first() {
-        Some(item) => Ok(link_matches(criterion, item)),
+    match items.links().get(0) {
+        Some(link) => Ok(link_matches(criterion, &link)),
         None => Err(NoAnswer::Form),
     }
 }

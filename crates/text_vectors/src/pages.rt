@@ -1,6 +1,6 @@
 //! The parts of an answer, one after another.
 
-use rd_base::{Item, Pair, Starved, Text};
+use rd_base::{Link, Links, Pair, Starved, Text};
 use vector_words::put_octets;
 
 /// Begins a part: ` | ` stands between it and the part before it.
@@ -69,17 +69,17 @@ pub(crate) fn text_in(text: &Option<Text>) -> Option<&str> {
 /// Writes a target between its brackets, raw attributes and an anchor where there is one.
 fn put_link(
     page: &mut String,
-    target: &Text,
+    target: &str,
     raw: &str,
-    anchor: &Option<Text>,
+    anchor: Option<&str>,
 ) -> Result<(), Starved> {
     page.push_str("<")?;
-    put_text(page, target.as_str())?;
+    put_text(page, target)?;
     page.push_str(">")?;
     put_text(page, raw)?;
     if let Some(anchor) = anchor {
         page.push_str(";anchor=\"")?;
-        put_text(page, anchor.as_str())?;
+        put_text(page, anchor)?;
         page.push_str("\"")?;
     }
     Ok(())
@@ -87,25 +87,25 @@ fn put_link(
 
 /// Writes a link as a part: its target and anchor as they were submitted, the link as it is
 /// listed, and its attributes.
-fn put_item(page: &mut String, item: &Item) -> Result<(), Starved> {
+fn put_item(page: &mut String, link: &Link<'_>) -> Result<(), Starved> {
     begin(page)?;
-    put_link(page, &item.target_ref, "", &item.anchor_ref)?;
+    put_link(page, link.target_ref(), "", link.anchor_ref())?;
     page.push_str(" is ")?;
-    put_link(page, &item.target, item.raw.as_str(), &item.anchor)?;
-    'pairs: for pair in item.pairs.as_slice() {
+    put_link(page, link.target(), link.raw(), link.anchor())?;
+    'pairs: for pair in link.pairs() {
         page.push_str(" [")?;
-        put_text(page, pair.name.as_str())?;
+        put_text(page, pair.name)?;
         page.push_str("=")?;
-        put_text(page, pair.value.as_str())?;
+        put_text(page, pair.value)?;
         page.push_str("]")?;
     }
     Ok(())
 }
 
 /// Writes links, each as a part.
-pub(crate) fn put_items(page: &mut String, items: &[Item]) -> Result<(), Starved> {
-    'items: for item in items {
-        put_item(page, item)?;
+pub(crate) fn put_items(page: &mut String, links: Links<'_>) -> Result<(), Starved> {
+    'links: for link in links {
+        put_item(page, &link)?;
     }
     Ok(())
 }

@@ -1,41 +1,47 @@
 //! Registrations as listings have them: `/rd/NUMBER?OPTIONS LINKS`. The options give the base
 //! too; the links are those of a document as they stand, their targets and anchors resolved.
 
+use crate::pages::text_in;
 use crate::queries::params_of;
 use crate::requests::Request;
-use link_format::{LinkRef, Param, check, params, value_of};
-use rd_base::{Item, Items, Moment, Pair, Pairs, Record, RegParams, Starved, Text};
+use link_format::{LinkRef, check, params, value_of};
+use rd_base::{Items, LinkParts, LinksBuilder, Moment, Record, RegParams, Starved, Text};
 use std::alloc::Global;
 use vector_words::{NoAnswer, cut, number_of, octets_of};
 
-/// The attribute that a parameter is.
-fn pair_of(alloc: Global, param: &Param<'_>) -> Result<Pair, Starved> {
-    let name = Text::copy_of(alloc, param.name)?;
-    let value = value_of(alloc, param)?;
-    Ok(Pair { name, value })
+/// Links and one more, with the attributes that wait for it: its target and its anchor.
+fn with_target<'a>(
+    builder: LinksBuilder,
+    target: &'a str,
+    anchor: &'a Option<Text>,
+) -> Result<LinksBuilder, Starved> {
+    let anchor = text_in(anchor);
+    let parts = LinkParts {
+        target_ref: "",
+        anchor_ref: None,
+        target,
+        anchor,
+    };
+    builder.with_link(&parts)
 }
 
-/// A link as it stands.
-fn item_of(alloc: Global, link: &LinkRef<'_>) -> Result<Item, Starved> {
+/// Links and one more, as it stands.
+fn with_link(
+    alloc: Global,
+    builder: LinksBuilder,
+    link: &LinkRef<'_>,
+) -> Result<LinksBuilder, Starved> {
+    let mut builder = builder;
     let mut anchor = None;
-    let mut raw = Text::new();
-    let mut pairs = Vec::new(alloc);
     'parameters: for param in params(link) {
+        let value = value_of(alloc, &param)?;
         if param.name == "anchor" {
-            anchor = Some(value_of(alloc, &param)?);
+            anchor = Some(value);
             continue;
         }
-        raw.append(alloc, param.raw)?;
-        pairs.push(pair_of(alloc, &param)?)?;
+        builder = builder.with_pair(param.raw, param.name, value.as_str())?;
     }
-    Ok(Item {
-        target_ref: Text::new(),
-        anchor_ref: None,
-        target: Text::copy_of(alloc, link.target)?,
-        anchor,
-        raw,
-        pairs: Pairs::of(pairs),
-    })
+    with_target(builder, link.target, &anchor)
 }
 
 /// The links of a document as they stand. `Form`: it is none.
@@ -44,11 +50,11 @@ pub(crate) fn items_of(alloc: Global, said: &str) -> Result<Items, NoAnswer> {
     let Ok(links) = check(body.as_slice()) else {
         return Err(NoAnswer::Form);
     };
-    let mut items = Items::of(Vec::new(alloc));
+    let mut builder = LinksBuilder::new(alloc);
     'links: for link in links {
-        items.push(item_of(alloc, &link)?)?;
+        builder = with_link(alloc, builder, &link)?;
     }
-    Ok(items)
+    Ok(builder.build(alloc)?)
 }
 
 /// The number of a location. `Form`: it is none.

@@ -15,5 +15,5 @@ returns-clause-entries c e =
     without_parts (has_entry c.args.index.now e) (has_entry c.in_ok-index.index e) (has_entry c.in_ok-index-2.index e) (has_entry c.in_ok-index-3.index e) own attrs links (has_entry (record_entries r) e)
     (c.in_ok-index.ensures.entries e ∙ ap (λ index. has_entry index e && not (has_entry (entries_of_all c.as_slice.result.now r.number) e)) c.in_ok-share.ensures.same ∙ ap (λ ps. has_entry c.args.index.now e && not (has_entry (entries_of_all ps r.number) e)) (c.as_slice.ensures.value ∙ c.in_ok-own.ensures))
     (c.in_ok-index-2.ensures.entries e ∙ ap (λ ps. has_entry c.in_ok-index.index e && not (has_entry (entries_of_all ps r.number) e)) c.as_slice-2.ensures)
-    (c.in_ok-index-3.ensures.entries e ∙ ap (λ is. has_entry c.in_ok-index-2.index e && not (has_entry (entries_of_all (item_pairs is) r.number) e)) c.as_slice-3.ensures)
+    (c.in_ok-index-3.ensures.entries e ∙ ap (λ is. has_entry c.in_ok-index-2.index e && not (has_entry (entries_of_all (item_pairs is) r.number) e)) c.links.ensures)
     (entries_split r e)

@@ -1,7 +1,6 @@
-use Rattle.std.proofs.Common.{◌≡◌, map, sym, ap, ◌∙◌}
+use Rattle.std.proofs.Common.{◌≡◌, sym, ◌∙◌}
 use Rattle.std.proofs.lemmas.Bool.{true≢false}
 use Rattle.std.proofs.lemmas.Slice.Eq.{bytes_eq-Decides}
-use Rattle.rd_base.specs.declared.records.Item.{Item}
 use Rattle.directory_core.proofs.IndexLaws.{entries_alike, pairs_decided}
 use Rattle.directory_core.proofs.index.is_indexed_alike.Goals as goal
 use Rattle.directory_core.proofs.index.is_indexed_alike.Goals.{then-eq, else-eq}
@@ -14,8 +13,6 @@ returns-then-eq-2 c same =
       | then-eq w ↦
           let base : old.base ≡ new.base = (bytes_eq-Decides old.base new.base).0 (sym c.eq.ensures ∙ w.if-eq.true) in
           let attrs : old.attrs ≡ new.attrs = (pairs_decided old.attrs new.attrs w.eq-then-eq.result w.eq-then-eq.ensures).0 (sym w.value-is ∙ c.if-eq-2.true) in
-          let links : map (λ (i : Item). i.pairs) old.items ≡ map (λ (i : Item). i.pairs) new.items
-          = sym (ap (map (λ (i : Item). i.pairs)) c.as_slice.ensures) ∙ c.carry_alike.ensures.0 same ∙ ap (map (λ (i : Item). i.pairs)) c.as_slice-then-eq-2.ensures in
-          entries_alike old new c.requires.numbered c.requires.named base attrs links
+          entries_alike old new c.requires.numbered c.requires.named base attrs (c.links_carry_alike.ensures.0 same)
       | else-eq w ↦ absurd (true≢false (sym c.if-eq-2.true ∙ w.value-is ∙ w.if-eq.false))
     ]

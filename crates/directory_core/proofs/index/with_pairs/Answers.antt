@@ -1,4 +1,4 @@
-use Rattle.std.proofs.Common.{◌≡◌, [], ◌∷◌, sym, ap, ◌∙◌, rules}
+use Rattle.std.proofs.Common.{◌≡◌, ◌||◌, [], ◌∷◌, sym, ap, ◌∙◌, rules}
 use Rattle.std.proofs.lemmas.List.{nil_from_length}
 use Rattle.attribute_index.specs.Entries.{has_entry, entries_of, entries_of_all}
 use Rattle.attribute_index.proofs.EntryLaws.{has_entry-all}
@@ -14,7 +14,7 @@ pairs-preserved c =
     record {
       entries = λ e.
           with_step (has_entry c.pairs.after e) (has_entry c.in_ok-after.after e) (has_entry (entries_of pair number) e) (has_entry (entries_of_all more number) e) (has_entry (entries_of_all c.pairs.left.now number) e)
-          (c.in_ok-after.ensures.entries e) (ap (λ ps. has_entry (entries_of_all ps number) e) split ∙ has_entry-all pair more number e) ∙ c.pairs.invariant.entries e;
+          (c.in_ok-after.ensures.entries e ∙ ap (λ p. has_entry c.pairs.after e || has_entry (entries_of p number) e) c.borrowed.ensures) (ap (λ ps. has_entry (entries_of_all ps number) e) split ∙ has_entry-all pair more number e) ∙ c.pairs.invariant.entries e;
       ascends = c.in_ok-after.ensures.ascends;
     }
 

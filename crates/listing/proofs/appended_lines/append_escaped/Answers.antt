@@ -1,5 +1,5 @@
 use Rattle.std.proofs.Common.{◌≡◌, ◌++◌, List, ℕ, OnOk, subst, sym, ◌∙◌}
-use Rattle.listing.proofs.PieceLaws.{nothing_escaped}
+use Rattle.rd_base.proofs.EscapeLemmas.{nothing_escaped}
 use Rattle.listing.proofs.appended_lines.append_escaped.Goals as goal
 
 pub returns-clause-ok : goal.returns-clause-ok

@@ -1,12 +1,13 @@
-use Rattle.std.proofs.Common.{◌≡◌, ◌≤◌, Some, length}
-use Rattle.listing.specs.ListedLinks.{listed_lines}
+use Rattle.std.proofs.Common.{◌≡◌, ◌≤◌, length}
+use Rattle.listing.specs.ListedLinks.{lines_by}
+use Rattle.listing.specs.Sieves.{sifts}
 use Rattle.listing.proofs.same_parts.first_listed.Given as goal
 
-abbrev pub invariant-items : goal.invariant-items
-invariant-items l = record {
-  same : listed_lines l.query (Some l.record_of) l.items ≡ listed_lines l.query (Some l.record_of) l.rest;
-  few : length l.rest ≤ length l.items;
+abbrev pub invariant-links : goal.invariant-links
+invariant-links l = record {
+  same : lines_by (sifts l.sieve) l.fn.links ≡ lines_by (sifts l.sieve) l.left;
+  few : length l.left ≤ length l.fn.links;
 }
 
-abbrev pub decreases-items : goal.decreases-items
-decreases-items l = length l.rest
+abbrev pub decreases-links : goal.decreases-links
+decreases-links l = length l.left

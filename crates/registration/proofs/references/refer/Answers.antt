@@ -1,4 +1,4 @@
-use Rattle.std.proofs.Common.{◌≡◌, true, false, sym, ◌∙◌}
+use Rattle.std.proofs.Common.{◌≡◌, ℕ, List, ◌++◌, true, false, sym, ap, ◌∙◌}
 use Rattle.record_model.specs.Bodies.{is_uri}
 use Rattle.ref_resolve.specs.ComponentsOfParts.{components_of}
 use Rattle.registration.proofs.ReferenceLaws.{reads, reads_uri, reads_not, stays, is_resolved}
@@ -15,7 +15,7 @@ returns-then-is_uri c =
     record {
       reference = reads text (components_of c.in-Ok.reference) found;
       scheme = uri;
-      text = λ spelled h. c.in_ok-text.ensures.ok ∙ sym (stays spelled text uri);
+      text = λ spelled h. c.in_ok-push_str.ensures.bytes ∙ ap (λ (t : List ℕ). t ++ text) c.clear.ensures.bytes ∙ sym (stays spelled text uri);
     }
 
 pub returns : goal.returns
@@ -26,5 +26,5 @@ returns c =
     record {
       reference = reads text (components_of c.in-Ok.reference) found;
       scheme = uri;
-      text = λ spelled h. c.in_ok-text-2.ensures.texts spelled text h found ∙ sym (is_resolved spelled text uri);
+      text = λ spelled h. c.in_ok-resolve_into.ensures.texts spelled text h found ∙ sym (is_resolved spelled text uri);
     }

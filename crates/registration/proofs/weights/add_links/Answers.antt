@@ -1,12 +1,9 @@
-use Rattle.std.proofs.Common.{◌+◌, List, length, sum_by, ap, arith}
-use Rattle.std.proofs.lemmas.List.{drop_all}
-use Rattle.rd_base.specs.declared.records.Item.{Item}
-use Rattle.record_model.specs.ListingLines.{link_line}
+use Rattle.std.proofs.Common.{ℕ, List, length, ap, arith}
+use Rattle.registration.proofs.WeightLaws.{links_size}
 use Rattle.registration.proofs.weights.add_links.Goals as goal
 
 pub returns : goal.returns
 returns c =
-    let rest = ap (λ (items : List Item). sum_by (λ item. length (link_line item) + 1) items) (drop_all c.items.item-index c.args.items.now c.items-test.false) in
-    let same = c.items.invariant.same in
-    let fits = c.items.invariant.fits in
-    omega (arith, rest, same, fits)
+    let size = links_size c.args.items.now c.is_empty.result c.is_empty.ensures c.if-is_empty.false in
+    let said = ap (λ (t : List ℕ). length t) c.listed.ensures in
+    omega (arith, size, said)

@@ -6,5 +6,5 @@ pub returns : goal.returns
 returns c now =
     let parts = weight_parts c.args.number now c.args.draft.now in
     let own = c.add_endpoint.ensures now in
-    let links = rw c.as_slice.ensures at c.add_links.ensures in
+    let links = c.add_links.ensures in
     omega (arith, parts, own, links)

@@ -1,5 +1,6 @@
-use Rattle.std.proofs.Common.{refl, ◌≡◌, ◌≤◌, ◌^◌, Err, sym, ap, ap₂, ◌∙◌, subst, arith, Some}
+use Rattle.std.proofs.Common.{refl, ◌≡◌, ◌≤◌, ◌^◌, Err, sym, ap, ap₂, ◌∙◌, subst, arith, Some, List}
 use Rattle.rd_base.specs.declared.moments.Moment.{Moment}
+use Rattle.rd_base.specs.declared.records.Item.{Item}
 use Rattle.rd_base.specs.declared.records.Record.{Record}
 use Rattle.record_model.specs.ListingLines.{weight}
 use Rattle.registration.specs.Drafts.{recorded}
@@ -10,10 +11,11 @@ use Rattle.history_model.specs.Refusals.{text_of}
 use Rattle.lease_queue.specs.Leases.{with_lease, without_lease}
 use Rattle.directory_core.specs.declared.counts.Counts.{Counts}
 use Rattle.directory_core.specs.AfterEntries.{renewed, after_entry, HasRoom}
+use Rattle.directory_core.specs.LinksAgainst.{AreAfter}
 use Rattle.directory_core.specs.NumberOrder.{with_record}
 use Rattle.directory_core.specs.Shown.{IsKept, lease_of}
 use Rattle.directory_core.proofs.KeptLaws.{live_light}
-use Rattle.directory_core.proofs.RenewLaws.{Renewal, record_granted, record_number, record_name, lease_is, text_is, lost_below, renewal_kept, renewal_records, room_refused}
+use Rattle.directory_core.proofs.RenewLaws.{Renewal, record_granted, record_items, record_number, record_name, lease_is, text_is, lost_below, renewal_kept, renewal_records, room_refused}
 use Rattle.directory_core.specs.Bounds.{AreEntriesOf}
 use Rattle.history_model.specs.Replay.{numbered}
 use Rattle.directory_core.proofs.ChangeLaws.{with_record-renewed}
@@ -66,6 +68,13 @@ pub index_renewed-requires-clause-named : goal.index_renewed-requires-clause-nam
 index_renewed-requires-clause-named c =
     let made : c.in_ok-kept.kept ≡ recorded c.as_record.result.now.number c.args.now c.args.draft = c.in_ok-kept.ensures ∙ c.record_from.ensures in
     ap (λ (x : Record). x.name) (c.as_record-3.ensures ∙ made) ∙ record_name c.as_record.result.now.number c.args.now c.args.draft ∙ c.requires.named ∙ sym (ap (λ (x : Record). x.name) c.as_record-2.ensures)
+
+pub index_renewed-requires-clause-links : goal.index_renewed-requires-clause-links
+index_renewed-requires-clause-links c =
+    let made : c.in_ok-kept.kept ≡ recorded c.as_record.result.now.number c.args.now c.args.draft = c.in_ok-kept.ensures ∙ c.record_from.ensures in
+    let new : c.as_record-3.result.now.items ≡ c.args.draft.items = ap (λ (x : Record). x.items) (c.as_record-3.ensures ∙ made) ∙ record_items c.as_record.result.now.number c.args.now c.args.draft in
+    let old : c.as_record-2.result.now.items ≡ c.args.old.now.items = ap (λ (x : Record). x.items) c.as_record-2.ensures in
+    subst (λ (is : List Item). AreAfter c.args.links is c.as_record-3.result.now.items) (sym old) (subst (AreAfter c.args.links c.args.old.now.items) (sym new) c.requires.links)
 
 pub invariant_of-result : goal.invariant_of-result
 invariant_of-result c =

@@ -2,9 +2,16 @@ use Rattle.std.proofs.Common.{◌≡◌, sym, subst}
 use Rattle.rd_base.specs.declared.records.Record.{Record}
 use Rattle.record_model.specs.Records.{updated}
 use Rattle.registration.specs.Drafts.{recorded}
+use Rattle.directory_core.specs.LinksAgainst.{AreAfter, AreAgainst}
 use Rattle.directory_core.specs.Shown.{IsKept}
 use Rattle.directory_core.proofs.AnswerLaws.{update_gone, update_answers}
 use Rattle.directory_core.proofs.directory.Directory.update.Goals as goal
+
+pub updated_draft-requires-clause-against : goal.updated_draft-requires-clause-against
+updated_draft-requires-clause-against c = subst (λ (r : Record). AreAgainst r.base r.items) (sym c.as_record.ensures) c.in-Some.ensures.sound.against
+
+pub renewed-requires-clause-links : goal.renewed-requires-clause-links
+renewed-requires-clause-links c = subst (λ (r : Record). AreAfter c.in_ok-draft.links r.items c.in_ok-draft.draft.items) c.as_record.ensures c.in_ok-draft.ensures.links
 
 pub returns-in_default-clause-refused : goal.returns-in_default-clause-refused
 returns-in_default-clause-refused c first history entry stands h =

@@ -1,0 +1,107 @@
+//! What a criterion seeks in links, told once for all links (RFC 9176 section 6.2).
+ghost use Rattle.std.specs.Prelude.{◌≡◌, ◌&&◌, bytes_eq, codes};
+ghost use Rattle.std.specs.List.{list_any};
+ghost use Rattle.rd_base.specs.declared.records.Item.{Item};
+ghost use Rattle.rd_base.specs.PairRefs.{text_seen};
+ghost use Rattle.record_model.specs.Matching as model;
+ghost use Rattle.listing.specs.Patterns.{fits};
+ghost use Rattle.listing.specs.SoughtLinks.{fits_present, has_part, has_value, is_found};
+
+use crate::patterns::{Pattern, is_list_name};
+use rd_base::{Criterion, Link, LinkPairs};
+
+/// What a criterion seeks in a link.
+#[derive(Clone, Copy)]
+pub(crate) enum Sought<'a> {
+    /// A target that fits the pattern.
+    Target(Pattern<'a>),
+    /// An anchor that fits it.
+    Anchor(Pattern<'a>),
+    /// An attribute of this name, whose value fits it.
+    Value(&'a str, Pattern<'a>),
+    /// An attribute of this name, whose values are lists, where a part fits it.
+    Part(&'a str, Pattern<'a>),
+}
+
+/// Whether criteria of this name are about targets.
+pub(crate) fn is_href(name: &str) -> bool
+    ensures { result ≡ bytes_eq name.now (codes "href") }
+{
+    name == "href"
+}
+
+/// Whether criteria of this name are about anchors.
+fn is_anchor(name: &str) -> bool
+    ensures { result ≡ bytes_eq name.now (codes "anchor") }
+{
+    name == "anchor"
+}
+
+/// Whether there is a text, which fits the pattern.
+fn fits_present(pattern: &Pattern<'_>, text: Option<&str>) -> bool
+    ensures { result ≡ fits_present pattern.now (text_seen text.entry) }
+{
+    match text {
+        Some(text) => pattern.fits(text),
+        None => false,
+    }
+}
+
+/// Whether one of the attributes has this name and a value that fits the pattern.
+fn has_value(name: &str, pattern: &Pattern<'_>, pairs: LinkPairs<'_>) -> bool
+    ensures { result ≡ has_value name.now pattern.now pairs.entry }
+{
+    let mut left = pairs;
+    'pairs: while let Some(pair) = left.next() {
+        if pair.name == name && pattern.fits(pair.value) {
+            return true;
+        }
+    }
+    false
+}
+
+/// Whether one of the attributes has this name and a value of which a part fits the pattern.
+fn has_part(name: &str, pattern: &Pattern<'_>, pairs: LinkPairs<'_>) -> bool
+    ensures { result ≡ has_part name.now pattern.now pairs.entry }
+{
+    let mut left = pairs;
+    'pairs: while let Some(pair) = left.next() {
+        if pair.name == name && pattern.fits_part(pair.value) {
+            return true;
+        }
+    }
+    false
+}
+
+impl<'a> Sought<'a> {
+    /// What the criterion seeks: `href` a target, `anchor` an anchor, and any other name an
+    /// attribute (RFC 9176 section 6.2).
+    pub(crate) fn of(criterion: &'a Criterion) -> Sought<'a>
+        ensures { (item : Item) → is_found result item ≡ model.link_matches criterion.now item }
+    {
+        let name = criterion.name.as_str();
+        let pattern = Pattern::of(criterion.pattern.as_str());
+        if is_href(name) {
+            return Sought::Target(pattern);
+        }
+        if is_anchor(name) {
+            return Sought::Anchor(pattern);
+        }
+        if is_list_name(name) {
+            return Sought::Part(name, pattern);
+        }
+        Sought::Value(name, pattern)
+    }
+
+    /// Whether the link has it.
+    pub(crate) fn is_in(&self, link: &Link<'_>) -> bool
+        ensures { result ≡ is_found self.now link.now }
+    {
+        match self {
+            Sought::Target(pattern) => pattern.fits(link.target()),
+            Sought::Anchor(pattern) => fits_present(pattern, link.anchor()),
+            Sought::Value(name, pattern) => has_value(name, pattern, link.pairs()),
+            Sought::Part(name, pattern) => has_part(name, pattern, link.pairs()),
+        }
+    }
+}

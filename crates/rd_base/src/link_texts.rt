@@ -1,0 +1,124 @@
+//! The links of a registration in two texts, and where their parts stand.
+ghost use Rattle.std.specs.Prelude.{◌≡◌, ◌++◌, [], map, option_map, IfOk};
+ghost use Rattle.std.specs.String.{string_bytes};
+ghost use Rattle.rd_base.specs.LinkLines.{anchor_text, line_by};
+ghost use Rattle.rd_base.specs.LinkTexts.{IsLineAt};
+ghost use Rattle.rd_base.specs.Spans.{IsPlacedIfAny, kept_apart_if_any};
+
+use crate::Starved;
+use crate::spans::{Place, Span, append, append_escaped, offset, push};
+
+/// Where the parts of a line stand.
+#[derive(Clone, Copy, Debug, Drop)]
+pub(crate) struct LineSpans {
+    /// The target, in the text of the line.
+    pub(crate) target: Span,
+    /// The attributes as they were written, in the text of the line.
+    pub(crate) raw: Span,
+    /// The anchor, in the text of the line or apart.
+    pub(crate) anchor: Option<Place>,
+    /// The whole line.
+    pub(crate) line: Span,
+}
+
+/// Where an attribute stands: in the attributes of its link as they were written, or apart.
+#[derive(Clone, Copy, Debug, Drop)]
+pub(crate) struct PairSpans {
+    /// The name.
+    pub(crate) name: Place,
+    /// The value.
+    pub(crate) value: Place,
+}
+
+/// Where the parts of a link stand.
+#[derive(Clone, Copy, Debug, Drop)]
+pub(crate) struct LinkSpans {
+    /// Its line as it was submitted, in the source text.
+    pub(crate) submitted: LineSpans,
+    /// Its line as a listing shows it, in the listed text.
+    pub(crate) listed: LineSpans,
+    /// Its attributes, among those of all links.
+    pub(crate) pairs: Span,
+}
+
+/// The texts of links, and where the parts of each link stand in them.
+#[derive(Debug, Drop)]
+pub(crate) struct LinkTexts {
+    /// The lines of the links as they were submitted, with commas between them.
+    pub(crate) source: String,
+    /// The lines of the links as a listing shows them, with commas between them.
+    pub(crate) listed: String,
+    /// Values and anchors that stand with escapes in those lines, without escapes.
+    pub(crate) apart: String,
+    /// The attributes of all links.
+    pub(crate) pairs: Vec<PairSpans>,
+    /// The links.
+    pub(crate) links: Vec<LinkSpans>,
+}
+
+/// How much room the texts of links take.
+#[derive(Clone, Copy, Debug)]
+pub(crate) struct Room {
+    /// The octets of the lines as they were submitted.
+    pub(crate) submitted: usize,
+    /// The octets of the lines of a listing.
+    pub(crate) listed: usize,
+    /// How many attributes there are.
+    pub(crate) pairs: usize,
+    /// How many links there are.
+    pub(crate) links: usize,
+}
+
+/// Appends the anchor of a line, where there is one, and says where it stands. `Starved`: out of
+/// memory.
+fn append_anchor(
+    text: &mut String,
+    anchor: Option<&str>,
+    apart: &mut String,
+) -> Result<Option<Place>, Starved>
+    ensures text { IfOk result (λ _. string_bytes text.new ≡ string_bytes text.old
+        ++ anchor_text (option_map (λ a. a.now) anchor.entry)) }
+    ensures at { IfOk result (λ place. IsPlacedIfAny (string_bytes text.new)
+        (string_bytes apart.new) place (option_map (λ a. a.now) anchor.entry)) }
+    ensures apart { IfOk result (λ place. string_bytes apart.new ≡ string_bytes apart.old
+        ++ kept_apart_if_any place (option_map (λ a. a.now) anchor.entry)) }
+{
+    let Some(anchor) = anchor else {
+        return Ok(None);
+    };
+    push(text, ";anchor=\"")?;
+    let place = append_escaped(text, anchor, apart)?;
+    push(text, "\"")?;
+    Ok(Some(place))
+}
+
+/// Appends the line of a link, and says where its parts stand. `Starved`: out of memory, or a text
+/// is longer than a `u32` counts.
+pub(crate) fn append_line(
+    text: &mut String,
+    target: &str,
+    raw: &str,
+    anchor: Option<&str>,
+    apart: &mut String,
+) -> Result<LineSpans, Starved>
+    ensures text { IfOk result (λ _. string_bytes text.new ≡ string_bytes text.old
+        ++ line_by target.now raw.now (option_map (λ a. a.now) anchor.entry)) }
+    ensures at { IfOk result (λ spans. IsLineAt (string_bytes text.new)
+        (string_bytes apart.new) spans target.now raw.now (option_map (λ a. a.now) anchor.entry)) }
+    ensures apart { IfOk result (λ spans. string_bytes apart.new ≡ string_bytes apart.old
+        ++ kept_apart_if_any spans.anchor (option_map (λ a. a.now) anchor.entry)) }
+{
+    let from = offset(text.len())?;
+    push(text, "<")?;
+    let target = append(text, target)?;
+    push(text, ">")?;
+    let raw = append(text, raw)?;
+    let anchor = append_anchor(text, anchor, apart)?;
+    let upto = offset(text.len())?;
+    Ok(LineSpans {
+        target,
+        raw,
+        anchor,
+        line: Span { from, upto },
+    })
+}

@@ -1,0 +1,178 @@
+//! Where a part of a text stands that grows.
+ghost use Rattle.std.specs.Prelude.{◌≡◌, ◌<◌, ◌++◌, ◌==◌, ◌||◌, length, flat_map, IfOk, IfSome};
+ghost use Rattle.std.specs.Prelude.{OnOk, encode_utf8};
+ghost use Rattle.std.specs.List.{list_any};
+ghost use Rattle.std.specs.String.{string_bytes};
+ghost use Rattle.rd_base.specs.LinkLines.{quote_mark, backslash, escaped_character};
+ghost use Rattle.rd_base.specs.Spans.{part, placed, kept_apart, IsPlace, IsPlacedAt, IsText};
+ghost use Rattle.rd_base.specs.Spans.{IsTextAt};
+
+use crate::Starved;
+
+/// A part of a text, in octets.
+#[derive(Clone, Copy, Debug, Drop)]
+pub(crate) struct Span {
+    /// The first octet.
+    pub(crate) from: u32,
+    /// The octet behind the last.
+    pub(crate) upto: u32,
+}
+
+/// Where a text stands that is mostly a part of another one.
+#[derive(Clone, Copy, Debug, Drop)]
+pub(crate) enum Place {
+    /// In the other text.
+    Here(Span),
+    /// In a text of its own, since the other has it with escapes.
+    Apart(Span),
+}
+
+/// A number that a span can hold. `Starved`: it is more than a `u32` counts.
+#[inline(always)]
+pub(crate) fn offset(octets: usize) -> Result<u32, Starved>
+    ensures { IfOk result (λ offset. offset ≡ octets) }
+{
+    match u32::try_from(octets) {
+        Ok(offset) => Ok(offset),
+        Err(_) => Err(Starved),
+    }
+}
+
+/// Appends a text. `Starved`: out of memory.
+#[inline(always)]
+pub(crate) fn push(text: &mut String, more: &str) -> Result<(), Starved>
+    ensures { OnOk result (string_bytes text.new ≡ string_bytes text.old ++ more.now) }
+{
+    text.push_str(more)?;
+    Ok(())
+}
+
+/// Appends a text, and says where it stands. `Starved`: out of memory, or the text is longer than a
+/// `u32` counts.
+#[inline(always)]
+pub(crate) fn append(text: &mut String, more: &str) -> Result<Span, Starved>
+    ensures text { IfOk result (λ _. string_bytes text.new ≡ string_bytes text.old ++ more.now) }
+    ensures at { IfOk result (λ span. IsTextAt (string_bytes text.new) span more.now) }
+{
+    let from = offset(text.len())?;
+    text.push_str(more)?;
+    let upto = offset(text.len())?;
+    Ok(Span { from, upto })
+}
+
+/// The part of a text at a span.
+#[inline(always)]
+pub(crate) fn at(text: &str, span: Span) -> &str
+    requires { IsText text.now span }
+    ensures { result.now ≡ part text.now span }
+{
+    let octets = &text.as_bytes()[span.from as usize..span.upto as usize];
+    unsafe { str::from_utf8_unchecked(octets) }
+}
+
+/// The text at a place.
+#[inline(always)]
+pub(crate) fn at_place<'a>(text: &'a str, apart: &'a str, place: Place) -> &'a str
+    requires { IsPlace text.now apart.now place }
+    ensures { result.now ≡ placed text.now apart.now place }
+{
+    match place {
+        Place::Here(span) => at(text, span),
+        Place::Apart(span) => at(apart, span),
+    }
+}
+
+/// Where a part of a text stands, if it stands at this octet.
+#[inline(always)]
+fn found(text: &str, from: usize, part: &str) -> Option<Span>
+    ensures { IfSome result (λ span. IsTextAt text.now span part.now) }
+{
+    let upto = from.checked_add(part.len())?;
+    if text.as_bytes().get(from..upto)? != part.as_bytes() {
+        return None;
+    }
+    let from = offset(from).ok()?;
+    let upto = offset(upto).ok()?;
+    Some(Span { from, upto })
+}
+
+/// A place for a text: this octet of another one if it stands there, and else apart. `Starved`: out
+/// of memory.
+#[inline(always)]
+pub(crate) fn place_of(
+    text: &str,
+    from: usize,
+    part: &str,
+    apart: &mut String,
+) -> Result<Place, Starved>
+    ensures at { IfOk result (λ place. IsPlacedAt text.now
+        (string_bytes apart.new) place part.now) }
+    ensures apart { IfOk result (λ place. string_bytes apart.new ≡ string_bytes apart.old
+        ++ kept_apart place part.now) }
+{
+    match found(text, from, part) {
+        Some(span) => Ok(Place::Here(span)),
+        None => Ok(Place::Apart(append(apart, part)?)),
+    }
+}
+
+/// Whether an octet has a backslash before it in quotes.
+fn is_escaped(octet: u8) -> bool
+    ensures { result ≡ (octet == quote_mark || octet == backslash) }
+{
+    octet == b'"' || octet == b'\\'
+}
+
+/// Whether a text stands in quotes with a backslash.
+fn has_escaped(text: &str) -> bool
+    ensures { result ≡ list_any (λ c. c == quote_mark || c == backslash) text.now }
+{
+    text.as_bytes().iter().any(|octet| is_escaped(*octet))
+}
+
+/// Appends a character of a text in quotes. `Starved`: out of memory.
+fn push_escaped(text: &mut String, character: char) -> Result<(), Starved>
+    ensures { OnOk result (string_bytes text.new ≡ string_bytes text.old
+        ++ flat_map escaped_character (encode_utf8 character)) }
+{
+    if character == '"' || character == '\\' {
+        text.push('\\')?;
+        text.push(character)?;
+        return Ok(());
+    }
+    text.push(character)?;
+    Ok(())
+}
+
+/// Appends a text with a backslash before each quote and each backslash. `Starved`: out of memory.
+fn push_escaped_text(text: &mut String, more: &str) -> Result<(), Starved>
+    ensures { OnOk result (string_bytes text.new ≡ string_bytes text.old
+        ++ flat_map escaped_character more.now) }
+{
+    let mut characters = more.chars();
+    'characters: while let Some(character) = characters.next() {
+        push_escaped(text, character)?;
+    }
+    Ok(())
+}
+
+/// Appends a text with a backslash before each quote and each backslash, and says where it stands
+/// without them. `Starved`: out of memory, or one of both is longer than a `u32` counts.
+pub(crate) fn append_escaped(
+    text: &mut String,
+    more: &str,
+    apart: &mut String,
+) -> Result<Place, Starved>
+    ensures text { IfOk result (λ _. string_bytes text.new ≡ string_bytes text.old
+        ++ flat_map escaped_character more.now) }
+    ensures at { IfOk result (λ place. IsPlacedAt (string_bytes text.new)
+        (string_bytes apart.new) place more.now) }
+    ensures apart { IfOk result (λ place. string_bytes apart.new ≡ string_bytes apart.old
+        ++ kept_apart place more.now) }
+{
+    if has_escaped(more) {
+        push_escaped_text(text, more)?;
+        return Ok(Place::Apart(append(apart, more)?));
+    }
+    Ok(Place::Here(append(text, more)?))
+}
