@@ -12,16 +12,18 @@ script ends with status 1 where some are missing.
 """
 
 import argparse
+import fcntl
 import os
 import re
-import resource
 import shutil
 import subprocess
 import sys
 import tempfile
+import termios
 import time
+from array import array
 from concurrent.futures import ThreadPoolExecutor
-from dataclasses import dataclass
+from dataclasses import dataclass, replace
 from pathlib import Path
 from typing import Callable
 
@@ -46,13 +48,20 @@ SHORT = 300
 OBSERVERS = 64
 LISTED = 50
 
+# How many links a registration has whose lease is updated, and each one whose memory is told.
+LINKS = [1, 1_000]
+LINKS_EACH = 5
+
 # Types (RFC 7252 section 3) and codes (section 12.1).
 CON, ACK = 0, 2
 EMPTY, GET, POST, DELETE = 0x00, 0x01, 0x02, 0x04
 CREATED, DELETED, VALID, CHANGED, CONTENT = 0x41, 0x42, 0x43, 0x44, 0x45
 
 # Numbers of options (RFC 7252 section 5.10, RFC 7641 section 2, RFC 7959 section 2.1).
-ETAG, OBSERVE, URI_PATH, CONTENT_FORMAT, URI_QUERY, BLOCK2 = 4, 6, 11, 12, 15, 23
+ETAG, OBSERVE, URI_PATH, CONTENT_FORMAT, URI_QUERY, BLOCK2, BLOCK1 = 4, 6, 11, 12, 15, 23, 27
+
+# Octets of a block of a body that comes in blocks, and its size exponent.
+BLOCK, EXPONENT = 1_024, 6
 
 LINK_FORMAT = (CONTENT_FORMAT, b"\x28")
 SECOND_BLOCK = (BLOCK2, b"\x16")
@@ -156,6 +165,16 @@ class Trace:
         """The device of a number registers."""
         self.come(device(number), registration(number, self.next_mid(), lifetime, edition))
         self.go()
+
+    def register_links(self, number: int, links: int):
+        """The device of a number registers so many links, in blocks (RFC 7959 section 2.5)."""
+        body = b",".join(f"</{n:x}>".encode() for n in range(links))
+        options = [*path("rd"), LINK_FORMAT, *query(f"ep=n{number}", f"lt={LONG}")]
+        for block, start in enumerate(range(0, len(body), BLOCK)):
+            more = start + BLOCK < len(body)
+            value = (block << 4 | more << 3 | EXPONENT).to_bytes(1 + (block > 15), "big")
+            part = body[start : start + BLOCK]
+            self.write(device(number), POST, [*options, (BLOCK1, value)], part)
 
     def look(self, pattern: str = "", before=(), after=(), peer: str = CLIENT):
         """A client looks up the links that meet a pattern, or all of them (RFC 9176 section 6)."""
@@ -262,6 +281,21 @@ def updates(size: int, calls: int) -> tuple[Trace, Trace]:
     return before, after
 
 
+def leases(size: int, calls: int) -> tuple[Trace, Trace]:
+    """A device of so many links updates its lease, while observers watch all of them."""
+    before = Trace()
+    before.register_links(0, size)
+    before.tick(SETTLED)
+    for number in range(OBSERVERS):
+        before.look("ep=n0", before=[(OBSERVE, b"")], peer=observer(number))
+        if size > 1:
+            before.go()
+    after = grown(before)
+    for _ in range(calls):
+        after.write(device(0), POST, [*path("rd", "1"), *query(f"lt={LONG}")])
+    return before, after
+
+
 def removals(size: int, calls: int) -> tuple[Trace, Trace]:
     """Devices remove their registrations."""
     before = settled(size)
@@ -358,6 +392,8 @@ def simple(size: int, calls: int) -> tuple[Trace, Trace]:
     return before, after
 
 
+LEASE = Kind("update of a lease, 64 observers", leases, MANY, CHANGED)
+
 KINDS = [
     Kind("registration of a new name", new_names, FEW, CREATED),
     Kind("registration of a name again, with the same link", same_names, MANY, CREATED),
@@ -398,6 +434,15 @@ def instructions(words: list[str], trace: bytes) -> tuple[int, bytes]:
     if not collected:
         sys.exit(f"callgrind told no count: {done.stderr.decode()[-300:]}")
     return int(collected.group(1)), done.stdout
+
+
+def allocations(words: list[str], trace: bytes) -> tuple[int, bytes]:
+    """How often a run takes memory, and its output."""
+    done = run(["valgrind", "--tool=memcheck", "--leak-check=no", *words], trace)
+    told = re.search(rb"total heap usage: ([\d,]+) allocs", done.stderr)
+    if not told:
+        sys.exit(f"memcheck told no count: {done.stderr.decode()[-300:]}")
+    return int(told.group(1).replace(b",", b"")), done.stdout
 
 
 def nanoseconds(words: list[str], trace: bytes) -> tuple[int, bytes]:
@@ -478,10 +523,42 @@ def print_table(bench: Bench, unit: str):
     print(row_of("a line of --make, of so many devices (4,000 at most)", costs))
 
 
+def print_leases(bench: Bench, unit: str):
+    """Measures updates of a lease, by how many links the registration has, and prints the rows."""
+    runs = [bench.begin_kind(LEASE, links) for links in LINKS]
+    head = f"{LINKS[0]:>11,}" + "".join(f"{links:>13,}{'':>9}" for links in LINKS[1:])
+    print(f"{f'{unit} a call, with so many links':<52}{head}".rstrip(), flush=True)
+    print(row_of(LEASE.name, [cost_of(LEASE, each) for each in runs]), flush=True)
+
+
+def linked() -> Trace:
+    """As many devices as may register, each with as many short links as all have room for."""
+    trace = Trace()
+    body = ",".join(f'</{number}>;rt="l"' for number in range(LINKS_EACH)).encode()
+    for number in range(MOST):
+        options = [*path("rd"), LINK_FORMAT, *query(f"ep=n{number}", f"lt={LONG}")]
+        trace.write(device(number), POST, options, body)
+    return trace
+
+
+def waits_for_more(process: subprocess.Popen) -> bool:
+    """Whether a process has read all that was written to it, and sleeps."""
+    left = array("i", [0])
+    fcntl.ioctl(process.stdin, termios.FIONREAD, left)
+    state = Path(f"/proc/{process.pid}/stat").read_text().rsplit(")", 1)[1].split()[0]
+    return left[0] == 0 and state == "S"
+
+
 def peak_memory(program: str, trace: bytes) -> float:
-    """The most memory that a run over a trace had at once, in MiB."""
-    run([program, "--workers=1"], trace)
-    return resource.getrusage(resource.RUSAGE_CHILDREN).ru_maxrss / 1_024
+    """The most memory that a run over a trace has had at once when it waits for more, in MiB."""
+    words = [program, "--workers=1"]
+    with subprocess.Popen(words, stdin=subprocess.PIPE, stdout=subprocess.DEVNULL) as process:
+        process.stdin.write(trace)
+        process.stdin.flush()
+        while not waits_for_more(process):
+            time.sleep(0.05)
+        status = Path(f"/proc/{process.pid}/status").read_text()
+    return int(re.search(r"VmHWM:\s+(\d+) kB", status).group(1)) / 1_024
 
 
 def main():
@@ -491,13 +568,19 @@ def main():
     words = parser.parse_args()
     program = str(Path(words.program).resolve())
     memory = peak_memory(program, settled(MOST).text())
+    memory_linked = peak_memory(program, linked().text())
     is_counted = shutil.which("valgrind") and not words.times
     bench = Bench(program, instructions if is_counted else nanoseconds)
     try:
-        print_table(bench, "instructions" if is_counted else "nanoseconds")
+        unit = "instructions" if is_counted else "nanoseconds"
+        print_table(bench, unit)
+        print_leases(bench, unit)
+        if is_counted:
+            print_leases(replace(bench, measure=allocations), "allocations")
     finally:
         bench.pool.shutdown(cancel_futures=True)
-    print(f"memory at most, with {MOST:,} registrations: {memory:.1f} MiB")
+    print(f"memory at most, with {MOST:,} registrations of one link: {memory:.1f} MiB")
+    print(f"with {MOST:,} registrations of {LINKS_EACH} links: {memory_linked:.1f} MiB")
 
 
 if __name__ == "__main__":

@@ -16,6 +16,7 @@ pub mod Desks
 pub mod UnderWay
 pub mod Outcomes
 pub mod Committing
+pub mod ChangeKinds
 pub mod Staging
 pub mod KeepJobs
 pub mod Looking

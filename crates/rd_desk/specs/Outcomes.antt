@@ -8,6 +8,8 @@ use Rattle.history_model.specs.Versions.{Version, VersionStandsFor}
 use Rattle.event_model.specs.declared.notes.Note.{Note}
 use Rattle.event_model.specs.declared.notes.Note.TheVariants as note
 use Rattle.journal_model.specs.Changes as changes
+use Rattle.rd_desk.specs.declared.change_kinds.ChangeKind.{ChangeKind}
+use Rattle.rd_desk.specs.ChangeKinds.{kind_of}
 use Rattle.rd_desk.specs.declared.outcomes.Entering.{Entering}
 use Rattle.rd_desk.specs.declared.outcomes.Outcome.{Outcome}
 use Rattle.message_model.specs.Codes as codes_of
@@ -16,16 +18,17 @@ use Rattle.journal_model.specs.Effects.{diagnostic}
 use Rattle.rd_desk.specs.declared.replies.Reply.{Reply}
 use Rattle.rd_desk.specs.Replies.{IsReply, reply_said}
 
--- the version has this entry after a history, which nothing refuses; the number is that of the registration that the entry is about
-pub record HasEntry (history : List Entry) (last_sweep : ℕ) (entry : Entry) (version : Version) (number : ℕ) : Type 0 where
+-- the version has this entry after a history, which nothing refuses; the number is that of the registration that the entry is about, and the kind that of its change
+pub record HasEntry (history : List Entry) (last_sweep : ℕ) (entry : Entry) (version : Version) (number : ℕ) (kind : ChangeKind) : Type 0 where
   pub stands : VersionStandsFor 0 (history ++ entry ∷ []) version
   pub swept : version.swept ≡ last_sweep
   pub accepted : change_refusal 0 history entry ≡ None
   pub about : number ≡ number_about (replay history) entry.moment.0 entry.change
+  pub is_of : kind ≡ kind_of entry.change
 
 -- so it is of what is ready to be entered
 abbrev pub IsEntering : List Entry → ℕ → Entry → Entering → Type 0
-IsEntering history swept entry e = HasEntry history swept entry (arc_value e.version) e.number
+IsEntering history swept entry e = HasEntry history swept entry (arc_value e.version) e.number e.kind
 
 -- what is ready is of a moment: its entry was made then, and it was not swept later
 abbrev pub IsReadyAt : ℕ → Entering → Type 0

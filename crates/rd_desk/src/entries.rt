@@ -27,9 +27,14 @@ impl Tables {
             → UnderWay rows s starved (joined done (noting (note.Entered entry ∷ []))) self.new out mids }
         ensures version { self.new.version ≡ arc_value entering.version }
     {
-        let Entering { version, number } = entering;
+        let Entering {
+            version,
+            number,
+            kind,
+        } = entering;
         let before = mem::replace(&mut self.version, version);
         self.watching.enter(
+            kind,
             before.record_of(number, self.moment),
             self.version.record_of(number, self.moment),
         );

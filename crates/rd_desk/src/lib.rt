@@ -3,6 +3,7 @@
 
 mod admissions;
 mod bodies;
+mod change_kinds;
 mod commits;
 mod desk;
 mod empty_messages;

@@ -24,6 +24,7 @@ ghost use Rattle.rd_desk.specs.Staging.{IsNextOf};
 ghost use Rattle.rd_desk.specs.Outcomes.{HasEntry, IsTimely, IsPlanned, IsRefusedWith, IsBadBody};
 ghost use Rattle.rd_desk.specs.Replies.{IsReply, reply_said, block1_options};
 
+use crate::change_kinds::ChangeKind;
 use crate::replies::Reply;
 use directory_core::{Directory, Refusal};
 use message_model::Block;
@@ -39,6 +40,8 @@ pub(crate) struct Entering {
     pub version: Arc<Directory>,
     /// The number of the registration that the entry is about.
     pub number: u64,
+    /// The kind of its change.
+    pub kind: ChangeKind,
 }
 
 /// What comes of a write.
@@ -103,6 +106,7 @@ fn entered(
     alloc: Global,
     version: Directory,
     number: u64,
+    kind: ChangeKind,
     reply: Reply<'static>,
 ) -> Result<Outcome, Starved>
     requires reply { IsReply reply }
@@ -110,13 +114,18 @@ fn entered(
     ensures reply { IfOk result (λ o. IsReply o.reply) }
     ensures short { IfOk result (λ o. IsShort o.reply) }
     ensures moments { (moment : ℕ) → version.at ≡ moment → version.swept ≤ moment → IfOk result (IsTimely moment) }
-    ensures planned { (history : List Entry) (swept : ℕ) (entry : Entry) (meant : changes.Outcome) → HasEntry history swept entry version number → reply_said reply.entry ≡ meant.reply
+    ensures planned { (history : List Entry) (swept : ℕ) (entry : Entry) (meant : changes.Outcome) → HasEntry history swept entry version number kind → reply_said reply.entry ≡ meant.reply
         → IfOk result (IsPlanned history swept meant.notes (change_made history entry meant)) }
 {
     let version = Arc::new(alloc, version)?;
+    let entering = Entering {
+        version,
+        number,
+        kind,
+    };
     Ok(Outcome {
         reply,
-        entering: Some(Entering { version, number }),
+        entering: Some(entering),
     })
 }
 
@@ -171,7 +180,10 @@ fn draft_registered(
         → IfOk result (IsPlanned history version.now.swept meant.notes (change_made history entry meant)) }
 {
     match version.register(now, draft) {
-        Ok((version, number)) => entered(alloc, version, number, created(number, block1)),
+        Ok((version, number)) => {
+            let reply = created(number, block1);
+            entered(alloc, version, number, ChangeKind::Registration, reply)
+        }
         Err(refusal) => refused(refusal),
     }
 }
@@ -226,7 +238,10 @@ pub(crate) fn updated(
         → IfOk result (IsPlanned history version.now.swept [] (change_made history (entry_of_step now.0 s (change_of.Update number change)) (record { reply = bare codes_of.changed; notes = [] }))) }
 {
     match version.update(now, number, change, peer) {
-        Ok(version) => entered(alloc, version, number, Reply::plain(68, b"")),
+        Ok(version) => {
+            let reply = Reply::plain(68, b"");
+            entered(alloc, version, number, ChangeKind::Update, reply)
+        }
         Err(refusal) => refused(refusal),
     }
 }
@@ -249,7 +264,10 @@ pub(crate) fn removed(
         → IfOk result (IsPlanned history version.now.swept [] (change_made history (entry_of_step now.0 s (change_of.Remove number)) (record { reply = bare codes_of.deleted; notes = [] }))) }
 {
     match version.remove(now, number) {
-        Ok(version) => entered(alloc, version, number, Reply::plain(66, b"")),
+        Ok(version) => {
+            let reply = Reply::plain(66, b"");
+            entered(alloc, version, number, ChangeKind::Removal, reply)
+        }
         Err(refusal) => refused(refusal),
     }
 }

@@ -24,12 +24,14 @@ ghost use Rattle.journal_model.specs.UnfinishedRow.{making};
 ghost use Rattle.exchange_core.specs.Retransmissions.{Resends};
 ghost use Rattle.observers.specs.ObserverEvents.{notice_due};
 ghost use Rattle.observers.specs.Watchers.{Watcher, is_awaited, next_ready, noticed, due_of, timed, changed_at};
+ghost use Rattle.rd_desk.specs.ChangeKinds.{kind_of};
 ghost use Rattle.rd_desk.specs.Desks.{DirectoryStandsFor};
 ghost use Rattle.rd_desk.specs.Entering.{IsEntered};
 ghost use Rattle.rd_desk.specs.Joining.{observer_joining, joining_notes};
 ghost use Rattle.rd_desk.specs.Noticing.{forming, sending_again, next_noticed};
 ghost use Rattle.rd_desk.specs.Watching.{WatchingStandsFor};
 
+use crate::change_kinds::{ChangeKind, stays_as_shown};
 use crate::joining::{self, Joining};
 use crate::marks::{hand_on, touch_lapsing};
 use directory_core::Directory;
@@ -81,10 +83,15 @@ impl Watching {
         }
     }
 
-    /// An entry was made: the observers are due to whose queries the registration that it is about gives other lines after it than before. Takes no memory.
-    pub(crate) fn enter(&mut self, old: Option<&Record>, new: Option<&Record>)
-        ensures { (rows : List Row) (s : Step) (starved : Bool) (done : Effects) (entry : Entry) → IsDeskJournal rows → is_look s.kind ≡ false → done.notes ≡ [] → IsEntered rows s entry (option_copied old.entry) (option_copied new.entry) → WatchingStandsFor (making rows s starved done) self.old → WatchingStandsFor (making rows s starved (joined done (noting (note.Entered entry ∷ [])))) self.new }
+    /// An entry was made: the observers are due to whose queries the registration that it is about
+    /// gives other lines after it than before. An update that leaves the base and the attributes is
+    /// seen by none, and is compared with no query. Takes no memory.
+    pub(crate) fn enter(&mut self, kind: ChangeKind, old: Option<&Record>, new: Option<&Record>)
+        ensures { (rows : List Row) (s : Step) (starved : Bool) (done : Effects) (entry : Entry) → IsDeskJournal rows → is_look s.kind ≡ false → done.notes ≡ [] → kind ≡ kind_of entry.change → IsEntered rows s entry (option_copied old.entry) (option_copied new.entry) → WatchingStandsFor (making rows s starved done) self.old → WatchingStandsFor (making rows s starved (joined done (noting (note.Entered entry ∷ [])))) self.new }
     {
+        if stays_as_shown(kind, old, new) {
+            return;
+        }
         self.watches.touched(old, new);
         hand_on(&mut self.watches, &mut self.observers);
     }

@@ -30,6 +30,8 @@ use Rattle.journal_model.specs.Changes.{BodyRead, bad_body, good_body, limited_l
 use Rattle.rd_desk.specs.declared.replies.Reply.{Reply}
 use Rattle.rd_desk.specs.declared.outcomes.Entering.{Entering}
 use Rattle.rd_desk.specs.declared.outcomes.Outcome.{Outcome}
+use Rattle.rd_desk.specs.declared.change_kinds.ChangeKind.TheVariants as kind_of_change
+use Rattle.rd_desk.specs.ChangeKinds.{kind_of}
 use Rattle.rd_desk.specs.Outcomes.{HasEntry, IsEntering, IsPlanned, IsBadBody}
 use Rattle.rd_desk.specs.Replies.{IsReply, reply_said}
 
@@ -132,7 +134,7 @@ planned-entered history swept entry meant r e reply said has =
 
 -- the version that a registration gave
 pub registration-HasEntry : (history : List Entry) (swept number : ℕ) (now : Moment) (draft : Draft) (entry : Entry) (v : Version) → IsRegistrationOf now draft entry → VersionStandsFor 0 (history ++ entry ∷ []) v
-    → v.swept ≡ swept → change_refusal 0 history entry ≡ None → number ≡ number_for draft.name now.0 (replay history) → HasEntry history swept entry v number
+    → v.swept ≡ swept → change_refusal 0 history entry ≡ None → number ≡ number_for draft.name now.0 (replay history) → HasEntry history swept entry v number kind_of_change.Registration
 registration-HasEntry history swept number now draft entry v is stands sweeps accepted numbers =
     let name : draft.name ≡ is.params.name = ap (λ (d : Draft). d.name) is.made ∙ drafted_name entry.peer is.params is.links in
     record {
@@ -141,6 +143,7 @@ registration-HasEntry history swept number now draft entry v is stands sweeps ac
       accepted = accepted;
       about = numbers ∙ (ap (λ n. number_for n now.0 (replay history)) name ∙ (ap (λ (m : Moment). number_for is.params.name m.0 (replay history)) (sym is.moment)
           ∙ ap (number_about (replay history) entry.moment.0) (sym is.change)));
+      is_of = ap kind_of (sym is.change);
     }
 
 -- a registration whose draft is of a body that is not refused

@@ -43,9 +43,12 @@ use Rattle.journal_model.proofs.observers.ObserversKnow.{desk-AllKnown}
 use Rattle.journal_model.proofs.observers.SentOctets.{observers_standing-row}
 use Rattle.watch_table.specs.WatchedQueries.{Table, all_touched}
 use Rattle.observers.proofs.StandLaws.{empty-StandsFor}
+use Rattle.rd_desk.specs.declared.change_kinds.ChangeKind.TheVariants as kind_of_change
+use Rattle.rd_desk.specs.ChangeKinds.{kind_of, StaysAsShown}
 use Rattle.rd_desk.specs.Entering.{IsEntered}
 use Rattle.rd_desk.specs.Marks.{all_touched_where}
 use Rattle.rd_desk.specs.Watching.{Watching, WatchingStandsFor}
+use Rattle.rd_desk.proofs.changes.LeaseLaws.{stays-shown, untouched}
 use Rattle.rd_desk.proofs.observers.MarkLaws.{unmarked_same, unmarked_handed}
 use Rattle.rd_desk.proofs.observers.WatchingParts.{handed_on, StandsOver, KeepsConfirmable, shown_same, octets_kept, noted_aside, touched_stands}
 
@@ -279,3 +282,13 @@ WatchingStandsFor-entered rows s starved done entry old new w journal desk none 
         ∙ (listing_unchanged query (length rows) (entries rows) entry.moment.0 (entries rows ++ entry ∷ []) entry.moment.0
         (entry_changes query (length rows) (entries rows) entry entry.moment.0 ∙ (ap₂ (λ a b. is_other_part query a b) (sym into.before) (sym into.after) ∙ fails))
         ∙ sym (ap₂ (λ history moment. listing query history moment) (entries-none rows s starved done none) (now-making rows s starved done desk ∙ sym into.at)))
+
+-- An entry is made that gives each query the lines that it had: nobody is due by it.
+pub WatchingStandsFor-stayed : (rows : List Row) (s : Step) (starved : Bool) (done : Effects) (entry : Entry) (old new : Option Record) (w : Watching) → IsDeskJournal rows → is_look s.kind ≡ false → done.notes ≡ []
+    → kind_of entry.change ≡ kind_of_change.Update → StaysAsShown old new → IsEntered rows s entry old new → WatchingStandsFor (making rows s starved done) w
+    → WatchingStandsFor (making rows s starved (joined done (noting (note.Entered entry ∷ [])))) w
+WatchingStandsFor-stayed rows s starved done entry old new w journal desk none update stays into h =
+    subst (WatchingStandsFor (making rows s starved (joined done (noting (note.Entered entry ∷ [])))))
+    (ap (λ t. handed_on t w.observers) (untouched old new (stays-shown rows s entry old new into update stays) w.watches)
+    ∙ ap₂ (λ t ws. record { watches = t; observers = ws }) (unmarked_same w.watches h.unmarked) (unmarked_handed w.watches w.observers h.unmarked))
+    (WatchingStandsFor-entered rows s starved done entry old new w journal desk none into h)
