@@ -48,7 +48,7 @@ impl Directory {
         };
         let kept = Kept::of(self.alloc, record_from(number, now, draft), octets)?;
         let leases = self.leases.take(old.lapse(), number)?;
-        let leases = leases.put(kept.lapse(), number)?;
+        let leases = leases.with(kept.lapse(), number)?;
         let names = self.names.share()?;
         let index = index_renewed(
             self.alloc,

@@ -1,12 +1,12 @@
 //! Versions of the queue of leases.
-ghost use Rattle.std.specs.Prelude.{◌≡◌, ◌≢◌, ◌↔◌, ◌+◌, ◌<◌, ◌≤◌, [], length, IfOk, Contains};
+ghost use Rattle.std.specs.Prelude.{◌≡◌, ◌≢◌, ◌↔◌, ◌+◌, ◌<◌, ◌≤◌, [], length, Some, IfOk, Contains};
 ghost use Rattle.std.specs.Map.{keys_of};
 ghost use Rattle.lease_queue.specs.declared.leases.Lease.{Lease};
 ghost use Rattle.lease_queue.specs.Leases.{IsAscending, with_lease, without_lease, lapsed_at, unlapsed_at};
 
 use crate::leases::has_lapsed;
 use crate::{LapsedIter, Lease};
-use chunk_map::{ChunkMap, RangeIter};
+use chunk_map::{Change, ChunkMap, RangeIter};
 use rd_base::{Moment, Starved, Steps};
 use std::alloc::Global;
 use std::marker::{Brand, Model};
@@ -20,6 +20,31 @@ pub struct LeaseQueue {
     leases: ChunkMap<Lease, ()>,
     /// The allocator of what is made of it.
     alloc: Global,
+}
+
+/// A lease comes, and stays where it is there.
+#[derive(Drop)]
+struct Comes;
+
+impl Change<()> for Comes {
+    ghost gives = { λ _ _ new. new ≡ Some tt };
+
+    fn begin(self) -> Result<Option<()>, Starved> {
+        Ok(Some(()))
+    }
+
+    fn follow(self, _: &()) -> Result<Option<()>, Starved> {
+        Ok(Some(()))
+    }
+}
+
+/// These leases as keys, with one more; what no other map has is changed in place. `Starved`: out of
+/// memory.
+fn with_key(leases: ChunkMap<Lease, ()>, lease: Lease) -> Result<ChunkMap<Lease, ()>, Starved>
+    requires { IsAscending (keys_of leases) }
+    ensures { IfOk result (λ map. keys_of map ≡ with_lease (keys_of leases) lease) }
+{
+    leases.changed(&lease, Comes)
 }
 
 /// What a sweep gives.
@@ -79,6 +104,19 @@ impl LeaseQueue {
             leases: self.leases.put(lease, ())?,
             alloc: self.alloc,
         })
+    }
+
+    /// This queue with this lease more, as [`LeaseQueue::put`] makes one: what no other queue has is
+    /// changed in place. `Starved`: out of memory; this queue is gone then, and all others are as
+    /// before.
+    pub fn with(self, lapse: Moment, number: u64) -> Result<LeaseQueue, Starved>
+        ensures queue { IfOk result (λ queue. queue
+            ≡ with_lease self (record { lapse = lapse; number = number })) }
+        ensures ascends { IfOk result (λ queue. IsAscending queue) }
+    {
+        let LeaseQueue { leases, alloc } = self;
+        let leases = with_key(leases, Lease { lapse, number })?;
+        Ok(LeaseQueue { leases, alloc })
     }
 
     /// The queue without this lease; an equal one where it is not there.

@@ -1,4 +1,4 @@
-use Rattle.std.proofs.Common.{rules, ◌≡◌, ◌∷◌, [], false, true, refl, sym, ap, ◌∙◌, subst}
+use Rattle.std.proofs.Common.{rules, ◌≡◌, false, true, sym, ap, ◌∙◌, subst}
 use Rattle.std.specs.Map.{keys_of}
 use Rattle.lease_queue.specs.Leases.{IsAscending, has_lapsed, lapsed_at}
 use Rattle.lease_queue.proofs.QueueLaws.{none_holds, lapsed_empty, lapsed_end, lapsed_first, ascends_rest}

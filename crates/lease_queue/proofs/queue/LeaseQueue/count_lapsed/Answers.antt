@@ -1,5 +1,4 @@
-use Rattle.std.proofs.Common.{rules, ◌≡◌, ◌≤◌, length, sym, ap, ◌∙◌, arith}
-use Rattle.std.specs.Map.{keys_of}
+use Rattle.std.proofs.Common.{◌≡◌, length, sym, ap, ◌∙◌, arith}
 use Rattle.lease_queue.specs.Leases.{lapsed_at}
 use Rattle.lease_queue.proofs.QueueLaws.{lapsed_within, keys_count}
 use Rattle.lease_queue.proofs.queue.LeaseQueue.count_lapsed.Goals as goal

@@ -1,4 +1,4 @@
-use Rattle.std.proofs.Common.{rules, ◌≡◌, ◌+◌, ◌∷◌, [], ◌++◌, length, false, true, sym, ap, ◌∙◌, subst, arith}
+use Rattle.std.proofs.Common.{rules, ◌≡◌, ◌+◌, ◌∷◌, ◌++◌, length, true, sym, ap, ◌∙◌, subst, arith}
 use Rattle.std.specs.Map.{keys_of}
 use Rattle.lease_queue.specs.Leases.{IsAscending, has_lapsed, lapsed_at, unlapsed_at, without_lease}
 use Rattle.lease_queue.proofs.QueueLaws.{numbers_end, nothing_left, none_left, numbers_on, without_first, lapsed_first, unlapsed_first, ascends_rest}

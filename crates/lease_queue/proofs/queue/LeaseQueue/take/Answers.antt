@@ -1,4 +1,4 @@
-use Rattle.std.proofs.Common.{◌≡◌, Contains, ap, sym, ◌∙◌, subst}
+use Rattle.std.proofs.Common.{Contains, ap, sym, ◌∙◌, subst}
 use Rattle.std.specs.Map.{keys_of}
 use Rattle.lease_queue.specs.declared.leases.Lease.{Lease}
 use Rattle.lease_queue.specs.Leases.{IsAscending, without_lease}
