@@ -12,7 +12,8 @@ use block_wise::slice_of;
 use message_model::Block;
 use rd_base::Tag;
 
-/// The exponent of the greatest block size, 1,024 octets, which is taken where none is asked for (RFC 7959 section 2.2).
+/// The exponent of the greatest block size, 1,024 octets, which is taken where none is asked for
+/// (RFC 7959 section 2.2).
 const GREATEST_SZX: u8 = 6;
 
 /// The number of the block that is asked for, 0 where none is.
@@ -37,7 +38,8 @@ pub(crate) fn szx_of(asked: &Option<Block>) -> u8
     }
 }
 
-/// The block that the answer names: the one that was asked for, or else the first, where more follow.
+/// The block that the answer names: the one that was asked for, or else the first, where more
+/// follow.
 fn answered_block(asked: &Option<Block>, more: bool) -> Option<Block>
     requires { ForSome asked.now IsBlock }
     ensures answered { result ≡ bodies_of.answered_block asked.now more }
@@ -70,8 +72,8 @@ fn first_block(more: bool) -> Option<Block>
     })
 }
 
-/// The answer with the block of a body that is asked for, the first where none is, under a tag and an Observe value; 4.00 where it
-/// lies past the end of the body.
+/// The answer with the block of a body that is asked for, the first where none is, under a tag and
+/// an Observe value; 4.00 where it lies past the end of the body.
 #[tactic(auto, unfolding(journal_model::specs::Bodies::body_reply))]
 pub(crate) fn body_reply<'a>(
     tag: Option<Tag>,
@@ -81,7 +83,8 @@ pub(crate) fn body_reply<'a>(
 ) -> Reply<'a>
     requires asked { ForSome asked.now IsBlock }
     requires observe { ForSome observe (λ value. value < 2 ^ 24) }
-    ensures said { reply_said result ≡ bodies_of.body_reply (tag_octets tag) observe asked.now body.now }
+    ensures said { reply_said result
+        ≡ bodies_of.body_reply (tag_octets tag) observe asked.now body.now }
     ensures reply { IsReply result }
 {
     let Some((part, more)) = slice_of(body, number_of(asked), szx_of(asked)) else {

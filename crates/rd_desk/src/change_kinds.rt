@@ -25,11 +25,12 @@ fn is_placed_alike(old: &Record, new: &Record) -> bool
     old.base == new.base && old.attrs == new.attrs
 }
 
-/// Whether a change is an update that leaves the base and the attributes of its registration, and so
-/// its links: all that a lookup shows of it. It looks at no link.
+/// Whether a change is an update that leaves the base and the attributes of its registration, and
+/// so its links: all that a lookup shows of it. It looks at no link.
 pub(crate) fn stays_as_shown(kind: ChangeKind, old: Option<&Record>, new: Option<&Record>) -> bool
     ensures update { IsTrue result → kind ≡ kind_of_change.Update }
-    ensures stays { IsTrue result → StaysAsShown (option_copied old.entry) (option_copied new.entry) }
+    ensures stays { IsTrue result
+        → StaysAsShown (option_copied old.entry) (option_copied new.entry) }
 {
     match (kind, old, new) {
         (ChangeKind::Update, Some(old), Some(new)) => is_placed_alike(old, new),

@@ -1,5 +1,7 @@
-//! Writes that were admitted are done: what they ask for is made, and they are answered (RFC 9176 section 5, RFC 7252 section 4.5).
-ghost use Rattle.std.specs.Prelude.{◌≡◌, ◌+◌, ◌<◌, ◌≤◌, ◌^◌, ℕ, Bool, [], List, length, Ok, IfOk, false};
+//! Writes that were admitted are done: what they ask for is made, and they are answered (RFC 9176
+//! section 5, RFC 7252 section 4.5).
+ghost use Rattle.std.specs.Prelude.{◌≡◌, ◌+◌, ◌<◌, ◌≤◌, ◌^◌, ℕ, Bool, [], List, length, Ok, IfOk};
+ghost use Rattle.std.specs.Prelude.{false};
 ghost use Rattle.message_model.specs.Message.{Message, longest_token};
 ghost use Rattle.message_model.specs.Reading.{reading};
 ghost use Rattle.event_model.specs.AdmissionOrder.{IsOpen};
@@ -35,7 +37,8 @@ use rd_base::{Moment, Peer, Starved};
 use std::alloc::Global;
 
 impl Tables {
-    /// What is planned of a write is done: its entry is made, where it makes one, and then its answer settles it. Takes no memory.
+    /// What is planned of a write is done: its entry is made, where it makes one, and then its
+    /// answer settles it. Takes no memory.
     fn conclude(
         &mut self,
         mids: &mut Mids,
@@ -50,9 +53,15 @@ impl Tables {
         requires short { IsShort outcome.reply }
         requires timely { IsTimely self.old.moment outcome }
         requires room { length out.old < most_datagrams }
-        ensures way { (rows : List Row) (s : Step) (starved : Bool) (place : ℕ) (meant : changes.Outcome) → s.peer ≡ peer → IsOpen place peer view.now.mid admitted.0 (events rows)
-            → IsMadeAt (row_moment rows s) meant → IsPlanned (entries rows) self.old.version.swept [] meant outcome
-            → UnderWay rows s starved nothing self.old out.old mids.old → UnderWay rows s starved (settling place s (message_in view.now) meant) self.new out.new mids.new }
+        ensures way { (rows : List Row) (s : Step) (starved : Bool) (place : ℕ)
+            (meant : changes.Outcome)
+            → s.peer ≡ peer
+            → IsOpen place peer view.now.mid admitted.0 (events rows)
+            → IsMadeAt (row_moment rows s) meant
+            → IsPlanned (entries rows) self.old.version.swept [] meant outcome
+            → UnderWay rows s starved nothing self.old out.old mids.old
+            → UnderWay rows s starved (settling place s (message_in view.now) meant) self.new
+            out.new mids.new }
         ensures version { IsLeftBy self.old.version self.new.version outcome.entering }
     {
         let Outcome { reply, entering } = outcome;
@@ -64,7 +73,8 @@ impl Tables {
         self.settle(mids, peer, view, admitted, &reply, out);
     }
 
-    /// A write that was admitted is done as it is planned, or fails where memory ran out meanwhile. Takes no memory.
+    /// A write that was admitted is done as it is planned, or fails where memory ran out meanwhile.
+    /// Takes no memory.
     pub(crate) fn finish<B: Board>(
         &mut self,
         board: &mut B,
@@ -82,12 +92,20 @@ impl Tables {
         requires room { length out.old < most_datagrams }
         requires free { B.has_staged board.old ≡ false }
         requires told { AreToldOf self.old.version (B.told board.old) }
-        requires next { (history : List Entry) → VersionStandsFor 0 history self.old.version → IfOk planned (IsNextOf history) }
-        ensures way { (rows : List Row) (s : Step) (place : ℕ) (meant : changes.Outcome) → s.peer ≡ peer → IsOpen place s.peer view.now.mid admitted.0 (events rows)
-            → IsMadeAt (row_moment rows s) meant → IfOk planned (IsPlanned (entries rows) self.old.version.swept [] meant)
+        requires next { (history : List Entry)
+            → VersionStandsFor 0 history self.old.version
+            → IfOk planned (IsNextOf history) }
+        ensures way { (rows : List Row) (s : Step) (place : ℕ) (meant : changes.Outcome)
+            → s.peer ≡ peer
+            → IsOpen place s.peer view.now.mid admitted.0 (events rows)
+            → IsMadeAt (row_moment rows s) meant
+            → IfOk planned (IsPlanned (entries rows) self.old.version.swept [] meant)
             → UnderWay rows s (is_starved_step result) nothing self.old out.old mids.old
-            → UnderWay rows s (is_starved_step result) (unless_failing (is_starved_step result) place s (message_in view.now) (settling place s (message_in view.now) meant)) self.new out.new mids.new }
-        ensures laid { IsLaid self.old.version self.new.version (B.staged board.old) (B.staged board.new) (B.has_staged board.new) }
+            → UnderWay rows s (is_starved_step result)
+            (unless_failing (is_starved_step result) place s (message_in view.now)
+            (settling place s (message_in view.now) meant)) self.new out.new mids.new }
+        ensures laid { IsLaid self.old.version self.new.version (B.staged board.old)
+            (B.staged board.new) (B.has_staged board.new) }
         ensures name { B.name board.new ≡ B.name board.old }
         ensures told { B.told board.new ≡ B.told board.old }
     {
@@ -115,10 +133,17 @@ impl Tables {
         requires room { length out.old + 1 < most_datagrams }
         requires free { B.has_staged board.old ≡ false }
         requires told { AreToldOf self.old.version (B.told board.old) }
-        ensures way { (rows : List Row) (s : Step) (place : ℕ) (m : Message) → s.peer ≡ job.peer → s.word ≡ 0 → reading job.datagram ≡ Ok m → IsOpen place s.peer m.mid job.admitted (events rows)
+        ensures way { (rows : List Row) (s : Step) (place : ℕ) (m : Message)
+            → s.peer ≡ job.peer
+            → s.word ≡ 0
+            → reading job.datagram ≡ Ok m
+            → IsOpen place s.peer m.mid job.admitted (events rows)
             → UnderWay rows s (is_starved_step result) nothing self.old out.old mids.old
-            → UnderWay rows s (is_starved_step result) (done (is_starved_step result) rows (row_moment rows s) place s (reading job.datagram)) self.new out.new mids.new }
-        ensures laid { IsLaid self.old.version self.new.version (B.staged board.old) (B.staged board.new) (B.has_staged board.new) }
+            → UnderWay rows s (is_starved_step result)
+            (done (is_starved_step result) rows (row_moment rows s) place s
+            (reading job.datagram)) self.new out.new mids.new }
+        ensures laid { IsLaid self.old.version self.new.version (B.staged board.old)
+            (B.staged board.new) (B.has_staged board.new) }
         ensures name { B.name board.new ≡ B.name board.old }
         ensures told { B.told board.new ≡ B.told board.old }
     {
@@ -144,7 +169,8 @@ impl Tables {
         }
     }
 
-    /// The step that does a write that was admitted, at a moment that is at most 10^15; one below that of the tables is lifted to it. `out` is empty.
+    /// The step that does a write that was admitted, at a moment that is at most 10^15; one below
+    /// that of the tables is lifted to it. `out` is empty.
     pub(crate) fn commit<B: Board>(
         &mut self,
         alloc: Global,
@@ -158,9 +184,17 @@ impl Tables {
         requires empty { out.old ≡ [] }
         requires free { B.has_staged board.old ≡ false }
         requires told { AreToldOf self.old.version (B.told board.old) }
-        ensures made { (rows : List Row) (s : Step) (place : ℕ) (m : Message) → s.kind ≡ step.Commit place → s.peer ≡ job.peer → s.datagram ≡ job.datagram → s.word ≡ 0 → reading job.datagram ≡ Ok m
-            → IsOpen place s.peer m.mid job.admitted (events rows) → IsCalled rows s now mids.old self.old → Made rows (row rows s (is_starved_step result)) self.new out.new mids.old mids.new }
-        ensures laid { IsLaid self.old.version self.new.version (B.staged board.old) (B.staged board.new) (B.has_staged board.new) }
+        ensures made { (rows : List Row) (s : Step) (place : ℕ) (m : Message)
+            → s.kind ≡ step.Commit place
+            → s.peer ≡ job.peer
+            → s.datagram ≡ job.datagram
+            → s.word ≡ 0
+            → reading job.datagram ≡ Ok m
+            → IsOpen place s.peer m.mid job.admitted (events rows)
+            → IsCalled rows s now mids.old self.old
+            → Made rows (row rows s (is_starved_step result)) self.new out.new mids.old mids.new }
+        ensures laid { IsLaid self.old.version self.new.version (B.staged board.old)
+            (B.staged board.new) (B.has_staged board.new) }
         ensures name { B.name board.new ≡ B.name board.old }
         ensures told { B.told board.new ≡ B.told board.old }
     {

@@ -1,5 +1,7 @@
-//! The core of the directory: one call is one step, and does what the journal says of its row (RFC 9176, RFC 7252, RFC 7641, RFC 7959).
-ghost use Rattle.std.specs.Prelude.{◌≡◌, ◌≤◌, ◌^◌, ℕ, true, false, [], ◌∷◌, List, Some, Ok, IfOk, IfErr, IfSome, length, slice_get};
+//! The core of the directory: one call is one step, and does what the journal says of its row (RFC
+//! 9176, RFC 7252, RFC 7641, RFC 7959).
+ghost use Rattle.std.specs.Prelude.{◌≡◌, ◌≤◌, ◌^◌, ℕ, true, false, [], ◌∷◌, List, Some, Ok, IfOk};
+ghost use Rattle.std.specs.Prelude.{IfErr, IfSome, length, slice_get};
 ghost use Rattle.std.specs.Arc.{arc_value};
 ghost use Rattle.std.specs.Borrow.{Lends, sem};
 ghost use Rattle.message_model.specs.Message.{Message};
@@ -30,7 +32,8 @@ use std::alloc::Global;
 use std::marker::Model;
 use std::sync::Arc;
 
-/// A directory. Contracts see what it keeps, which says the journal that it stands for, and the board that its versions are laid on.
+/// A directory. Contracts see what it keeps, which says the journal that it stands for, and the
+/// board that its versions are laid on.
 #[derive(Drop)]
 pub struct Desk<B: Board> {
     /// Where its memory comes from.
@@ -74,8 +77,9 @@ impl<B: Board + Drop> Desk<B> {
 impl<B: Board> Desk<B> {
     ghost use Rattle.rd_desk.specs.contracts.desk.Desk.{the_row};
 
-    /// A directory in which nothing was done, with all the room that its tables take. Nothing is staged on the board, and its entries, where it tells them, are none.
-    /// Out of memory the board comes back.
+    /// A directory in which nothing was done, with all the room that its tables take. Nothing is
+    /// staged on the board, and its entries, where it tells them, are none. Out of memory the board
+    /// comes back.
     pub fn make_or_return(alloc: Global, board: B) -> Result<Desk<B>, Unmade<B>>
         requires free { B.has_staged board ≡ false }
         requires told { IfSome (B.told board) (λ history. history ≡ []) }
@@ -93,11 +97,15 @@ impl<B: Board> Desk<B> {
         })
     }
 
-    /// The step that hears a datagram of a peer, which is not one that only looks ([`crate::is_look`]), at a moment in milliseconds that is at most 10^15; one below that of the
-    /// directory is lifted to it. Waits of messages that go out are made from the word. `out` is empty, and gets what is sent. `Held`: it is a write that is admitted, and the worker
-    /// has its job. `Starved`: out of memory; a request is answered 5.00, a response is as if it had not come (RFC 7252 section 4).
+    /// The step that hears a datagram of a peer, which is not one that only looks
+    /// ([`crate::is_look`]), at a moment in milliseconds that is at most 10^15; one below that of
+    /// the directory is lifted to it. Waits of messages that go out are made from the word. `out`
+    /// is empty, and gets what is sent. `Held`: it is a write that is admitted, and the worker has
+    /// its job. `Starved`: out of memory; a request is answered 5.00, a response is as if it had
+    /// not come (RFC 7252 section 4).
     ///
-    /// Nothing is staged on the board, and its entries, where it tells them, are those of the directory. Where the step makes an entry, its version is staged afterwards.
+    /// Nothing is staged on the board, and its entries, where it tells them, are those of the
+    /// directory. Where the step makes an entry, its version is staged afterwards.
     pub fn admit(
         &mut self,
         now: Moment,
@@ -112,18 +120,40 @@ impl<B: Board> Desk<B> {
         requires empty { out.old ≡ [] }
         requires free { B.has_staged self.old.board ≡ false }
         requires told { AreToldOf self.old.tables.version (B.told self.old.board) }
-        // The desk stands for the journal with the row of the step, which is what was sent and drawn.
-        ensures made { (rows : List Row) (s : Step) → s.kind ≡ step.Admit → s.peer ≡ peer → s.datagram ≡ datagram.now → s.word ≡ word → IsCalled rows s now mids.old self.old.tables
-            → Made rows (row rows s (is_starved_admission result)) self.new.tables out.new mids.old mids.new }
+        // The desk stands for the journal with the row of the step, which is what was sent and
+        // drawn.
+        ensures made { (rows : List Row) (s : Step)
+            → s.kind ≡ step.Admit
+            → s.peer ≡ peer
+            → s.datagram ≡ datagram.now
+            → s.word ≡ word
+            → IsCalled rows s now mids.old self.old.tables
+            → Made rows (row rows s (is_starved_admission result)) self.new.tables out.new mids.old
+            mids.new }
         // The worker has the job of the write that the row admits, where it admits one.
-        ensures held { (rows : List Row) (s : Step) → s.kind ≡ step.Admit → s.peer ≡ peer → s.datagram ≡ datagram.now → IsCalled rows s now mids.old self.old.tables
-            → IsHeldFor result (row rows s (is_starved_admission result)).notes s (row_moment rows s) }
+        ensures held { (rows : List Row) (s : Step)
+            → s.kind ≡ step.Admit
+            → s.peer ≡ peer
+            → s.datagram ≡ datagram.now
+            → IsCalled rows s now mids.old self.old.tables
+            → IsHeldFor result (row rows s (is_starved_admission result)).notes s
+            (row_moment rows s) }
         // Refusals, repeats, empty messages, and responses that belong to no fetch take no memory.
-        ensures unstarved { (rows : List Row) (s : Step) → s.peer ≡ peer → s.datagram ≡ datagram.now → IsCalled rows s now mids.old self.old.tables
-            → takes_memory rows (row_moment rows s) s (reading datagram.now) ≡ false → is_starved_admission result ≡ false }
+        ensures unstarved { (rows : List Row) (s : Step)
+            → s.peer ≡ peer
+            → s.datagram ≡ datagram.now
+            → IsCalled rows s now mids.old self.old.tables
+            → takes_memory rows (row_moment rows s) s (reading datagram.now) ≡ false
+            → is_starved_admission result ≡ false }
         // Its version is staged where it makes an entry, and else nothing is.
-        ensures staged { (rows : List Row) (s : Step) → s.kind ≡ step.Admit → s.peer ≡ peer → s.datagram ≡ datagram.now → s.word ≡ word → IsCalled rows s now mids.old self.old.tables
-            → LeavesStaged (row rows s (is_starved_admission result)).notes self.new.tables.version (B.staged self.old.board) (B.staged self.new.board) (B.has_staged self.new.board) }
+        ensures staged { (rows : List Row) (s : Step)
+            → s.kind ≡ step.Admit
+            → s.peer ≡ peer
+            → s.datagram ≡ datagram.now
+            → s.word ≡ word
+            → IsCalled rows s now mids.old self.old.tables
+            → LeavesStaged (row rows s (is_starved_admission result)).notes self.new.tables.version
+            (B.staged self.old.board) (B.staged self.new.board) (B.has_staged self.new.board) }
         ensures name { B.name self.new.board ≡ B.name self.old.board }
         ensures told { B.told self.new.board ≡ B.told self.old.board }
     {
@@ -139,11 +169,14 @@ impl<B: Board> Desk<B> {
         )
     }
 
-    /// The step that does a write that was admitted, at a moment in milliseconds that is at most 10^15; one below that of the directory is lifted to it. The job is of an admission
-    /// of this directory that nothing has ended since. `out` is empty, and gets what is sent. `Starved`: out of memory; nothing is changed, the request is answered 5.00, and the
-    /// write may come again as a new one (RFC 9176 section 5, RFC 7252 section 4.5).
+    /// The step that does a write that was admitted, at a moment in milliseconds that is at most
+    /// 10^15; one below that of the directory is lifted to it. The job is of an admission of this
+    /// directory that nothing has ended since. `out` is empty, and gets what is sent. `Starved`:
+    /// out of memory; nothing is changed, the request is answered 5.00, and the write may come
+    /// again as a new one (RFC 9176 section 5, RFC 7252 section 4.5).
     ///
-    /// Nothing is staged on the board, and its entries, where it tells them, are those of the directory. Where the step makes an entry, its version is staged afterwards.
+    /// Nothing is staged on the board, and its entries, where it tells them, are those of the
+    /// directory. Where the step makes an entry, its version is staged afterwards.
     pub fn commit(
         &mut self,
         now: Moment,
@@ -155,14 +188,29 @@ impl<B: Board> Desk<B> {
         requires empty { out.old ≡ [] }
         requires free { B.has_staged self.old.board ≡ false }
         requires told { AreToldOf self.old.tables.version (B.told self.old.board) }
-        // The desk stands for the journal with the row of the step, which is what was sent and drawn.
-        ensures made { (rows : List Row) (s : Step) (place : ℕ) (m : Message) → s.kind ≡ step.Commit place → s.peer ≡ job.peer → s.datagram ≡ job.datagram → s.word ≡ 0 → reading job.datagram ≡ Ok m
-            → IsOpen place s.peer m.mid job.admitted (events rows) → IsCalled rows s now mids.old self.old.tables
-            → Made rows (row rows s (is_starved_step result)) self.new.tables out.new mids.old mids.new }
+        // The desk stands for the journal with the row of the step, which is what was sent and
+        // drawn.
+        ensures made { (rows : List Row) (s : Step) (place : ℕ) (m : Message)
+            → s.kind ≡ step.Commit place
+            → s.peer ≡ job.peer
+            → s.datagram ≡ job.datagram
+            → s.word ≡ 0
+            → reading job.datagram ≡ Ok m
+            → IsOpen place s.peer m.mid job.admitted (events rows)
+            → IsCalled rows s now mids.old self.old.tables
+            → Made rows (row rows s (is_starved_step result)) self.new.tables out.new mids.old
+            mids.new }
         // Its version is staged where it makes an entry, and else nothing is.
-        ensures staged { (rows : List Row) (s : Step) (place : ℕ) (m : Message) → s.kind ≡ step.Commit place → s.peer ≡ job.peer → s.datagram ≡ job.datagram → s.word ≡ 0 → reading job.datagram ≡ Ok m
-            → IsOpen place s.peer m.mid job.admitted (events rows) → IsCalled rows s now mids.old self.old.tables
-            → LeavesStaged (row rows s (is_starved_step result)).notes self.new.tables.version (B.staged self.old.board) (B.staged self.new.board) (B.has_staged self.new.board) }
+        ensures staged { (rows : List Row) (s : Step) (place : ℕ) (m : Message)
+            → s.kind ≡ step.Commit place
+            → s.peer ≡ job.peer
+            → s.datagram ≡ job.datagram
+            → s.word ≡ 0
+            → reading job.datagram ≡ Ok m
+            → IsOpen place s.peer m.mid job.admitted (events rows)
+            → IsCalled rows s now mids.old self.old.tables
+            → LeavesStaged (row rows s (is_starved_step result)).notes self.new.tables.version
+            (B.staged self.old.board) (B.staged self.new.board) (B.has_staged self.new.board) }
         ensures name { B.name self.new.board ≡ B.name self.old.board }
         ensures told { B.told self.new.board ≡ B.told self.old.board }
     {
@@ -170,38 +218,58 @@ impl<B: Board> Desk<B> {
             .commit(self.alloc, &mut self.board, now, mids, job, out)
     }
 
-    /// The step that does the job to keep a listing, at a moment in milliseconds that is at most 10^15; one below that of the directory is lifted to it. `out` is empty, and gets
-    /// what is sent: the block of the listing that was asked for (RFC 7959 section 2.4). `Starved`: out of memory; nothing is kept, and the request is answered 5.00.
+    /// The step that does the job to keep a listing, at a moment in milliseconds that is at most
+    /// 10^15; one below that of the directory is lifted to it. `out` is empty, and gets what is
+    /// sent: the block of the listing that was asked for (RFC 7959 section 2.4). `Starved`: out of
+    /// memory; nothing is kept, and the request is answered 5.00.
     pub fn keep(&mut self, now: Moment, mids: &mut Mids, job: KeepJob, out: &mut Outbox) -> Stepped
         requires moment { now.0 ≤ 10 ^ 15 }
         requires empty { out.old ≡ [] }
-        // The desk stands for the journal with the row of the step, which is what was sent and drawn.
-        ensures made { (rows : List Row) (s : Step) → s.kind ≡ step.Keep job.answer.body job.answer.tag → s.peer ≡ job.peer → s.datagram ≡ job.datagram → IsCalled rows s now mids.old self.old.tables
-            → Made rows (row rows s (is_starved_step result)) self.new.tables out.new mids.old mids.new }
+        // The desk stands for the journal with the row of the step, which is what was sent and
+        // drawn.
+        ensures made { (rows : List Row) (s : Step)
+            → s.kind ≡ step.Keep job.answer.body job.answer.tag
+            → s.peer ≡ job.peer
+            → s.datagram ≡ job.datagram
+            → IsCalled rows s now mids.old self.old.tables
+            → Made rows (row rows s (is_starved_step result)) self.new.tables out.new mids.old
+            mids.new }
         ensures board { self.new.board ≡ self.old.board }
     {
         self.tables.keep(self.alloc, now, mids, job, out)
     }
 
-    /// The step in which time passes, at a moment in milliseconds that is at most 10^15; one below that of the directory is lifted to it. Notices and requests whose wait has ended
-    /// are sent again, and observers that are due are told, 64 at most; the first waits of what goes out are made from the word. Then what is old or has lapsed is dropped. `out` is
-    /// empty, and gets what is sent. `Starved`: out of memory; then nobody is told anew, and the rest is done (RFC 7252 section 4.2, RFC 7641 sections 4.2 and 4.5). Only notices
-    /// that are formed need memory: what has lapsed stays stored where there is none to drop it, and is listed no more all the same.
+    /// The step in which time passes, at a moment in milliseconds that is at most 10^15; one below
+    /// that of the directory is lifted to it. Notices and requests whose wait has ended are sent
+    /// again, and observers that are due are told, 64 at most; the first waits of what goes out are
+    /// made from the word. Then what is old or has lapsed is dropped. `out` is empty, and gets what
+    /// is sent. `Starved`: out of memory; then nobody is told anew, and the rest is done (RFC 7252
+    /// section 4.2, RFC 7641 sections 4.2 and 4.5). Only notices that are formed need memory: what
+    /// has lapsed stays stored where there is none to drop it, and is listed no more all the same.
     pub fn tick(&mut self, now: Moment, word: u32, mids: &mut Mids, out: &mut Outbox) -> Stepped
         requires moment { now.0 ≤ 10 ^ 15 }
         requires empty { out.old ≡ [] }
-        // The desk stands for the journal with the row of the step, which is what was sent and drawn.
-        ensures made { (rows : List Row) (s : Step) → s.kind ≡ step.Tick → s.word ≡ word → IsCalled rows s now mids.old self.old.tables
-            → Made rows (row rows s (is_starved_step result)) self.new.tables out.new mids.old mids.new }
+        // The desk stands for the journal with the row of the step, which is what was sent and
+        // drawn.
+        ensures made { (rows : List Row) (s : Step)
+            → s.kind ≡ step.Tick
+            → s.word ≡ word
+            → IsCalled rows s now mids.old self.old.tables
+            → Made rows (row rows s (is_starved_step result)) self.new.tables out.new mids.old
+            mids.new }
         // Where no observer is due whose peer waits for no notice, it takes no memory.
-        ensures unstarved { (rows : List Row) (s : Step) → s.kind ≡ step.Tick → IsCalled rows s now mids.old self.old.tables → tick_takes_memory rows (row_moment rows s) s ≡ false
+        ensures unstarved { (rows : List Row) (s : Step)
+            → s.kind ≡ step.Tick
+            → IsCalled rows s now mids.old self.old.tables
+            → tick_takes_memory rows (row_moment rows s) s ≡ false
             → is_starved_step result ≡ false }
         ensures board { self.new.board ≡ self.old.board }
     {
         self.tables.tick(self.alloc, now, word, mids, out)
     }
 
-    /// The version of the registrations now, from which a look is answered ([`crate::look`]). A desk that stands for a journal stands for it with a look more.
+    /// The version of the registrations now, from which a look is answered ([`crate::look`]). A
+    /// desk that stands for a journal stands for it with a look more.
     pub fn version(&self) -> &Arc<Directory>
         ensures value { arc_value result.now ≡ self.now.tables.version }
         ensures looked { (rows : List Row) (r : Row) → is_look r.step.kind ≡ true → r.notes ≡ []
@@ -210,8 +278,9 @@ impl<B: Board> Desk<B> {
         &self.tables.version
     }
 
-    /// The greatest moment that was handed in, in milliseconds, at most 10^15. It is not before the last entry of the version of the registrations, and not before its last
-    /// sweep, so that the version can be asked at it.
+    /// The greatest moment that was handed in, in milliseconds, at most 10^15. It is not before the
+    /// last entry of the version of the registrations, and not before its last sweep, so that the
+    /// version can be asked at it.
     pub fn moment(&self) -> Moment
         ensures value { result.0 ≡ self.now.tables.moment }
         ensures most { result.0 ≤ 10 ^ 15 }
@@ -224,7 +293,10 @@ impl<B: Board> Desk<B> {
     /// The observer with an index, in the order in which they joined; none from their number on.
     pub fn observer(&self, index: usize) -> Option<Watcher>
         ensures shown { IsShown (slice_get self.now.tables.watching.observers index) result }
-        ensures observer { (rows : List Row) (o : Observed) → StandsFor rows self.now.tables → slice_get (observers (events rows)) index ≡ Some o → IfSome result (IsObserverAfter rows o) }
+        ensures observer { (rows : List Row) (o : Observed)
+            → StandsFor rows self.now.tables
+            → slice_get (observers (events rows)) index ≡ Some o
+            → IfSome result (IsObserverAfter rows o) }
     {
         self.tables.observer(index)
     }
@@ -239,7 +311,8 @@ impl<B: Board> Desk<B> {
     /// The board. What the desk keeps stays as it is, and the board is what the reference leaves.
     pub fn board(&mut self) -> &mut B
         ensures value { result.now ≡ self.old.board }
-        ensures* writes_back { sem 𝓛 (Lends (the_row B.row B.Board) B.row self.entry result (λ (board : B). record { tables = self.old.tables; board = board })) }
+        ensures* writes_back { sem 𝓛 (Lends (the_row B.row B.Board) B.row self.entry result
+            (λ (board : B). record { tables = self.old.tables; board = board })) }
     {
         &mut self.board
     }

@@ -12,11 +12,15 @@ use crate::Outbox;
 use coap_message::{Kind4, Writer};
 use rd_base::Peer;
 
-/// An empty message of this type is sent: a Reset of a message, as to a ping, or its acknowledgement (RFC 7252 sections 4.2 and 4.3).
+/// An empty message of this type is sent: a Reset of a message, as to a ping, or its
+/// acknowledgement (RFC 7252 sections 4.2 and 4.3).
 pub(crate) fn send_empty(peer: Peer, kind: Kind4, mid: u16, out: &mut Outbox)
     requires { length out.old < most_datagrams }
     ensures sent { out.new ≡ out.old ++ (peer, spelling (effects.empty_message kind mid)) ∷ [] }
-    ensures sends { (s : Step) (mids : Mids) → s.peer ≡ peer → Sends (sending s.peer (spelling (effects.empty_message kind mid))) out.old out.new mids mids }
+    ensures sends { (s : Step) (mids : Mids)
+        → s.peer ≡ peer
+        → Sends (sending s.peer (spelling (effects.empty_message kind mid))) out.old out.new mids
+        mids }
 {
     let mut writer = Writer::start(kind, 0, mid, b"");
     let Ok(datagram) = writer.finish(b"") else {

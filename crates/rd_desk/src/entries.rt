@@ -1,4 +1,5 @@
-//! Entries: a change of the registrations, and who is due by it (RFC 9176 section 5, RFC 7641 section 1.3).
+//! Entries: a change of the registrations, and who is due by it (RFC 9176 section 5, RFC 7641
+//! section 1.3).
 ghost use Rattle.std.specs.Prelude.{◌≡◌, ◌∷◌, [], ℕ, Bool, List};
 ghost use Rattle.std.specs.Arc.{arc_value};
 ghost use Rattle.rd_base.specs.declared.peers.Peer.{Peer};
@@ -18,13 +19,20 @@ use crate::tables::Tables;
 use std::mem;
 
 impl Tables {
-    /// An entry is made that is ready: the version with it takes the place of the one before, and the observers are due to whose queries the registration
-    /// that it is about gives other lines. Takes no memory.
+    /// An entry is made that is ready: the version with it takes the place of the one before, and
+    /// the observers are due to whose queries the registration that it is about gives other lines.
+    /// Takes no memory.
     pub(crate) fn enter(&mut self, entering: Entering)
         requires { IsReadyAt self.old.moment entering }
-        ensures way { (rows : List Row) (s : Step) (starved : Bool) (done : Effects) (entry : Entry) (out : List (Peer × List ℕ)) (mids : Mids) → done.notes ≡ [] → entry.moment.0 ≡ row_moment rows s
-            → IsEntering (entries rows) self.old.version.swept entry entering → UnderWay rows s starved done self.old out mids
-            → UnderWay rows s starved (joined done (noting (note.Entered entry ∷ []))) self.new out mids }
+        ensures way { (rows : List Row) (s : Step) (starved : Bool) (done : Effects) (entry : Entry)
+            (out : List (Peer
+            × List ℕ)) (mids : Mids)
+            → done.notes ≡ []
+            → entry.moment.0 ≡ row_moment rows s
+            → IsEntering (entries rows) self.old.version.swept entry entering
+            → UnderWay rows s starved done self.old out mids
+            → UnderWay rows s starved (joined done (noting (note.Entered entry ∷ []))) self.new out
+            mids }
         ensures version { self.new.version ≡ arc_value entering.version }
     {
         let Entering {

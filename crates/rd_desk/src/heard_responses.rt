@@ -1,5 +1,7 @@
-//! Responses to the fetches of simple registrations, as they are heard (RFC 9176 section 5.1, RFC 7252 sections 4.2 and 5.2.2).
-ghost use Rattle.std.specs.Prelude.{◌≡◌, ◌<◌, ◌≤◌, ◌+◌, ◌∷◌, [], true, ℕ, Bool, List, Some, length, false};
+//! Responses to the fetches of simple registrations, as they are heard (RFC 9176 section 5.1, RFC
+//! 7252 sections 4.2 and 5.2.2).
+ghost use Rattle.std.specs.Prelude.{◌≡◌, ◌<◌, ◌≤◌, ◌+◌, ◌∷◌, [], true, ℕ, Bool, List, Some};
+ghost use Rattle.std.specs.Prelude.{length, false};
 ghost use Rattle.rd_base.specs.declared.peers.Peer.{Peer};
 ghost use Rattle.record_model.specs.AllowedParameters.{AreAllowed};
 ghost use Rattle.coap_message.specs.PartialMessages.{longest_datagram};
@@ -14,7 +16,8 @@ ghost use Rattle.journal_model.specs.declared.rows.Row.{Row};
 ghost use Rattle.journal_model.specs.Changes as changes;
 ghost use Rattle.journal_model.specs.Effects.{Effects, nothing, joined, noting};
 ghost use Rattle.journal_model.specs.Journal.{events, entries};
-ghost use Rattle.journal_model.specs.Responses.{strange, acknowledgement, request_of, completed, response_to};
+ghost use Rattle.journal_model.specs.Responses.{strange, acknowledgement, request_of, completed};
+ghost use Rattle.journal_model.specs.Responses.{response_to};
 ghost use Rattle.journal_model.specs.Rows.{row_moment};
 ghost use Rattle.simple_registration.specs.Table.{belongs_among};
 ghost use Rattle.rd_desk.specs.declared.mids.Mids.{Mids};
@@ -40,10 +43,13 @@ use rd_base::{Bytes, Peer, RegParams};
 use simple_registration::{Ask, Heard};
 use std::alloc::Global;
 
-/// A response that belongs to no fetch: a confirmable one is rejected by a Reset, and another is ignored (RFC 7252 section 4.2).
+/// A response that belongs to no fetch: a confirmable one is rejected by a Reset, and another is
+/// ignored (RFC 7252 section 4.2).
 fn reject_strange(peer: Peer, view: &View<'_>, out: &mut Outbox)
     requires { length out.old < most_datagrams }
-    ensures { (s : Step) (mids : Mids) → s.peer ≡ peer → Sends (strange s (message_in view.now) view.now.kind) out.old out.new mids mids }
+    ensures { (s : Step) (mids : Mids)
+        → s.peer ≡ peer
+        → Sends (strange s (message_in view.now) view.now.kind) out.old out.new mids mids }
 {
     match view.kind {
         Kind4::Con => {
@@ -54,10 +60,13 @@ fn reject_strange(peer: Peer, view: &View<'_>, out: &mut Outbox)
     }
 }
 
-/// A response that belongs to a fetch is acknowledged where it is confirmable (RFC 7252 section 5.2.2).
+/// A response that belongs to a fetch is acknowledged where it is confirmable (RFC 7252 section
+/// 5.2.2).
 fn acknowledge_response(peer: Peer, view: &View<'_>, out: &mut Outbox)
     requires room { length out.old < most_datagrams }
-    ensures sends { (s : Step) (mids : Mids) → s.peer ≡ peer → Sends (acknowledgement s (message_in view.now) view.now.kind) out.old out.new mids mids }
+    ensures sends { (s : Step) (mids : Mids)
+        → s.peer ≡ peer
+        → Sends (acknowledgement s (message_in view.now) view.now.kind) out.old out.new mids mids }
     ensures one { length out.new ≤ length out.old + 1 }
 {
     match view.kind {
@@ -73,19 +82,28 @@ fn acknowledge_response(peer: Peer, view: &View<'_>, out: &mut Outbox)
 pub(crate) fn ask_next(mids: &mut Mids, ask: &Ask, out: &mut Outbox)
     requires room { length out.old < most_datagrams }
     requires fits { length ask.now.bytes ≤ longest_datagram }
-    ensures sends { (notes : List Note) → Sends (asking_next ask.now notes) out.old out.new mids.old mids.new }
+    ensures sends { (notes : List Note)
+        → Sends (asking_next ask.now notes) out.old out.new mids.old mids.new }
 {
     let _drawn = mids.next();
     out.push(ask.peer, ask.bytes.as_slice());
 }
 
 impl Tables {
-    /// What was planned of a registration is done: its entry is made where it is accepted, and a refused one is silent. Takes no memory.
+    /// What was planned of a registration is done: its entry is made where it is accepted, and a
+    /// refused one is silent. Takes no memory.
     fn register_fetched(&mut self, planned: Outcome)
         requires { IsTimely self.old.moment planned }
-        ensures way { (rows : List Row) (s : Step) (starved : Bool) (done : Effects) (meant : changes.Outcome) (out : List (Peer × List ℕ)) (mids : Mids) → done.notes ≡ []
-            → ((entry : Entry) → meant.notes ≡ note.Entered entry ∷ [] → entry.moment.0 ≡ row_moment rows s) → IsPlanned (entries rows) self.old.version.swept [] meant planned
-            → UnderWay rows s starved done self.old out mids → UnderWay rows s starved (joined done (noting meant.notes)) self.new out mids }
+        ensures way { (rows : List Row) (s : Step) (starved : Bool) (done : Effects)
+            (meant : changes.Outcome) (out : List (Peer
+            × List ℕ)) (mids : Mids)
+            → done.notes ≡ []
+            → ((entry : Entry)
+            → meant.notes ≡ note.Entered entry ∷ []
+            → entry.moment.0 ≡ row_moment rows s)
+            → IsPlanned (entries rows) self.old.version.swept [] meant planned
+            → UnderWay rows s starved done self.old out mids
+            → UnderWay rows s starved (joined done (noting meant.notes)) self.new out mids }
         ensures version { IsLeftBy self.old.version self.new.version planned.entering }
     {
         if let Some(entering) = planned.entering {
@@ -93,8 +111,8 @@ impl Tables {
         }
     }
 
-    /// A response completes the body of the fetch of its peer: that is registered, or refused in silence, and the fetch ends. What takes memory comes before
-    /// anything changes.
+    /// A response completes the body of the fetch of its peer: that is registered, or refused in
+    /// silence, and the fetch ends. What takes memory comes before anything changes.
     fn complete_fetch<B: Board>(
         &mut self,
         alloc: Global,
@@ -109,10 +127,16 @@ impl Tables {
         requires room { length out.old < most_datagrams }
         requires free { B.has_staged board.old ≡ false }
         requires told { AreToldOf self.old.version (B.told board.old) }
-        ensures way { (rows : List Row) (s : Step) (request : Request) (mids : Mids) → s.peer ≡ peer → request.params ≡ params → UnderWay rows s (is_starved_step result) nothing self.old out.old mids
+        ensures way { (rows : List Row) (s : Step) (request : Request) (mids : Mids)
+            → s.peer ≡ peer
+            → request.params ≡ params
+            → UnderWay rows s (is_starved_step result) nothing self.old out.old mids
             → UnderWay rows s (is_starved_step result)
-            (unless_starved (is_starved_step result) (joined (acknowledgement s (message_in view.now) view.now.kind) (completed rows (row_moment rows s) s request body.now))) self.new out.new mids }
-        ensures laid { IsLaid self.old.version self.new.version (B.staged board.old) (B.staged board.new) (B.has_staged board.new) }
+            (unless_starved (is_starved_step result)
+            (joined (acknowledgement s (message_in view.now) view.now.kind)
+            (completed rows (row_moment rows s) s request body.now))) self.new out.new mids }
+        ensures laid { IsLaid self.old.version self.new.version (B.staged board.old)
+            (B.staged board.new) (B.has_staged board.new) }
         ensures name { B.name board.new ≡ B.name board.old }
         ensures told { B.told board.new ≡ B.told board.old }
     {
@@ -126,7 +150,8 @@ impl Tables {
         Stepped::Done
     }
 
-    /// A response to the last request of the fetch of its peer, by what comes of it (RFC 7959 section 2.4).
+    /// A response to the last request of the fetch of its peer, by what comes of it (RFC 7959
+    /// section 2.4).
     fn hear_answer<B: Board>(
         &mut self,
         alloc: Global,
@@ -138,16 +163,23 @@ impl Tables {
         out: &mut Outbox,
     ) -> Stepped
         requires meaning { IsMeaning (message_in meaning.now.view) meaning.now }
-        requires belongs { belongs_among peer (message_in meaning.now.view) self.old.fetches.fetches ≡ true }
+        requires belongs { belongs_among peer (message_in meaning.now.view) self.old.fetches.fetches
+            ≡ true }
         requires room { length out.old + 1 < most_datagrams }
         requires free { B.has_staged board.old ≡ false }
         requires told { AreToldOf self.old.version (B.told board.old) }
-        ensures way { (rows : List Row) (s : Step) (request : Request) → s.peer ≡ peer → s.word ≡ word → request_of (last_request peer (events rows)) ≡ Some request
+        ensures way { (rows : List Row) (s : Step) (request : Request)
+            → s.peer ≡ peer
+            → s.word ≡ word
+            → request_of (last_request peer (events rows)) ≡ Some request
             → UnderWay rows s (is_starved_step result) nothing self.old out.old mids.old
             → UnderWay rows s (is_starved_step result)
-            (unless_starved (is_starved_step result) (joined (acknowledgement s (message_in meaning.now.view) meaning.now.view.kind) (response_to rows (row_moment rows s) s (message_in meaning.now.view) request)))
+            (unless_starved (is_starved_step result)
+            (joined (acknowledgement s (message_in meaning.now.view) meaning.now.view.kind)
+            (response_to rows (row_moment rows s) s (message_in meaning.now.view) request)))
             self.new out.new mids.new }
-        ensures laid { IsLaid self.old.version self.new.version (B.staged board.old) (B.staged board.new) (B.has_staged board.new) }
+        ensures laid { IsLaid self.old.version self.new.version (B.staged board.old)
+            (B.staged board.new) (B.has_staged board.new) }
         ensures name { B.name board.new ≡ B.name board.old }
         ensures told { B.told board.new ≡ B.told board.old }
     {
@@ -184,9 +216,10 @@ impl Tables {
         }
     }
 
-    /// A response that is heard: one that belongs to no fetch is rejected or ignored; of one that does, the next block is asked for, or the whole body is
-    /// registered, or the fetch ends (RFC 9176 section 5.1). Its first wait is made from the word. `Starved`: out of memory; then nothing is done. One that belongs to no
-    /// fetch takes no memory.
+    /// A response that is heard: one that belongs to no fetch is rejected or ignored; of one that
+    /// does, the next block is asked for, or the whole body is registered, or the fetch ends (RFC
+    /// 9176 section 5.1). Its first wait is made from the word. `Starved`: out of memory; then
+    /// nothing is done. One that belongs to no fetch takes no memory.
     pub(crate) fn hear_response<B: Board>(
         &mut self,
         alloc: Global,
@@ -200,11 +233,20 @@ impl Tables {
         requires room { length out.old + 1 < most_datagrams }
         requires free { B.has_staged board.old ≡ false }
         requires told { AreToldOf self.old.version (B.told board.old) }
-        ensures way { (rows : List Row) (s : Step) → s.peer ≡ peer → s.word ≡ word → UnderWay rows s (is_starved_step result) nothing self.old out.old mids.old
-            → UnderWay rows s (is_starved_step result) (response_heard (is_starved_step result) rows s (message_in view.now)) self.new out.new mids.new }
-        ensures unstarved { (rows : List Row) (s : Step) → s.peer ≡ peer → UnderWay rows s false nothing self.old out.old mids.old → response_takes rows s (message_in view.now) ≡ false
+        ensures way { (rows : List Row) (s : Step)
+            → s.peer ≡ peer
+            → s.word ≡ word
+            → UnderWay rows s (is_starved_step result) nothing self.old out.old mids.old
+            → UnderWay rows s (is_starved_step result)
+            (response_heard (is_starved_step result) rows s (message_in view.now)) self.new
+            out.new mids.new }
+        ensures unstarved { (rows : List Row) (s : Step)
+            → s.peer ≡ peer
+            → UnderWay rows s false nothing self.old out.old mids.old
+            → response_takes rows s (message_in view.now) ≡ false
             → is_starved_step result ≡ false }
-        ensures laid { IsLaid self.old.version self.new.version (B.staged board.old) (B.staged board.new) (B.has_staged board.new) }
+        ensures laid { IsLaid self.old.version self.new.version (B.staged board.old)
+            (B.staged board.new) (B.has_staged board.new) }
         ensures name { B.name board.new ≡ B.name board.old }
         ensures told { B.told board.new ≡ B.told board.old }
     {

@@ -1,5 +1,6 @@
 //! Writes as they are heard (RFC 7252 sections 4.2 and 4.5).
-ghost use Rattle.std.specs.Prelude.{◌≡◌, ◌<◌, ◌≤◌, Bool, true, false, [], ◌∷◌, List, length, if◌then◌else◌};
+ghost use Rattle.std.specs.Prelude.{◌≡◌, ◌<◌, ◌≤◌, Bool, true, false, [], ◌∷◌, List, length};
+ghost use Rattle.std.specs.Prelude.{if◌then◌else◌};
 ghost use Rattle.message_model.specs.Message.{longest_token};
 ghost use Rattle.coap_message.specs.Views.{message_in};
 ghost use Rattle.event_model.specs.declared.notes.Note.TheVariants as note;
@@ -9,7 +10,8 @@ ghost use Rattle.journal_model.specs.Effects.{nothing};
 ghost use Rattle.journal_model.specs.Journal.{events};
 ghost use Rattle.journal_model.specs.Rows.{row_moment};
 ghost use Rattle.journal_model.specs.Writes.{write_effects};
-ghost use Rattle.rd_desk.specs.Admitting.{is_starved_admission, write_heard, write_takes, IsHeldFor};
+ghost use Rattle.rd_desk.specs.Admitting.{is_starved_admission, write_heard, write_takes};
+ghost use Rattle.rd_desk.specs.Admitting.{IsHeldFor};
 ghost use Rattle.rd_desk.specs.Outboxes.{most_datagrams};
 ghost use Rattle.rd_desk.specs.UnderWay.{UnderWay};
 ghost use Rattle.rd_desk.specs.WriteJobs.{is_write_datagram};
@@ -23,7 +25,8 @@ use rd_base::{Bytes, Peer};
 use std::alloc::Global;
 
 impl Tables {
-    /// A write that nothing refuses repeats another, or there is no room for it, or it is admitted. Whether it is admitted. Takes no memory.
+    /// A write that nothing refuses repeats another, or there is no room for it, or it is admitted.
+    /// Whether it is admitted. Takes no memory.
     fn admit_write(
         &mut self,
         mids: &mut Mids,
@@ -33,10 +36,16 @@ impl Tables {
     ) -> bool
         requires token { length view.now.token.now ≤ longest_token }
         requires room { length out.old < most_datagrams }
-        ensures way { (rows : List Row) (s : Step) (starved : Bool) → s.peer ≡ peer → UnderWay rows s starved nothing self.old out.old mids.old
-            → UnderWay rows s starved (write_effects (events rows) (row_moment rows s) s (message_in view.now)) self.new out.new mids.new }
-        ensures admitted { (rows : List Row) (s : Step) (starved : Bool) → s.peer ≡ peer → UnderWay rows s starved nothing self.old out.old mids.old
-            → (write_effects (events rows) (row_moment rows s) s (message_in view.now)).notes ≡ (if result then note.Admitted s.peer view.now.mid ∷ [] else []) }
+        ensures way { (rows : List Row) (s : Step) (starved : Bool)
+            → s.peer ≡ peer
+            → UnderWay rows s starved nothing self.old out.old mids.old
+            → UnderWay rows s starved (write_effects (events rows) (row_moment rows s) s
+            (message_in view.now)) self.new out.new mids.new }
+        ensures admitted { (rows : List Row) (s : Step) (starved : Bool)
+            → s.peer ≡ peer
+            → UnderWay rows s starved nothing self.old out.old mids.old
+            → (write_effects (events rows) (row_moment rows s) s (message_in view.now)).notes
+            ≡ (if result then note.Admitted s.peer view.now.mid ∷ [] else []) }
         ensures alone { self.new ≡ record self.old { exchanges = self.new.exchanges } }
         ensures unsent { result ≡ true → (out.new ≡ out.old) × (mids.new ≡ mids.old) }
     {
@@ -54,8 +63,9 @@ impl Tables {
         }
     }
 
-    /// A write that nothing refuses. One that is admitted leaves a job with a copy of its datagram; where there is no memory for that, it is forgotten again.
-    /// What is not admitted takes no memory.
+    /// A write that nothing refuses. One that is admitted leaves a job with a copy of its datagram;
+    /// where there is no memory for that, it is forgotten again. What is not admitted takes no
+    /// memory.
     pub(crate) fn hear_write(
         &mut self,
         alloc: Global,
@@ -68,12 +78,23 @@ impl Tables {
         requires token { length view.now.token.now ≤ longest_token }
         requires write { is_write_datagram datagram.now ≡ true }
         requires room { length out.old < most_datagrams }
-        ensures way { (rows : List Row) (s : Step) → s.peer ≡ peer → UnderWay rows s (is_starved_admission result) nothing self.old out.old mids.old
-            → UnderWay rows s (is_starved_admission result) (write_heard (is_starved_admission result) rows s (message_in view.now)) self.new out.new mids.new }
-        ensures held { (rows : List Row) (s : Step) → s.peer ≡ peer → s.datagram ≡ datagram.now → UnderWay rows s (is_starved_admission result) nothing self.old out.old mids.old
-            → IsHeldFor result (write_heard (is_starved_admission result) rows s (message_in view.now)).notes s (row_moment rows s) }
-        ensures unstarved { (rows : List Row) (s : Step) → s.peer ≡ peer → UnderWay rows s false nothing self.old out.old mids.old
-            → write_takes rows (row_moment rows s) s (message_in view.now) ≡ false → is_starved_admission result ≡ false }
+        ensures way { (rows : List Row) (s : Step)
+            → s.peer ≡ peer
+            → UnderWay rows s (is_starved_admission result) nothing self.old out.old mids.old
+            → UnderWay rows s (is_starved_admission result)
+            (write_heard (is_starved_admission result) rows s (message_in view.now)) self.new
+            out.new mids.new }
+        ensures held { (rows : List Row) (s : Step)
+            → s.peer ≡ peer
+            → s.datagram ≡ datagram.now
+            → UnderWay rows s (is_starved_admission result) nothing self.old out.old mids.old
+            → IsHeldFor result (write_heard (is_starved_admission result) rows s
+            (message_in view.now)).notes s (row_moment rows s) }
+        ensures unstarved { (rows : List Row) (s : Step)
+            → s.peer ≡ peer
+            → UnderWay rows s false nothing self.old out.old mids.old
+            → write_takes rows (row_moment rows s) s (message_in view.now) ≡ false
+            → is_starved_admission result ≡ false }
         ensures version { self.new.version ≡ self.old.version }
     {
         if !self.admit_write(mids, peer, view, out) {

@@ -1,5 +1,7 @@
-//! Who joins the observers of a lookup, and who goes: the watched queries and the observers change together (RFC 7641 sections 3.6 and 4.1).
-ghost use Rattle.std.specs.Prelude.{◌≡◌, ◌<◌, ℕ, ◌++◌, ◌∷◌, [], List, Some, None, false, IfOk, find, length, nat_le, is_some, option_map, slice_get, remove};
+//! Who joins the observers of a lookup, and who goes: the watched queries and the observers change
+//! together (RFC 7641 sections 3.6 and 4.1).
+ghost use Rattle.std.specs.Prelude.{◌≡◌, ◌<◌, ℕ, ◌++◌, ◌∷◌, [], List, Some, None, false, IfOk};
+ghost use Rattle.std.specs.Prelude.{find, length, nat_le, is_some, option_map, slice_get, remove};
 ghost use Rattle.std.specs.List.{list_any};
 ghost use Rattle.rd_base.specs.declared.peers.Peer.{Peer as Endpoint};
 ghost use Rattle.rd_base.specs.Firsts.{without_first};
@@ -62,7 +64,8 @@ fn is_of(observer: &Observer, peer: &Peer, token: &Token) -> bool
 
 /// The place of the query of the observer of a peer and a token, where there is one.
 fn place_named(observers: &Observers, peer: &Peer, token: &Token) -> Option<u32>
-    ensures { result ≡ option_map (λ x. x.place) (find (is_named peer.now token.now) observers.now) }
+    ensures { result
+        ≡ option_map (λ x. x.place) (find (is_named peer.now token.now) observers.now) }
 {
     'observers: for index in 0..observers.len() {
         if let Some(observer) = observers.at(index) {
@@ -74,9 +77,13 @@ fn place_named(observers: &Observers, peer: &Peer, token: &Token) -> Option<u32>
     None
 }
 
-/// Whether as many observers stand as there are at most, beside that of a peer and a token, whose query has this place where there is one.
+/// Whether as many observers stand as there are at most, beside that of a peer and a token, whose
+/// query has this place where there is one.
 fn is_full_beside(observers: &Observers, before: Option<u32>) -> bool
-    ensures { (peer : Endpoint) (token : List ℕ) → before ≡ option_map (λ x. x.place) (find (is_named peer token) observers.now) → result ≡ nat_le max_observers (length (without_first (is_named peer token) observers.now)) }
+    ensures { (peer : Endpoint) (token : List ℕ)
+        → before ≡ option_map (λ x. x.place) (find (is_named peer token) observers.now)
+        → result
+        ≡ nat_le max_observers (length (without_first (is_named peer token) observers.now)) }
 {
     match before {
         Some(_) => observers.len() > MAX_OBSERVERS,
@@ -84,7 +91,8 @@ fn is_full_beside(observers: &Observers, before: Option<u32>) -> bool
     }
 }
 
-/// Takes out the observer of a peer and a token, and one watcher of its query; whether there is one.
+/// Takes out the observer of a peer and a token, and one watcher of its query; whether there is
+/// one.
 pub(crate) fn leave(
     watches: &mut WatchTable,
     observers: &mut Observers,
@@ -92,7 +100,9 @@ pub(crate) fn leave(
     token: &Token,
 ) -> bool
     ensures found { result ≡ is_some (find (is_named peer.now token.now) observers.old) }
-    ensures watches { watches.new ≡ without (option_map (λ x. x.place) (find (is_named peer.now token.now) observers.old)) watches.old }
+    ensures watches { watches.new
+        ≡ without (option_map (λ x. x.place) (find (is_named peer.now token.now) observers.old))
+        watches.old }
     ensures observers { observers.new ≡ without_first (is_named peer.now token.now) observers.old }
 {
     match observers.drop_one(peer, token) {
@@ -104,7 +114,8 @@ pub(crate) fn leave(
     }
 }
 
-/// Takes out the observer of a peer whose notice in flight has a Message ID, and one watcher of its query; whether there is one.
+/// Takes out the observer of a peer whose notice in flight has a Message ID, and one watcher of its
+/// query; whether there is one.
 pub(crate) fn reset(
     watches: &mut WatchTable,
     observers: &mut Observers,
@@ -112,7 +123,9 @@ pub(crate) fn reset(
     mid: u16,
 ) -> bool
     ensures found { result ≡ is_some (find (has_notice peer.now mid) observers.old) }
-    ensures watches { watches.new ≡ without (option_map (λ x. x.place) (find (has_notice peer.now mid) observers.old)) watches.old }
+    ensures watches { watches.new
+        ≡ without (option_map (λ x. x.place) (find (has_notice peer.now mid) observers.old))
+        watches.old }
     ensures observers { observers.new ≡ without_first (has_notice peer.now mid) observers.old }
 {
     match observers.reset(peer, mid) {
@@ -127,7 +140,9 @@ pub(crate) fn reset(
 /// Takes out the observer with an index, and one watcher of its query.
 pub(crate) fn take_out(watches: &mut WatchTable, observers: &mut Observers, index: usize)
     requires { index < length observers.old }
-    ensures watches { (x : Watcher) → slice_get observers.old index ≡ Some x → watches.new ≡ one_fewer x.place watches.old }
+    ensures watches { (x : Watcher)
+        → slice_get observers.old index ≡ Some x
+        → watches.new ≡ one_fewer x.place watches.old }
     ensures observers { observers.new ≡ remove observers.old index }
 {
     let gone = observers.timed_out(index);
@@ -147,10 +162,14 @@ pub(crate) fn place_at(observers: &Observers, index: usize) -> u32
 
 /// Adds an observer in place of that of its peer and token. There is room for it.
 fn replace(observers: &mut Observers, observer: Observer)
-    requires room { length (without_first (is_named observer.peer observer.token) observers.old) < max_observers }
-    requires new { list_any (is_named observer.peer observer.token) (without_first (is_named observer.peer observer.token) observers.old) ≡ false }
+    requires room { length (without_first (is_named observer.peer observer.token) observers.old)
+        < max_observers }
+    requires new { list_any (is_named observer.peer observer.token)
+        (without_first (is_named observer.peer observer.token) observers.old)
+        ≡ false }
     requires landed { observer.flight ≡ None }
-    ensures { observers.new ≡ without_first (is_named observer.peer observer.token) observers.old ++ observer ∷ [] }
+    ensures { observers.new
+        ≡ without_first (is_named observer.peer observer.token) observers.old ++ observer ∷ [] }
 {
     observers.drop_one(&observer.peer, &observer.token);
     match observers.add(observer) {
@@ -159,7 +178,8 @@ fn replace(observers: &mut Observers, observer: Observer)
     }
 }
 
-/// An observer of a query joins in place of that of its peer and token, where there is room; whether it was added. `Starved`: out of memory, and nothing changed.
+/// An observer of a query joins in place of that of its peer and token, where there is room;
+/// whether it was added. `Starved`: out of memory, and nothing changed.
 pub(crate) fn join(
     watches: &mut WatchTable,
     observers: &mut Observers,
@@ -167,9 +187,18 @@ pub(crate) fn join(
     query: &Query,
     joining: Joining,
 ) -> Result<bool, Starved>
-    requires new { list_any (is_named joining.peer joining.token) (without_first (is_named joining.peer joining.token) observers.old) ≡ false }
-    ensures outcome { Joins query.now joining (record { watches = watches.old; observers = observers.old }) result (record { watches = watches.new; observers = observers.new }) }
-    ensures room { (standing : List Observed) → WatchesStandFor standing (without (option_map (λ x. x.place) (find (is_named joining.peer joining.token) observers.old)) watches.old) → IfOk result (λ added. added ≡ has_room query.now (length (without_first (is_named joining.peer joining.token) observers.old)) standing) }
+    requires new { list_any (is_named joining.peer joining.token)
+        (without_first (is_named joining.peer joining.token) observers.old)
+        ≡ false }
+    ensures outcome { Joins query.now joining (record
+        { watches = watches.old; observers = observers.old }) result
+        (record { watches = watches.new; observers = observers.new }) }
+    ensures room { (standing : List Observed)
+        → WatchesStandFor standing (without (option_map (λ x. x.place)
+        (find (is_named joining.peer joining.token) observers.old)) watches.old)
+        → IfOk result (λ added. added
+        ≡ has_room query.now (length (without_first (is_named joining.peer joining.token)
+        observers.old)) standing) }
 {
     let before = place_named(observers, &joining.peer, &joining.token);
     if is_full_beside(observers, before) {

@@ -7,7 +7,8 @@ use std::alloc::Global;
 use std::marker::Model;
 use std::sync::Arc;
 
-/// A listing that a look formed, to be kept for its further blocks and sent from its first block on (RFC 7959 section 2.4).
+/// A listing that a look formed, to be kept for its further blocks and sent from its first block on
+/// (RFC 7959 section 2.4).
 #[derive(Drop)]
 pub struct KeepJob {
     /// Who asked.
@@ -28,7 +29,12 @@ impl Model for KeepJob {
 
     ghost Value = { Keep };
 
-    ghost view = { λ job. record { peer = job.peer; datagram = job.datagram; answer = record { body = arc_value job.body; tag = job.tag.0 } } };
+    ghost view = { λ job. record {
+      peer = job.peer;
+      datagram = job.datagram;
+      answer = record
+          { body = arc_value job.body; tag = job.tag.0 };
+    } };
 
     ghost invariant = { λ job. is_look_datagram job.datagram ≡ true };
 }
@@ -43,7 +49,13 @@ impl KeepJob {
         tag: Tag,
     ) -> Result<KeepJob, Starved>
         requires { is_look_datagram datagram.now ≡ true }
-        ensures { IfOk result (λ job. job ≡ record { peer = peer; datagram = datagram.now; answer = record { body = body; tag = tag.0 } }) }
+        ensures { IfOk result (λ job. job
+            ≡ record {
+              peer = peer;
+              datagram = datagram.now;
+              answer = record
+                  { body = body; tag = tag.0 };
+            }) }
     {
         let datagram = Bytes::copy_of(alloc, datagram)?;
         let body = Arc::new(alloc, body)?;

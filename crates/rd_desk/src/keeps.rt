@@ -30,8 +30,8 @@ use std::alloc::Global;
 use std::sync::Arc;
 use transfers::{Answer, Answers, Ready, Transfers};
 
-/// The kept answers with a listing kept after them, under who asked and the key of the request. The listing is shared. `Starved`: out of
-/// memory.
+/// The kept answers with a listing kept after them, under who asked and the key of the request. The
+/// listing is shared. `Starved`: out of memory.
 pub(crate) fn with_listing(
     transfers: &Transfers,
     alloc: Global,
@@ -42,8 +42,11 @@ pub(crate) fn with_listing(
     tag: Tag,
 ) -> Result<Ready, Starved>
     requires meaning { IsMeaning (message_in meaning.now.view) meaning.now }
-    ensures { IfOk result (λ ready. (events : List Event) (place word : ℕ) → AnswersStandFor events transfers.now.answers
-        → AnswersStandFor (noted place now.0 word (note.Kept peer (key_in (message_in meaning.now.view)) (arc_value body.now) tag.0 ∷ []) events) ready) }
+    ensures { IfOk result (λ ready. (events : List Event) (place word : ℕ)
+        → AnswersStandFor events transfers.now.answers
+        → AnswersStandFor (noted place now.0 word
+        (note.Kept peer (key_in (message_in meaning.now.view)) (arc_value body.now) tag.0 ∷ [])
+        events) ready) }
 {
     let key = request_key(alloc, meaning)?;
     let body = Arc::try_clone(body)?;
@@ -58,7 +61,8 @@ pub(crate) fn with_listing(
 }
 
 impl Tables {
-    /// A listing is kept under its tag, and the block of it that the look asked for is sent. What takes memory comes before anything changes.
+    /// A listing is kept under its tag, and the block of it that the look asked for is sent. What
+    /// takes memory comes before anything changes.
     fn keep_listing(
         &mut self,
         alloc: Global,
@@ -67,8 +71,12 @@ impl Tables {
         out: &mut Outbox,
     ) -> Stepped
         requires room { length out.old < most_datagrams }
-        ensures way { (rows : List Row) (s : Step) → s.peer ≡ job.peer → UnderWay rows s (is_starved_step result) nothing self.old out.old mids.old
-            → UnderWay rows s (is_starved_step result) (kept_body (is_starved_step result) s (reading job.datagram) job.answer.body job.answer.tag) self.new out.new mids.new }
+        ensures way { (rows : List Row) (s : Step)
+            → s.peer ≡ job.peer
+            → UnderWay rows s (is_starved_step result) nothing self.old out.old mids.old
+            → UnderWay rows s (is_starved_step result)
+            (kept_body (is_starved_step result) s (reading job.datagram) job.answer.body
+            job.answer.tag) self.new out.new mids.new }
     {
         let KeepJob {
             peer,
@@ -97,7 +105,8 @@ impl Tables {
         Stepped::Done
     }
 
-    /// The step that does the job to keep a listing, at a moment that is at most 10^15; one below that of the tables is lifted to it. `out` is empty.
+    /// The step that does the job to keep a listing, at a moment that is at most 10^15; one below
+    /// that of the tables is lifted to it. `out` is empty.
     pub(crate) fn keep(
         &mut self,
         alloc: Global,
@@ -108,7 +117,11 @@ impl Tables {
     ) -> Stepped
         requires moment { now.0 ≤ 10 ^ 15 }
         requires empty { out.old ≡ [] }
-        ensures made { (rows : List Row) (s : Step) → s.kind ≡ step.Keep job.answer.body job.answer.tag → s.peer ≡ job.peer → s.datagram ≡ job.datagram → IsCalled rows s now mids.old self.old
+        ensures made { (rows : List Row) (s : Step)
+            → s.kind ≡ step.Keep job.answer.body job.answer.tag
+            → s.peer ≡ job.peer
+            → s.datagram ≡ job.datagram
+            → IsCalled rows s now mids.old self.old
             → Made rows (row rows s (is_starved_step result)) self.new out.new mids.old mids.new }
     {
         self.pass(now);

@@ -1,5 +1,7 @@
-//! Listings that are formed for lookups in which the journal takes part, and the kept answers with them (RFC 7959 section 2.4).
-ghost use Rattle.std.specs.Prelude.{◌≡◌, ◌<◌, ◌≤◌, ◌^◌, ℕ, true, false, List, length, Some, None, IfOk};
+//! Listings that are formed for lookups in which the journal takes part, and the kept answers with
+//! them (RFC 7959 section 2.4).
+ghost use Rattle.std.specs.Prelude.{◌≡◌, ◌<◌, ◌≤◌, ◌^◌, ℕ, true, false, List, length, Some, None};
+ghost use Rattle.std.specs.Prelude.{IfOk};
 ghost use Rattle.std.specs.Arc.{arc_value};
 ghost use Rattle.std.specs.Option.{ForSome};
 ghost use Rattle.message_model.specs.Message.{longest_token};
@@ -16,7 +18,8 @@ ghost use Rattle.journal_model.specs.Bodies as bodies_of;
 ghost use Rattle.journal_model.specs.Effects.{answering};
 ghost use Rattle.journal_model.specs.Requests as requests_of;
 ghost use Rattle.transfers.specs.TransferEvents.{TransfersStandFor};
-ghost use Rattle.rd_desk.specs.Lookups.{answer_listed, answer_at, IsFormed, IsReadied, IsJoining, IsUsed};
+ghost use Rattle.rd_desk.specs.Lookups.{answer_listed, answer_at, IsFormed, IsReadied, IsJoining};
+ghost use Rattle.rd_desk.specs.Lookups.{IsUsed};
 ghost use Rattle.rd_desk.specs.Outboxes.{most_datagrams};
 ghost use Rattle.rd_desk.specs.Sendings.{IsStepOf, Sends};
 
@@ -55,7 +58,8 @@ pub(crate) struct Formed {
     pub ready: Option<Ready>,
 }
 
-/// The listing of a query in a version at a moment, which is not before its last entry and its last sweep. `Starved`: out of memory.
+/// The listing of a query in a version at a moment, which is not before its last entry and its last
+/// sweep. `Starved`: out of memory.
 pub(crate) fn listed_at(
     alloc: Global,
     version: &Directory,
@@ -64,7 +68,9 @@ pub(crate) fn listed_at(
 ) -> Result<Listed, Starved>
     requires after_at { version.now.at ≤ now.0 }
     requires after_sweep { version.now.swept ≤ now.0 }
-    ensures { (history : List Entry) → VersionStandsFor 0 history version.now → IfOk result (λ listed. answer_listed listed ≡ answer_at history now.0 query.now) }
+    ensures { (history : List Entry)
+        → VersionStandsFor 0 history version.now
+        → IfOk result (λ listed. answer_listed listed ≡ answer_at history now.0 query.now) }
 {
     let octets = listing_at::<Brand>(Blank::new(1), version, now, query)?;
     let body = Arc::new(alloc, octets)?;
@@ -84,7 +90,8 @@ pub(crate) fn form(
 ) -> Result<Formed, Starved>
     requires meaning { IsMeaning (message_in meaning.now.view) meaning.now }
     ensures formed { IfOk result (IsFormed keep (answer_listed listed)) }
-    ensures ready { IfOk result (IsReadied now.0 peer (key_in (message_in meaning.now.view)) transfers.now.answers) }
+    ensures ready { IfOk result (IsReadied now.0 peer (key_in (message_in meaning.now.view))
+        transfers.now.answers) }
 {
     if !keep {
         return Ok(Formed {
@@ -117,7 +124,8 @@ pub(crate) fn joining_by(
     requires meaning { IsMeaning (message_in meaning.now.view) meaning.now }
     requires short { HasShortBlocks meaning.now }
     requires token { length meaning.now.view.token.now ≤ longest_token }
-    ensures { IfOk result (IsJoining peer (message_in meaning.now.view) (arc_value listed.now.body)) }
+    ensures { IfOk result (IsJoining peer (message_in meaning.now.view)
+        (arc_value listed.now.body)) }
 {
     let key = request_key(alloc, meaning)?;
     let body = Arc::try_clone(&listed.body)?;
@@ -131,7 +139,8 @@ pub(crate) fn joining_by(
     })
 }
 
-/// The block of a body that is asked for is sent, under its tag and an Observe value; 4.00 where it lies past the end of the body.
+/// The block of a body that is asked for is sent, under its tag and an Observe value; 4.00 where it
+/// lies past the end of the body.
 pub(crate) fn send_block(
     mids: &mut Mids,
     peer: Peer,
@@ -146,16 +155,21 @@ pub(crate) fn send_block(
     requires token { length meaning.now.view.token.now ≤ longest_token }
     requires observe { ForSome observe (λ value. value < 2 ^ 24) }
     requires room { length out.old < most_datagrams }
-    ensures { (s : Step) (notes : List Note) → IsStepOf s peer mids.old
-        → Sends (answering s (message_in meaning.now.view) (bodies_of.body_reply (Some tag.0) observe (requests_of.asked_block (message_in meaning.now.view)) body.now) notes) out.old out.new mids.old mids.new }
+    ensures { (s : Step) (notes : List Note)
+        → IsStepOf s peer mids.old
+        → Sends (answering s (message_in meaning.now.view)
+        (bodies_of.body_reply (Some tag.0) observe
+        (requests_of.asked_block (message_in meaning.now.view)) body.now) notes) out.old out.new
+        mids.old mids.new }
 {
     let asked = asked_block(meaning);
     let reply = body_reply(Some(tag), observe, &asked, body);
     answer(mids, peer, &meaning.view, &reply, out);
 }
 
-/// The block that is asked for is sent of the answer that is kept under a peer and a key, where one is: that is a use of it, also where the block lies past
-/// its end. Whether one is kept. Takes no memory.
+/// The block that is asked for is sent of the answer that is kept under a peer and a key, where one
+/// is: that is a use of it, also where the block lies past its end. Whether one is kept. Takes no
+/// memory.
 pub(crate) fn send_kept(
     transfers: &mut Transfers,
     now: Moment,
@@ -169,9 +183,17 @@ pub(crate) fn send_kept(
     requires short { HasShortBlocks meaning.now }
     requires token { length meaning.now.view.token.now ≤ longest_token }
     requires room { length out.old < most_datagrams }
-    ensures used { result ≡ true → (at : ℕ) (events : List Event) → TransfersStandFor at events transfers.old → IsUsed at now.0 peer key.now (message_in meaning.now.view) events transfers.new out.old out.new mids.old mids.new }
-    ensures none { result ≡ false → (at : ℕ) (events : List Event) → TransfersStandFor at events transfers.old → kept_answer now.0 (peer, key.now) events ≡ None }
-    ensures unchanged { result ≡ false → (transfers.new ≡ transfers.old) × (out.new ≡ out.old) × (mids.new ≡ mids.old) }
+    ensures used { result ≡ true
+        → (at : ℕ) (events : List Event)
+        → TransfersStandFor at events transfers.old
+        → IsUsed at now.0 peer key.now (message_in meaning.now.view) events transfers.new out.old
+        out.new mids.old mids.new }
+    ensures none { result ≡ false
+        → (at : ℕ) (events : List Event)
+        → TransfersStandFor at events transfers.old
+        → kept_answer now.0 (peer, key.now) events ≡ None }
+    ensures unchanged { result ≡ false
+        → (transfers.new ≡ transfers.old) × (out.new ≡ out.old) × (mids.new ≡ mids.old) }
 {
     if let Some((body, tag)) = transfers.kept_block(now, peer, key) {
         send_block(mids, peer, meaning, None, tag, body.as_slice(), out);

@@ -1,5 +1,6 @@
 //! Writes on a registration: updates and removals (RFC 9176 sections 5.3.1 and 5.3.2).
-ghost use Rattle.std.specs.Prelude.{◌≡◌, ◌≢◌, ◌<◌, ◌≤◌, ◌^◌, ℕ, [], List, length, None, IfOk, false};
+ghost use Rattle.std.specs.Prelude.{◌≡◌, ◌≢◌, ◌<◌, ◌≤◌, ◌^◌, ℕ, [], List, length, None, IfOk};
+ghost use Rattle.std.specs.Prelude.{false};
 ghost use Rattle.message_model.specs.Codes as codes_of;
 ghost use Rattle.message_model.specs.Message.{longest_token};
 ghost use Rattle.message_model.specs.Request.{queries_in};
@@ -42,7 +43,8 @@ const POST: u8 = 2;
 /// What an update gives whose query options are not refused. `Starved`: out of memory.
 fn given_change(alloc: Global, meaning: &Meaning<'_>) -> Result<UpdateParams, Starved>
     requires { fault_of reading.Update (queries_in (message_in meaning.now.view)) ≡ None }
-    ensures value { IfOk result (λ change. change ≡ update_values (queries_in (message_in meaning.now.view))) }
+    ensures value { IfOk result (λ change. change
+        ≡ update_values (queries_in (message_in meaning.now.view))) }
     ensures allowed { IfOk result IsAllowedChange }
 {
     match update_params(alloc, queries(meaning)) {
@@ -68,16 +70,22 @@ fn update_outcome(
     ensures reply { IfOk result (λ o. IsReply o.reply) }
     ensures short { IfOk result (λ o. IsShort o.reply) }
     ensures moments { IfOk result (IsTimely now.0) }
-    ensures next { (history : List Entry) → VersionStandsFor 0 history version.now → IfOk result (IsNextOf history) }
-    ensures planned { (rows : List Row) (s : Step) → VersionStandsFor 0 (entries rows) version.now → s.peer ≡ peer
-        → IfOk result (IsPlanned (entries rows) version.now.swept [] (updating rows now.0 s (message_in meaning.now.view) number)) }
+    ensures next { (history : List Entry)
+        → VersionStandsFor 0 history version.now
+        → IfOk result (IsNextOf history) }
+    ensures planned { (rows : List Row) (s : Step)
+        → VersionStandsFor 0 (entries rows) version.now
+        → s.peer ≡ peer
+        → IfOk result (IsPlanned (entries rows) version.now.swept []
+        (updating rows now.0 s (message_in meaning.now.view) number)) }
 {
     let change = given_change(alloc, meaning)?;
     updated(alloc, version, now, number, change, peer)
 }
 
 impl Tables {
-    /// An update of the registration of a number that was admitted is done, or fails where memory runs out.
+    /// An update of the registration of a number that was admitted is done, or fails where memory
+    /// runs out.
     fn commit_update<B: Board>(
         &mut self,
         alloc: Global,
@@ -94,11 +102,17 @@ impl Tables {
         requires room { length out.old < most_datagrams }
         requires free { B.has_staged board.old ≡ false }
         requires told { AreToldOf self.old.version (B.told board.old) }
-        ensures way { (rows : List Row) (s : Step) (place : ℕ) → s.peer ≡ peer → IsOpen place s.peer (message_in meaning.now.view).mid admitted.0 (events rows)
+        ensures way { (rows : List Row) (s : Step) (place : ℕ)
+            → s.peer ≡ peer
+            → IsOpen place s.peer (message_in meaning.now.view).mid admitted.0 (events rows)
             → UnderWay rows s (is_starved_step result) nothing self.old out.old mids.old
-            → UnderWay rows s (is_starved_step result) (unless_failing (is_starved_step result) place s (message_in meaning.now.view)
-            (settling place s (message_in meaning.now.view) (updating rows (row_moment rows s) s (message_in meaning.now.view) number))) self.new out.new mids.new }
-        ensures laid { IsLaid self.old.version self.new.version (B.staged board.old) (B.staged board.new) (B.has_staged board.new) }
+            → UnderWay rows s (is_starved_step result)
+            (unless_failing (is_starved_step result) place s (message_in meaning.now.view)
+            (settling place s (message_in meaning.now.view)
+            (updating rows (row_moment rows s) s (message_in meaning.now.view) number)))
+            self.new out.new mids.new }
+        ensures laid { IsLaid self.old.version self.new.version (B.staged board.old)
+            (B.staged board.new) (B.has_staged board.new) }
         ensures name { B.name board.new ≡ B.name board.old }
         ensures told { B.told board.new ≡ B.told board.old }
     {
@@ -106,7 +120,8 @@ impl Tables {
         self.finish(board, mids, peer, &meaning.view, admitted, planned, out)
     }
 
-    /// A removal of the registration of a number that was admitted is done, or fails where memory runs out.
+    /// A removal of the registration of a number that was admitted is done, or fails where memory
+    /// runs out.
     fn commit_removal<B: Board>(
         &mut self,
         alloc: Global,
@@ -122,11 +137,16 @@ impl Tables {
         requires room { length out.old < most_datagrams }
         requires free { B.has_staged board.old ≡ false }
         requires told { AreToldOf self.old.version (B.told board.old) }
-        ensures way { (rows : List Row) (s : Step) (place : ℕ) → s.peer ≡ peer → IsOpen place s.peer (message_in meaning.now.view).mid admitted.0 (events rows)
+        ensures way { (rows : List Row) (s : Step) (place : ℕ)
+            → s.peer ≡ peer
+            → IsOpen place s.peer (message_in meaning.now.view).mid admitted.0 (events rows)
             → UnderWay rows s (is_starved_step result) nothing self.old out.old mids.old
-            → UnderWay rows s (is_starved_step result) (unless_failing (is_starved_step result) place s (message_in meaning.now.view)
-            (settling place s (message_in meaning.now.view) (removing rows (row_moment rows s) s number))) self.new out.new mids.new }
-        ensures laid { IsLaid self.old.version self.new.version (B.staged board.old) (B.staged board.new) (B.has_staged board.new) }
+            → UnderWay rows s (is_starved_step result)
+            (unless_failing (is_starved_step result) place s (message_in meaning.now.view)
+            (settling place s (message_in meaning.now.view)
+            (removing rows (row_moment rows s) s number))) self.new out.new mids.new }
+        ensures laid { IsLaid self.old.version self.new.version (B.staged board.old)
+            (B.staged board.new) (B.has_staged board.new) }
         ensures name { B.name board.new ≡ B.name board.old }
         ensures told { B.told board.new ≡ B.told board.old }
     {
@@ -134,7 +154,8 @@ impl Tables {
         self.finish(board, mids, peer, &meaning.view, admitted, planned, out)
     }
 
-    /// A write on a registration that was admitted is done: POST updates it, and DELETE removes it (RFC 9176 sections 5.3.1 and 5.3.2).
+    /// A write on a registration that was admitted is done: POST updates it, and DELETE removes it
+    /// (RFC 9176 sections 5.3.1 and 5.3.2).
     pub(crate) fn commit_location<B: Board>(
         &mut self,
         alloc: Global,
@@ -147,15 +168,21 @@ impl Tables {
         out: &mut Outbox,
     ) -> Stepped
         requires token { length meaning.now.view.token.now ≤ longest_token }
-        requires good { meaning.now.view.code ≡ codes_of.post → fault_of reading.Update (queries_in (message_in meaning.now.view)) ≡ None }
+        requires good { meaning.now.view.code ≡ codes_of.post
+            → fault_of reading.Update (queries_in (message_in meaning.now.view)) ≡ None }
         requires room { length out.old < most_datagrams }
         requires free { B.has_staged board.old ≡ false }
         requires told { AreToldOf self.old.version (B.told board.old) }
-        ensures way { (rows : List Row) (s : Step) (place : ℕ) → s.peer ≡ peer → IsOpen place s.peer (message_in meaning.now.view).mid admitted.0 (events rows)
+        ensures way { (rows : List Row) (s : Step) (place : ℕ)
+            → s.peer ≡ peer
+            → IsOpen place s.peer (message_in meaning.now.view).mid admitted.0 (events rows)
             → UnderWay rows s (is_starved_step result) nothing self.old out.old mids.old
-            → UnderWay rows s (is_starved_step result) (unless_failing (is_starved_step result) place s (message_in meaning.now.view)
-            (on_location (method_of (message_in meaning.now.view).code) rows (row_moment rows s) place s (message_in meaning.now.view) number)) self.new out.new mids.new }
-        ensures laid { IsLaid self.old.version self.new.version (B.staged board.old) (B.staged board.new) (B.has_staged board.new) }
+            → UnderWay rows s (is_starved_step result)
+            (unless_failing (is_starved_step result) place s (message_in meaning.now.view)
+            (on_location (method_of (message_in meaning.now.view).code) rows (row_moment rows s)
+            place s (message_in meaning.now.view) number)) self.new out.new mids.new }
+        ensures laid { IsLaid self.old.version self.new.version (B.staged board.old)
+            (B.staged board.new) (B.has_staged board.new) }
         ensures name { B.name board.new ≡ B.name board.old }
         ensures told { B.told board.new ≡ B.told board.old }
     {

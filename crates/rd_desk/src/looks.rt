@@ -1,4 +1,5 @@
-//! Lookups and discovery that are answered from one version of the directory (RFC 9176 sections 4.1 and 6, RFC 7252 section 5.10.6.2).
+//! Lookups and discovery that are answered from one version of the directory (RFC 9176 sections 4.1
+//! and 6, RFC 7252 section 5.10.6.2).
 ghost use Rattle.std.specs.Prelude.{◌≡◌, ◌≤◌, ◌<◌, ℕ, true, false, List, length, Ok, Some, IfOk};
 ghost use Rattle.message_model.specs.Message.{longest_token};
 ghost use Rattle.message_model.specs.Reading.{reading};
@@ -75,7 +76,8 @@ fn kind_of(path: &Path) -> Kind
     }
 }
 
-/// What a lookup or a discovery asks for, whose query options are not refused. `Starved`: out of memory.
+/// What a lookup or a discovery asks for, whose query options are not refused. `Starved`: out of
+/// memory.
 pub(crate) fn query_of(alloc: Global, meaning: &Meaning<'_>) -> Result<Query, Starved>
     requires meaning { IsMeaning (message_in meaning.now.view) meaning.now }
     requires good { requests_of.has_bad_query (message_in meaning.now.view) ≡ false }
@@ -113,13 +115,16 @@ pub(crate) fn listing_at<L: Ledger>(
     requires some { 0 < L.parts }
     requires after_at { version.now.at ≤ now.0 }
     requires after_sweep { version.now.swept ≤ now.0 }
-    ensures { (history : List Entry) → VersionStandsFor 0 history version.now → IfOk result (λ octets. octets ≡ listing query.now history now.0) }
+    ensures { (history : List Entry)
+        → VersionStandsFor 0 history version.now
+        → IfOk result (λ octets. octets ≡ listing query.now history now.0) }
 {
     let mut steps = Steps::<L>::new(blank);
     version.lookup(query, now, &mut steps)
 }
 
-/// What a lookup finds in a version at a moment: its listing, unless the client has it. `Starved`: out of memory.
+/// What a lookup finds in a version at a moment: its listing, unless the client has it. `Starved`:
+/// out of memory.
 fn find_listing(
     version: &Directory,
     now: Moment,
@@ -128,8 +133,11 @@ fn find_listing(
 ) -> Result<Found, Starved>
     requires after_at { version.now.at ≤ now.0 }
     requires after_sweep { version.now.swept ≤ now.0 }
-    ensures { (history : List Entry) → VersionStandsFor 0 history version.now
-        → IfOk result (λ found. looks_of.found_under (Some (tag history now.0)) (message_in meaning.now.view) (listing query.now history now.0) ≡ look_found (message_in meaning.now.view) found) }
+    ensures { (history : List Entry)
+        → VersionStandsFor 0 history version.now
+        → IfOk result (λ found. looks_of.found_under (Some (tag history now.0))
+        (message_in meaning.now.view) (listing query.now history now.0)
+        ≡ look_found (message_in meaning.now.view) found) }
 {
     let tag = version.tag(now);
     if names_tag(meaning, tag) {
@@ -151,8 +159,10 @@ fn find(
     requires looks { requests_of.only_looks (message_in meaning.now.view) ≡ true }
     requires after_at { version.now.at ≤ now.0 }
     requires after_sweep { version.now.swept ≤ now.0 }
-    ensures { (history : List Entry) → VersionStandsFor 0 history version.now
-        → IfOk result (λ found. looks_of.look history now.0 (message_in meaning.now.view) ≡ Some (look_found (message_in meaning.now.view) found)) }
+    ensures { (history : List Entry)
+        → VersionStandsFor 0 history version.now
+        → IfOk result (λ found. looks_of.look history now.0 (message_in meaning.now.view)
+        ≡ Some (look_found (message_in meaning.now.view) found)) }
 {
     let query = query_of(alloc, meaning)?;
     if is_discovery(&meaning.path) {
@@ -162,7 +172,8 @@ fn find(
     find_listing(version, now, meaning, &query)
 }
 
-/// What is answered to a request that names the tag of what is found: 2.03 with this tag alone (RFC 7252 section 5.10.6.2).
+/// What is answered to a request that names the tag of what is found: 2.03 with this tag alone (RFC
+/// 7252 section 5.10.6.2).
 fn still_valid(tag: Tag) -> Reply<'static>
     ensures said { reply_said result ≡ looks_of.still_valid tag.0 }
     ensures reply { IsReply result }
@@ -194,9 +205,12 @@ fn give(
     requires short { HasShortBlocks meaning.now }
     requires token { length meaning.now.view.token.now ≤ longest_token }
     requires room { length out.old < most_datagrams }
-    ensures sends { (s : Step) → IsStepOf s peer mids.old
-        → Sends (look_done (is_starved_look result) s (message_in meaning.now.view) (look_found (message_in meaning.now.view) found)) out.old out.new mids.old mids.new }
-    ensures held { IsHeld peer datagram.now (look_left (is_starved_look result) (look_found (message_in meaning.now.view) found)) result }
+    ensures sends { (s : Step)
+        → IsStepOf s peer mids.old
+        → Sends (look_done (is_starved_look result) s (message_in meaning.now.view)
+        (look_found (message_in meaning.now.view) found)) out.old out.new mids.old mids.new }
+    ensures held { IsHeld peer datagram.now (look_left (is_starved_look result)
+        (look_found (message_in meaning.now.view) found)) result }
 {
     match found {
         Found::Valid(tag) => {
@@ -230,9 +244,13 @@ fn give_listing(
     requires short { HasShortBlocks meaning.now }
     requires token { length meaning.now.view.token.now ≤ longest_token }
     requires room { length out.old < most_datagrams }
-    ensures sends { (s : Step) → IsStepOf s peer mids.old
-        → Sends (look_done (is_starved_look result) s (message_in meaning.now.view) (look_found (message_in meaning.now.view) (Found.Listing tagged))) out.old out.new mids.old mids.new }
-    ensures held { IsHeld peer datagram.now (look_left (is_starved_look result) (look_found (message_in meaning.now.view) (Found.Listing tagged))) result }
+    ensures sends { (s : Step)
+        → IsStepOf s peer mids.old
+        → Sends (look_done (is_starved_look result) s (message_in meaning.now.view)
+        (look_found (message_in meaning.now.view) (Found.Listing tagged))) out.old out.new
+        mids.old mids.new }
+    ensures held { IsHeld peer datagram.now (look_left (is_starved_look result)
+        (look_found (message_in meaning.now.view) (Found.Listing tagged))) result }
 {
     let TaggedListing { octets, tag } = tagged;
     let asked = asked_block(meaning);
@@ -267,10 +285,11 @@ pub(crate) fn look_meaning(datagram: &[u8]) -> Meaning<'_>
     meaning
 }
 
-/// A request that only looks ([`is_look`](crate::is_look)) is answered from a version of the directory at a moment, which is not before
-/// its last entry and its last sweep: 2.05 with what is found, or 2.03 where the request names the tag of the listing (RFC 7252 section
-/// 5.10.6.2). A listing that is longer than the block that is asked for is not sent: it is held, to be kept first. `out` has room for one
-/// datagram more.
+/// A request that only looks ([`is_look`](crate::is_look)) is answered from a version of the
+/// directory at a moment, which is not before its last entry and its last sweep: 2.05 with what is
+/// found, or 2.03 where the request names the tag of the listing (RFC 7252 section 5.10.6.2). A
+/// listing that is longer than the block that is asked for is not sent: it is held, to be kept
+/// first. `out` has room for one datagram more.
 pub fn look(
     alloc: Global,
     version: &Directory,
@@ -284,10 +303,15 @@ pub fn look(
     requires after_at { version.now.at ≤ now.0 }
     requires after_sweep { version.now.swept ≤ now.0 }
     requires room { length out.old < most_datagrams }
-    ensures sends { (s : Step) (history : List Entry) → VersionStandsFor 0 history version.now → IsStepOf s peer mids.old
-        → Sends (looks_of.looked (is_starved_look result) history now.0 s (reading datagram.now)) out.old out.new mids.old mids.new }
-    ensures held { (history : List Entry) → VersionStandsFor 0 history version.now
-        → IsHeld peer datagram.now (looks_of.held_after (is_starved_look result) history now.0 (reading datagram.now)) result }
+    ensures sends { (s : Step) (history : List Entry)
+        → VersionStandsFor 0 history version.now
+        → IsStepOf s peer mids.old
+        → Sends (looks_of.looked (is_starved_look result) history now.0 s (reading datagram.now))
+        out.old out.new mids.old mids.new }
+    ensures held { (history : List Entry)
+        → VersionStandsFor 0 history version.now
+        → IsHeld peer datagram.now (looks_of.held_after (is_starved_look result) history now.0
+        (reading datagram.now)) result }
 {
     let meaning = look_meaning(datagram);
     let Ok(found) = find(alloc, version, now, &meaning) else {

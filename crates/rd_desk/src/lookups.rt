@@ -1,5 +1,7 @@
-//! Lookups that the journal takes part in: further blocks of a listing, and observation (RFC 7959 section 2.4, RFC 7641 sections 3 and 4.1).
-ghost use Rattle.std.specs.Prelude.{◌≡◌, ◌<◌, ◌≤◌, ◌^◌, ℕ, Bool, true, false, List, length, Some, None, IfOk, IfSome, OnErr, is_some};
+//! Lookups that the journal takes part in: further blocks of a listing, and observation (RFC 7959
+//! section 2.4, RFC 7641 sections 3 and 4.1).
+ghost use Rattle.std.specs.Prelude.{◌≡◌, ◌<◌, ◌≤◌, ◌^◌, ℕ, Bool, true, false, List, length, Some};
+ghost use Rattle.std.specs.Prelude.{None, IfOk, IfSome, OnErr, is_some};
 ghost use Rattle.std.specs.Arc.{arc_value};
 ghost use Rattle.std.specs.Option.{ForSome};
 ghost use Rattle.rd_base.specs.declared.peers.Peer.{Peer as Endpoint};
@@ -21,7 +23,8 @@ ghost use Rattle.journal_model.specs.Requests as requests_of;
 ghost use Rattle.rd_desk.specs.declared.mids.Mids.{Mids as MidsSeen};
 ghost use Rattle.rd_desk.specs.Asking.{seeks_links, begins_observation};
 ghost use Rattle.rd_desk.specs.Joining.{observer_joining, joining_notes};
-ghost use Rattle.rd_desk.specs.Lookups.{answer_listed, answer_at, has_asked_block, IsFormed, IsReadied, IsJoining, giving, value_given, lookup_heard};
+ghost use Rattle.rd_desk.specs.Lookups.{answer_listed, answer_at, has_asked_block, IsFormed};
+ghost use Rattle.rd_desk.specs.Lookups.{IsReadied, IsJoining, giving, value_given, lookup_heard};
 ghost use Rattle.rd_desk.specs.Outboxes.{most_datagrams};
 ghost use Rattle.rd_desk.specs.Stepping.{is_starved_step};
 ghost use Rattle.rd_desk.specs.UnderWay.{UnderWay};
@@ -54,7 +57,8 @@ struct Observing {
 }
 
 impl Tables {
-    /// The block of a listing that is asked for is sent, and the listing is kept where that is ready. Takes no memory.
+    /// The block of a listing that is asked for is sent, and the listing is kept where that is
+    /// ready. Takes no memory.
     fn give_formed(
         &mut self,
         mids: &mut Mids,
@@ -68,10 +72,16 @@ impl Tables {
         requires short { HasShortBlocks meaning.now }
         requires token { length meaning.now.view.token.now ≤ longest_token }
         requires observe { ForSome observe (λ value. value < 2 ^ 24) }
-        requires ready { IsReadied self.old.moment peer (key_in (message_in meaning.now.view)) self.old.transfers.answers formed }
+        requires ready { IsReadied self.old.moment peer (key_in (message_in meaning.now.view))
+            self.old.transfers.answers formed }
         requires room { length out.old < most_datagrams }
-        ensures way { (rows : List Row) (s : Step) (starved : Bool) (done : Effects) → s.peer ≡ peer → done.drew ≡ 0 → UnderWay rows s starved done self.old out.old mids.old
-            → UnderWay rows s starved (joined done (giving (is_some formed.ready) observe s (message_in meaning.now.view) (answer_listed formed.listed))) self.new out.new mids.new }
+        ensures way { (rows : List Row) (s : Step) (starved : Bool) (done : Effects)
+            → s.peer ≡ peer
+            → done.drew ≡ 0
+            → UnderWay rows s starved done self.old out.old mids.old
+            → UnderWay rows s starved (joined done
+            (giving (is_some formed.ready) observe s (message_in meaning.now.view)
+            (answer_listed formed.listed))) self.new out.new mids.new }
         ensures version { self.new.version ≡ self.old.version }
     {
         let Formed { listed, ready } = formed;
@@ -93,7 +103,8 @@ impl Tables {
         }
     }
 
-    /// The listing of a lookup of a further block now, to be kept where it has that block. `Starved`: out of memory.
+    /// The listing of a lookup of a further block now, to be kept where it has that block.
+    /// `Starved`: out of memory.
     fn form_later(
         &self,
         alloc: Global,
@@ -104,9 +115,16 @@ impl Tables {
         requires short { HasShortBlocks meaning.now }
         requires good { requests_of.has_bad_query (message_in meaning.now.view) ≡ false }
         requires seeks { seeks_links (path_in (message_in meaning.now.view)) ≡ true }
-        ensures formed { (history : List Entry) → VersionStandsFor 0 history self.now.version
-            → IfOk result (IsFormed (has_asked_block (requests_of.asked_block (message_in meaning.now.view)) (answer_at history self.now.moment (requests_of.query_of (message_in meaning.now.view))).body) (answer_at history self.now.moment (requests_of.query_of (message_in meaning.now.view)))) }
-        ensures ready { IfOk result (IsReadied self.now.moment peer (key_in (message_in meaning.now.view)) self.now.transfers.answers) }
+        ensures formed { (history : List Entry)
+            → VersionStandsFor 0 history self.now.version
+            → IfOk result (IsFormed (has_asked_block
+            (requests_of.asked_block (message_in meaning.now.view))
+            (answer_at history self.now.moment
+            (requests_of.query_of (message_in meaning.now.view))).body)
+            (answer_at history self.now.moment
+            (requests_of.query_of (message_in meaning.now.view)))) }
+        ensures ready { IfOk result (IsReadied self.now.moment peer
+            (key_in (message_in meaning.now.view)) self.now.transfers.answers) }
     {
         let query = query_of(alloc, meaning)?;
         let listed = listed_at(alloc, &*self.version, self.moment, &query)?;
@@ -122,7 +140,8 @@ impl Tables {
         )
     }
 
-    /// The listing of a query now, by which a lookup of a first block is answered, to be kept where it is longer than a block. `Starved`: out of memory.
+    /// The listing of a query now, by which a lookup of a first block is answered, to be kept where
+    /// it is longer than a block. `Starved`: out of memory.
     fn form_first(
         &self,
         alloc: Global,
@@ -132,9 +151,14 @@ impl Tables {
     ) -> Result<Formed, Starved>
         requires meaning { IsMeaning (message_in meaning.now.view) meaning.now }
         requires short { HasShortBlocks meaning.now }
-        ensures formed { (history : List Entry) → VersionStandsFor 0 history self.now.version
-            → IfOk result (IsFormed (bodies_of.is_long (requests_of.asked_block (message_in meaning.now.view)) (answer_at history self.now.moment query.now).body) (answer_at history self.now.moment query.now)) }
-        ensures ready { IfOk result (IsReadied self.now.moment peer (key_in (message_in meaning.now.view)) self.now.transfers.answers) }
+        ensures formed { (history : List Entry)
+            → VersionStandsFor 0 history self.now.version
+            → IfOk result (IsFormed (bodies_of.is_long
+            (requests_of.asked_block (message_in meaning.now.view))
+            (answer_at history self.now.moment query.now).body)
+            (answer_at history self.now.moment query.now)) }
+        ensures ready { IfOk result (IsReadied self.now.moment peer
+            (key_in (message_in meaning.now.view)) self.now.transfers.answers) }
     {
         let listed = listed_at(alloc, &*self.version, self.moment, query)?;
         let keep = is_long(&asked_block(meaning), listed.body.as_slice());
@@ -160,15 +184,23 @@ impl Tables {
         requires short { HasShortBlocks meaning.now }
         requires good { requests_of.has_bad_query (message_in meaning.now.view) ≡ false }
         requires seeks { seeks_links (path_in (message_in meaning.now.view)) ≡ true }
-        ensures formed { (history : List Entry) → VersionStandsFor 0 history self.now.version
-            → IfOk result (IsFormed (bodies_of.is_long (requests_of.asked_block (message_in meaning.now.view)) (answer_at history self.now.moment (requests_of.query_of (message_in meaning.now.view))).body) (answer_at history self.now.moment (requests_of.query_of (message_in meaning.now.view)))) }
-        ensures ready { IfOk result (IsReadied self.now.moment peer (key_in (message_in meaning.now.view)) self.now.transfers.answers) }
+        ensures formed { (history : List Entry)
+            → VersionStandsFor 0 history self.now.version
+            → IfOk result (IsFormed (bodies_of.is_long
+            (requests_of.asked_block (message_in meaning.now.view))
+            (answer_at history self.now.moment
+            (requests_of.query_of (message_in meaning.now.view))).body)
+            (answer_at history self.now.moment
+            (requests_of.query_of (message_in meaning.now.view)))) }
+        ensures ready { IfOk result (IsReadied self.now.moment peer
+            (key_in (message_in meaning.now.view)) self.now.transfers.answers) }
     {
         let query = query_of(alloc, meaning)?;
         self.form_first(alloc, peer, meaning, &query)
     }
 
-    /// What takes memory for a lookup that asks to observe, but the place of its query. `Starved`: out of memory.
+    /// What takes memory for a lookup that asks to observe, but the place of its query. `Starved`:
+    /// out of memory.
     fn form_observed(
         &self,
         alloc: Global,
@@ -180,12 +212,20 @@ impl Tables {
         requires token { length meaning.now.view.token.now ≤ longest_token }
         requires good { requests_of.has_bad_query (message_in meaning.now.view) ≡ false }
         requires seeks { seeks_links (path_in (message_in meaning.now.view)) ≡ true }
-        ensures query { IfOk result (λ o. o.query ≡ requests_of.query_of (message_in meaning.now.view)) }
-        ensures joining { IfOk result (λ o. IsJoining peer (message_in meaning.now.view) (arc_value o.formed.listed.body) o.joining) }
-        ensures formed { (history : List Entry) → VersionStandsFor 0 history self.now.version
-            → IfOk result (λ o. IsFormed (bodies_of.is_long (requests_of.asked_block (message_in meaning.now.view)) (answer_at history self.now.moment (requests_of.query_of (message_in meaning.now.view))).body)
-            (answer_at history self.now.moment (requests_of.query_of (message_in meaning.now.view))) o.formed) }
-        ensures ready { IfOk result (λ o. IsReadied self.now.moment peer (key_in (message_in meaning.now.view)) self.now.transfers.answers o.formed) }
+        ensures query { IfOk result (λ o. o.query
+            ≡ requests_of.query_of (message_in meaning.now.view)) }
+        ensures joining { IfOk result (λ o. IsJoining peer (message_in meaning.now.view)
+            (arc_value o.formed.listed.body) o.joining) }
+        ensures formed { (history : List Entry)
+            → VersionStandsFor 0 history self.now.version
+            → IfOk result (λ o. IsFormed (bodies_of.is_long
+            (requests_of.asked_block (message_in meaning.now.view))
+            (answer_at history self.now.moment
+            (requests_of.query_of (message_in meaning.now.view))).body)
+            (answer_at history self.now.moment
+            (requests_of.query_of (message_in meaning.now.view))) o.formed) }
+        ensures ready { IfOk result (λ o. IsReadied self.now.moment peer
+            (key_in (message_in meaning.now.view)) self.now.transfers.answers o.formed) }
     {
         let query = query_of(alloc, meaning)?;
         let formed = self.form_first(alloc, peer, meaning, &query)?;
@@ -197,18 +237,27 @@ impl Tables {
         })
     }
 
-    /// An observer joins in place of that of its peer and token, where it has room; the Observe value that it is given then. `Starved`: out of memory, and
-    /// nothing changed.
+    /// An observer joins in place of that of its peer and token, where it has room; the Observe
+    /// value that it is given then. `Starved`: out of memory, and nothing changed.
     fn join(
         &mut self,
         alloc: Global,
         query: &Query,
         joining: Joining,
     ) -> Result<Option<u32>, Starved>
-        ensures value { (rows : List Row) (s : Step) (starved : Bool) (out : List (Endpoint × List ℕ)) (mids : MidsSeen) → UnderWay rows s starved nothing self.old out mids
-            → IfOk result (λ value. value ≡ value_given (has_room_for query.now (without (joining.peer, joining.token) (observers (events rows)))) (events rows)) }
-        ensures way { (rows : List Row) (s : Step) (starved : Bool) (out : List (Endpoint × List ℕ)) (mids : MidsSeen) → UnderWay rows s starved nothing self.old out mids
-            → IfOk result (λ value. UnderWay rows s starved (noting (joining_notes (is_some value) (observer_joining query.now joining) (arc_value joining.body) (observers (events rows)))) self.new out mids) }
+        ensures value { (rows : List Row) (s : Step) (starved : Bool) (out : List (Endpoint
+            × List ℕ)) (mids : MidsSeen)
+            → UnderWay rows s starved nothing self.old out mids
+            → IfOk result (λ value. value
+            ≡ value_given (has_room_for query.now
+            (without (joining.peer, joining.token) (observers (events rows))))
+            (events rows)) }
+        ensures way { (rows : List Row) (s : Step) (starved : Bool) (out : List (Endpoint
+            × List ℕ)) (mids : MidsSeen)
+            → UnderWay rows s starved nothing self.old out mids
+            → IfOk result (λ value. UnderWay rows s starved
+            (noting (joining_notes (is_some value) (observer_joining query.now joining)
+            (arc_value joining.body) (observers (events rows)))) self.new out mids) }
         ensures short { IfOk result (λ value. ForSome value (λ v. v < 2 ^ 24)) }
         ensures transfers { self.new.transfers ≡ self.old.transfers }
         ensures moment { self.new.moment ≡ self.old.moment }
@@ -239,8 +288,12 @@ impl Tables {
         requires seeks { seeks_links (path_in (message_in meaning.now.view)) ≡ true }
         requires later { requests_of.is_later_block (message_in meaning.now.view) ≡ true }
         requires room { length out.old < most_datagrams }
-        ensures way { (rows : List Row) (s : Step) → s.peer ≡ peer → UnderWay rows s (is_starved_step result) nothing self.old out.old mids.old
-            → UnderWay rows s (is_starved_step result) (lookup_heard (is_starved_step result) rows s (message_in meaning.now.view)) self.new out.new mids.new }
+        ensures way { (rows : List Row) (s : Step)
+            → s.peer ≡ peer
+            → UnderWay rows s (is_starved_step result) nothing self.old out.old mids.old
+            → UnderWay rows s (is_starved_step result)
+            (lookup_heard (is_starved_step result) rows s (message_in meaning.now.view))
+            self.new out.new mids.new }
         ensures version { self.new.version ≡ self.old.version }
     {
         let Ok(key) = request_key(alloc, meaning) else {
@@ -266,7 +319,8 @@ impl Tables {
         Stepped::Done
     }
 
-    /// A lookup of a first block that asks to observe: an observer of the same peer and token goes, and one is added where it has room.
+    /// A lookup of a first block that asks to observe: an observer of the same peer and token goes,
+    /// and one is added where it has room.
     fn answer_observed(
         &mut self,
         alloc: Global,
@@ -283,8 +337,12 @@ impl Tables {
         requires first { requests_of.is_later_block (message_in meaning.now.view) ≡ false }
         requires observes { begins_observation (observe_in (message_in meaning.now.view)) ≡ true }
         requires room { length out.old < most_datagrams }
-        ensures way { (rows : List Row) (s : Step) → s.peer ≡ peer → UnderWay rows s (is_starved_step result) nothing self.old out.old mids.old
-            → UnderWay rows s (is_starved_step result) (lookup_heard (is_starved_step result) rows s (message_in meaning.now.view)) self.new out.new mids.new }
+        ensures way { (rows : List Row) (s : Step)
+            → s.peer ≡ peer
+            → UnderWay rows s (is_starved_step result) nothing self.old out.old mids.old
+            → UnderWay rows s (is_starved_step result)
+            (lookup_heard (is_starved_step result) rows s (message_in meaning.now.view))
+            self.new out.new mids.new }
         ensures version { self.new.version ≡ self.old.version }
     {
         let Ok(observing) = self.form_observed(alloc, peer, meaning) else {
@@ -304,7 +362,8 @@ impl Tables {
         Stepped::Done
     }
 
-    /// A lookup of a first block that asks to observe no more: the observer of its peer and token goes.
+    /// A lookup of a first block that asks to observe no more: the observer of its peer and token
+    /// goes.
     fn answer_unobserved(
         &mut self,
         alloc: Global,
@@ -322,8 +381,12 @@ impl Tables {
         requires heeded { requests_of.is_heeded (observe_in (message_in meaning.now.view)) ≡ true }
         requires ends { begins_observation (observe_in (message_in meaning.now.view)) ≡ false }
         requires room { length out.old < most_datagrams }
-        ensures way { (rows : List Row) (s : Step) → s.peer ≡ peer → UnderWay rows s (is_starved_step result) nothing self.old out.old mids.old
-            → UnderWay rows s (is_starved_step result) (lookup_heard (is_starved_step result) rows s (message_in meaning.now.view)) self.new out.new mids.new }
+        ensures way { (rows : List Row) (s : Step)
+            → s.peer ≡ peer
+            → UnderWay rows s (is_starved_step result) nothing self.old out.old mids.old
+            → UnderWay rows s (is_starved_step result)
+            (lookup_heard (is_starved_step result) rows s (message_in meaning.now.view))
+            self.new out.new mids.new }
         ensures version { self.new.version ≡ self.old.version }
     {
         let Ok(formed) = self.form_unobserved(alloc, peer, meaning) else {
@@ -335,7 +398,8 @@ impl Tables {
         Stepped::Done
     }
 
-    /// A lookup that the journal takes part in: of a further block, beside which Observe is ignored, or one that begins or ends an observation.
+    /// A lookup that the journal takes part in: of a further block, beside which Observe is
+    /// ignored, or one that begins or ends an observation.
     pub(crate) fn hear_lookup(
         &mut self,
         alloc: Global,
@@ -351,8 +415,12 @@ impl Tables {
         requires lookup { requests_of.is_lookup (path_in (message_in meaning.now.view)) ≡ true }
         requires other { requests_of.only_looks (message_in meaning.now.view) ≡ false }
         requires room { length out.old < most_datagrams }
-        ensures way { (rows : List Row) (s : Step) → s.peer ≡ peer → UnderWay rows s (is_starved_step result) nothing self.old out.old mids.old
-            → UnderWay rows s (is_starved_step result) (lookup_heard (is_starved_step result) rows s (message_in meaning.now.view)) self.new out.new mids.new }
+        ensures way { (rows : List Row) (s : Step)
+            → s.peer ≡ peer
+            → UnderWay rows s (is_starved_step result) nothing self.old out.old mids.old
+            → UnderWay rows s (is_starved_step result)
+            (lookup_heard (is_starved_step result) rows s (message_in meaning.now.view))
+            self.new out.new mids.new }
         ensures version { self.new.version ≡ self.old.version }
     {
         if is_later_block(meaning) {

@@ -1,5 +1,6 @@
 //! Marks of watched queries, and the observers that are due by them (RFC 7641 section 4.2).
-ghost use Rattle.std.specs.Prelude.{◌≡◌, ◌≤◌, ℕ, List, Some, MatchOption, IfSome, true, false, map, slice_get};
+ghost use Rattle.std.specs.Prelude.{◌≡◌, ◌≤◌, ℕ, List, Some, MatchOption, IfSome, true, false};
+ghost use Rattle.std.specs.Prelude.{map, slice_get};
 ghost use Rattle.history_model.specs.declared.entries.Entry.{Entry};
 ghost use Rattle.history_model.specs.ChangedParts.{is_lapse_of};
 ghost use Rattle.history_model.specs.Replay.{replay};
@@ -14,10 +15,13 @@ use observers::Observers;
 use rd_base::Moment;
 use watch_table::WatchTable;
 
-/// The place of the query of the observer with an index, where that is marked and the observer is not due.
+/// The place of the query of the observer with an index, where that is marked and the observer is
+/// not due.
 fn place_to_mark(watches: &WatchTable, observers: &Observers, index: usize) -> Option<u32>
     ensures marked { IfSome result (λ place. is_marked_at place watches.now ≡ true) }
-    ensures own { (w : Watcher) → slice_get observers.now index ≡ Some w → MatchOption result (IsHanded watches.now w) (λ place. place ≡ w.place) }
+    ensures own { (w : Watcher)
+        → slice_get observers.now index ≡ Some w
+        → MatchOption result (IsHanded watches.now w) (λ place. place ≡ w.place) }
 {
     let Some(observer) = observers.at(index) else {
         return None;
@@ -51,8 +55,9 @@ pub(crate) fn hand_on(watches: &mut WatchTable, observers: &mut Observers)
     watches.clear();
 }
 
-/// Marks the queries to which registrations give lines that lapse after the first of these moments and not after the second, and drops their bodies.
-/// Whether a registration lapses then. The first moment is not before the last sweep.
+/// Marks the queries to which registrations give lines that lapse after the first of these moments
+/// and not after the second, and drops their bodies. Whether a registration lapses then. The first
+/// moment is not before the last sweep.
 pub(crate) fn touch_lapsing(
     watches: &mut WatchTable,
     version: &Directory,
@@ -60,9 +65,15 @@ pub(crate) fn touch_lapsing(
     to: Moment,
 ) -> bool
     requires { version.now.swept ≤ from.0 }
-    ensures touched { (first : ℕ) (history : List Entry) → VersionStandsFor first history version.now → watches.new ≡ all_touched_where (λ query. is_lapse_of query from.0 to.0 (replay history).records) watches.old }
+    ensures touched { (first : ℕ) (history : List Entry)
+        → VersionStandsFor first history version.now
+        → watches.new
+        ≡ all_touched_where (λ query. is_lapse_of query from.0 to.0 (replay history).records)
+        watches.old }
     ensures none { result ≡ false → watches.new ≡ watches.old }
-    ensures watched { (standing : List Watcher) → AreWatched watches.old standing → AreWatched watches.new standing }
+    ensures watched { (standing : List Watcher)
+        → AreWatched watches.old standing
+        → AreWatched watches.new standing }
 {
     let mut lapsing = version.lapsing(from, to);
     let mut lapses = false;

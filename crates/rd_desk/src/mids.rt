@@ -7,7 +7,8 @@ ghost use Rattle.journal_model.specs.UnfinishedRow.{drawing};
 /// How many Message IDs each worker has.
 const WORKER_MIDS: u16 = 4_096;
 
-/// The Message IDs of one worker. Each worker has 4,096 of its own, which it draws in turn, again and again.
+/// The Message IDs of one worker. Each worker has 4,096 of its own, which it draws in turn, again
+/// and again.
 #[derive(Drop)]
 pub struct Mids {
     /// The worker, below 16.

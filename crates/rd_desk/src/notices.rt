@@ -1,5 +1,7 @@
-//! New notices: observers that are due get one, one after the other (RFC 7641 sections 1.3, 4.2 and 4.5).
-ghost use Rattle.std.specs.Prelude.{◌≡◌, ◌<◌, ◌≤◌, ◌+◌, ◌++◌, ◌∷◌, [], ℕ, Bool, false, List, Some, None, IfOk, OnOk, length, slice_get};
+//! New notices: observers that are due get one, one after the other (RFC 7641 sections 1.3, 4.2 and
+//! 4.5).
+ghost use Rattle.std.specs.Prelude.{◌≡◌, ◌<◌, ◌≤◌, ◌+◌, ◌++◌, ◌∷◌, [], ℕ, Bool, false, List};
+ghost use Rattle.std.specs.Prelude.{Some, None, IfOk, OnOk, length, slice_get};
 ghost use Rattle.std.specs.Arc.{arc_value};
 ghost use Rattle.rd_base.specs.declared.peers.Peer.{Peer as Endpoint};
 ghost use Rattle.history_model.specs.Listing.{listing, tag as tag_of};
@@ -21,7 +23,8 @@ ghost use Rattle.rd_desk.specs.Desks.{StandsFor};
 ghost use Rattle.rd_desk.specs.Noticing.{next_noticed};
 ghost use Rattle.coap_message.specs.PartialMessages.{longest_datagram};
 ghost use Rattle.rd_desk.specs.Outboxes.{most_datagrams};
-ghost use Rattle.rd_desk.specs.Planning.{PlannedUpTo, AreDone, CarryingOut, with_answers, notices_done};
+ghost use Rattle.rd_desk.specs.Planning.{PlannedUpTo, AreDone, CarryingOut, with_answers};
+ghost use Rattle.rd_desk.specs.Planning.{notices_done};
 ghost use Rattle.rd_desk.specs.Stepping.{is_starved_step};
 ghost use Rattle.rd_desk.specs.Ticking.{tick_takes_memory};
 ghost use Rattle.rd_desk.specs.UnderWay.{UnderWay};
@@ -41,7 +44,11 @@ use transfers::Answers;
 
 /// A notice is sent to the observer with an index.
 fn send_to(watching: &Watching, index: usize, sent: &Sent, out: &mut Outbox)
-    ensures { (x : Watcher) → slice_get watching.now.observers index ≡ Some x → length out.old < most_datagrams → length sent.now.octets ≤ longest_datagram → out.new ≡ out.old ++ (x.peer, sent.now.octets) ∷ [] }
+    ensures { (x : Watcher)
+        → slice_get watching.now.observers index ≡ Some x
+        → length out.old < most_datagrams
+        → length sent.now.octets ≤ longest_datagram
+        → out.new ≡ out.old ++ (x.peer, sent.now.octets) ∷ [] }
 {
     let Some(observer) = watching.at(index) else {
         return;
@@ -62,10 +69,15 @@ fn index_after(watching: &Watching, index: usize) -> usize
 }
 
 impl Tables {
-    /// The body of the query of the observer with an index. It is kept, so that it is formed once for all who observe it. `Starved`: out of memory.
+    /// The body of the query of the observer with an index. It is kept, so that it is formed once
+    /// for all who observe it. `Starved`: out of memory.
     fn body_for(&mut self, alloc: Global, index: usize) -> Result<Arc<Bytes>, Starved>
         requires { index < length self.old.watching.observers }
-        ensures body { (rows : List Row) (o : Observed) → StandsFor rows self.old → slice_get (observers (events rows)) index ≡ Some o → IfOk result (λ body. arc_value body ≡ listing o.query (entries rows) (journal.now rows)) }
+        ensures body { (rows : List Row) (o : Observed)
+            → StandsFor rows self.old
+            → slice_get (observers (events rows)) index ≡ Some o
+            → IfOk result (λ body. arc_value body
+            ≡ listing o.query (entries rows) (journal.now rows)) }
         ensures stands { (rows : List Row) → StandsFor rows self.old → StandsFor rows self.new }
         ensures observers { self.new.watching.observers ≡ self.old.watching.observers }
         ensures others { self.new ≡ record self.old { watching = self.new.watching } }
@@ -76,8 +88,8 @@ impl Tables {
         Ok(body)
     }
 
-    /// What is done for the observer with an index, which is due and to whose peer no notice is in flight, is planned: nothing where a notice to its peer is planned.
-    /// `Starved`: out of memory.
+    /// What is done for the observer with an index, which is due and to whose peer no notice is in
+    /// flight, is planned: nothing where a notice to its peer is planned. `Starved`: out of memory.
     fn plan_one(
         &mut self,
         alloc: Global,
@@ -88,10 +100,18 @@ impl Tables {
         plan: &mut Plan,
     ) -> Result<(), Starved>
         requires { index < length self.old.watching.observers }
-        ensures planned { (rows : List Row) (s : Step) (starved : Bool) (whole first : Effects) (out : List (Endpoint × List ℕ)) (from : ℕ) → s.word ≡ word → UnderWay rows s starved first self.old out mids.now → tag.0 ≡ tag_of (entries rows) (row_moment rows s)
-            → next_ready from self.old.watching.observers ≡ Some index → length plan.old.peers.items < 64
-            → PlannedUpTo rows s starved tag.0 whole first self.old.watching.observers self.old.observed plan.old from
-            → OnOk result (PlannedUpTo rows s starved tag.0 whole first self.old.watching.observers self.old.observed plan.new (index + 1)) }
+        ensures planned { (rows : List Row) (s : Step) (starved : Bool) (whole first : Effects)
+            (out : List (Endpoint
+            × List ℕ)) (from : ℕ)
+            → s.word ≡ word
+            → UnderWay rows s starved first self.old out mids.now
+            → tag.0 ≡ tag_of (entries rows) (row_moment rows s)
+            → next_ready from self.old.watching.observers ≡ Some index
+            → length plan.old.peers.items < 64
+            → PlannedUpTo rows s starved tag.0 whole first self.old.watching.observers
+            self.old.observed plan.old from
+            → OnOk result (PlannedUpTo rows s starved tag.0 whole first self.old.watching.observers
+            self.old.observed plan.new (index + 1)) }
         ensures stands { (rows : List Row) → StandsFor rows self.old → StandsFor rows self.new }
         ensures observers { self.new.watching.observers ≡ self.old.watching.observers }
         ensures others { self.new ≡ record self.old { watching = self.new.watching } }
@@ -125,7 +145,8 @@ impl Tables {
         )
     }
 
-    /// What is done for each observer that is looked at is planned. Nothing changes but bodies that are kept. `Starved`: out of memory.
+    /// What is done for each observer that is looked at is planned. Nothing changes but bodies that
+    /// are kept. `Starved`: out of memory.
     fn plan_all(
         &mut self,
         alloc: Global,
@@ -134,9 +155,16 @@ impl Tables {
         mids: &Mids,
         plan: &mut Plan,
     ) -> Result<(), Starved>
-        ensures planned { (rows : List Row) (s : Step) (starved : Bool) (whole first : Effects) (out : List (Endpoint × List ℕ)) → s.word ≡ word → UnderWay rows s starved first self.old out mids.now → tag.0 ≡ tag_of (entries rows) (row_moment rows s)
-            → PlannedUpTo rows s starved tag.0 whole first self.old.watching.observers self.old.observed plan.old 0
-            → OnOk result (AreDone rows s starved tag.0 whole first 0 plan.new.items.items plan.new.kept.items) }
+        ensures planned { (rows : List Row) (s : Step) (starved : Bool) (whole first : Effects)
+            (out : List (Endpoint
+            × List ℕ))
+            → s.word ≡ word
+            → UnderWay rows s starved first self.old out mids.now
+            → tag.0 ≡ tag_of (entries rows) (row_moment rows s)
+            → PlannedUpTo rows s starved tag.0 whole first self.old.watching.observers
+            self.old.observed plan.old 0
+            → OnOk result (AreDone rows s starved tag.0 whole first 0 plan.new.items.items
+            plan.new.kept.items) }
         ensures stands { (rows : List Row) → StandsFor rows self.old → StandsFor rows self.new }
         ensures others { self.new ≡ record self.old { watching = self.new.watching } }
     {
@@ -152,7 +180,8 @@ impl Tables {
         Ok(())
     }
 
-    /// The observer with an index gets the notice with a body that is planned for it. Takes no memory.
+    /// The observer with an index gets the notice with a body that is planned for it. Takes no
+    /// memory.
     fn send_new(
         &mut self,
         index: usize,
@@ -162,10 +191,18 @@ impl Tables {
         out: &mut Outbox,
     )
         requires within { index < length self.old.watching.observers }
-        requires free { (x : Watcher) → slice_get self.old.watching.observers index ≡ Some x → is_awaited x.peer self.old.watching.observers ≡ false }
-        ensures { (rows : List Row) (s : Step) (starved : Bool) (current : List ℕ) (whole : Effects) (ready : List KeptAnswer) (from : ℕ) (rest : List Meant)
-            → ((past : List Row) → WatchingStandsFor past self.old.watching → Some index ≡ next_noticed from (events past) (transitions past))
-            → CarryingOut rows s starved current whole ready self.old out.old mids.old from (meant.Noticed sent body ∷ rest) → CarryingOut rows s starved current whole ready self.new out.new mids.new (index + 1) rest }
+        requires free { (x : Watcher)
+            → slice_get self.old.watching.observers index ≡ Some x
+            → is_awaited x.peer self.old.watching.observers ≡ false }
+        ensures { (rows : List Row) (s : Step) (starved : Bool) (current : List ℕ) (whole : Effects)
+            (ready : List KeptAnswer) (from : ℕ) (rest : List Meant)
+            → ((past : List Row)
+            → WatchingStandsFor past self.old.watching
+            → Some index ≡ next_noticed from (events past) (transitions past))
+            → CarryingOut rows s starved current whole ready self.old out.old mids.old from
+            (meant.Noticed sent body ∷ rest)
+            → CarryingOut rows s starved current whole ready self.new out.new mids.new (index + 1)
+            rest }
     {
         send_to(&self.watching, index, &sent, out);
         let _drawn = mids.next();
@@ -176,10 +213,18 @@ impl Tables {
     /// What is planned for the observer with an index is done. Takes no memory.
     fn carry_out_one(&mut self, index: usize, item: Planned, mids: &mut Mids, out: &mut Outbox)
         requires within { index < length self.old.watching.observers }
-        requires free { (x : Watcher) → slice_get self.old.watching.observers index ≡ Some x → is_awaited x.peer self.old.watching.observers ≡ false }
-        ensures { (rows : List Row) (s : Step) (starved : Bool) (current : List ℕ) (whole : Effects) (ready : List KeptAnswer) (from : ℕ) (rest : List Meant)
-            → ((past : List Row) → WatchingStandsFor past self.old.watching → Some index ≡ next_noticed from (events past) (transitions past))
-            → CarryingOut rows s starved current whole ready self.old out.old mids.old from (item ∷ rest) → CarryingOut rows s starved current whole ready self.new out.new mids.new (index + 1) rest }
+        requires free { (x : Watcher)
+            → slice_get self.old.watching.observers index ≡ Some x
+            → is_awaited x.peer self.old.watching.observers ≡ false }
+        ensures { (rows : List Row) (s : Step) (starved : Bool) (current : List ℕ) (whole : Effects)
+            (ready : List KeptAnswer) (from : ℕ) (rest : List Meant)
+            → ((past : List Row)
+            → WatchingStandsFor past self.old.watching
+            → Some index ≡ next_noticed from (events past) (transitions past))
+            → CarryingOut rows s starved current whole ready self.old out.old mids.old from
+            (item ∷ rest)
+            → CarryingOut rows s starved current whole ready self.new out.new mids.new (index + 1)
+            rest }
     {
         match item {
             Planned::Unchanged => {
@@ -193,10 +238,13 @@ impl Tables {
         }
     }
 
-    /// A plan is carried out: for each observer that is due and free, one after the other, what is planned. Takes no memory.
+    /// A plan is carried out: for each observer that is due and free, one after the other, what is
+    /// planned. Takes no memory.
     fn carry_out(&mut self, items: Vec<Planned>, mids: &mut Mids, out: &mut Outbox)
-        ensures { (rows : List Row) (s : Step) (starved : Bool) (current : List ℕ) (whole : Effects) (ready : List KeptAnswer)
-            → CarryingOut rows s starved current whole ready self.old out.old mids.old 0 items.items → UnderWay rows s starved whole (with_answers ready self.new) out.new mids.new }
+        ensures { (rows : List Row) (s : Step) (starved : Bool) (current : List ℕ) (whole : Effects)
+            (ready : List KeptAnswer)
+            → CarryingOut rows s starved current whole ready self.old out.old mids.old 0 items.items
+            → UnderWay rows s starved whole (with_answers ready self.new) out.new mids.new }
     {
         let mut from = 0;
         'items: for item in items {
@@ -209,7 +257,8 @@ impl Tables {
         }
     }
 
-    /// Observers of whom at least one is due and free get a notice, one after the other, at most 64 in all. What takes memory comes before anything changes.
+    /// Observers of whom at least one is due and free get a notice, one after the other, at most 64
+    /// in all. What takes memory comes before anything changes.
     fn send_notices(
         &mut self,
         alloc: Global,
@@ -217,8 +266,12 @@ impl Tables {
         mids: &mut Mids,
         out: &mut Outbox,
     ) -> Stepped
-        ensures way { (rows : List Row) (s : Step) → s.word ≡ word → UnderWay rows s (is_starved_step result) (ticks_of.notices_again rows (row_moment rows s)) self.old out.old mids.old
-            → UnderWay rows s (is_starved_step result) (notices_done (is_starved_step result) rows s) self.new out.new mids.new }
+        ensures way { (rows : List Row) (s : Step)
+            → s.word ≡ word
+            → UnderWay rows s (is_starved_step result)
+            (ticks_of.notices_again rows (row_moment rows s)) self.old out.old mids.old
+            → UnderWay rows s (is_starved_step result)
+            (notices_done (is_starved_step result) rows s) self.new out.new mids.new }
     {
         let tag = self.version.tag(self.moment);
         let mut plan = Plan::empty(alloc);
@@ -238,8 +291,8 @@ impl Tables {
         Stepped::Done
     }
 
-    /// The second part of a tick: observers that are due get a notice, one after the other, at most 64 in all. Where none is due whose peer waits for no notice, it takes no
-    /// memory.
+    /// The second part of a tick: observers that are due get a notice, one after the other, at most
+    /// 64 in all. Where none is due whose peer waits for no notice, it takes no memory.
     pub(crate) fn notices(
         &mut self,
         alloc: Global,
@@ -247,10 +300,17 @@ impl Tables {
         mids: &mut Mids,
         out: &mut Outbox,
     ) -> Stepped
-        ensures way { (rows : List Row) (s : Step) → s.word ≡ word → UnderWay rows s (is_starved_step result) (ticks_of.notices_again rows (row_moment rows s)) self.old out.old mids.old
-            → UnderWay rows s (is_starved_step result) (notices_done (is_starved_step result) rows s) self.new out.new mids.new }
-        ensures unstarved { (rows : List Row) (s : Step) (starved : Bool) → UnderWay rows s starved (ticks_of.notices_again rows (row_moment rows s)) self.old out.old mids.old
-            → tick_takes_memory rows (row_moment rows s) s ≡ false → is_starved_step result ≡ false }
+        ensures way { (rows : List Row) (s : Step)
+            → s.word ≡ word
+            → UnderWay rows s (is_starved_step result)
+            (ticks_of.notices_again rows (row_moment rows s)) self.old out.old mids.old
+            → UnderWay rows s (is_starved_step result)
+            (notices_done (is_starved_step result) rows s) self.new out.new mids.new }
+        ensures unstarved { (rows : List Row) (s : Step) (starved : Bool)
+            → UnderWay rows s starved (ticks_of.notices_again rows (row_moment rows s)) self.old
+            out.old mids.old
+            → tick_takes_memory rows (row_moment rows s) s ≡ false
+            → is_starved_step result ≡ false }
     {
         if self.watching.next_due(0).is_none() {
             return Stepped::Done;

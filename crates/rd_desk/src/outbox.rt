@@ -1,5 +1,6 @@
 //! What a step sends: datagrams with the peers that they go to.
-ghost use Rattle.std.specs.Prelude.{◌≡◌, ◌<◌, ◌≤◌, [], ◌∷◌, ◌++◌, length, IfOk, IsTrue, ◌↔◌, option_map, slice_get};
+ghost use Rattle.std.specs.Prelude.{◌≡◌, ◌<◌, ◌≤◌, [], ◌∷◌, ◌++◌, length, IfOk, IsTrue, ◌↔◌};
+ghost use Rattle.std.specs.Prelude.{option_map, slice_get};
 ghost use Rattle.coap_message.specs.PartialMessages.{longest_datagram};
 ghost use Rattle.rd_desk.specs.Outboxes.{most_datagrams};
 
@@ -27,8 +28,8 @@ struct Span {
     end: usize,
 }
 
-/// The datagrams that a step sends, in order: at most 1,152, of at most 1,280 octets each. It is made once, and takes no memory
-/// afterwards.
+/// The datagrams that a step sends, in order: at most 1,152, of at most 1,280 octets each. It is
+/// made once, and takes no memory afterwards.
 #[derive(Drop)]
 pub struct Outbox {
     /// The octets of all, one after the other.
@@ -73,9 +74,12 @@ impl Outbox {
         self.spans.push_reserved(Span { peer, start, end });
     }
 
-    /// One more datagram after the others, where there is room for it and it is no longer than a datagram may be. Takes no memory.
+    /// One more datagram after the others, where there is room for it and it is no longer than a
+    /// datagram may be. Takes no memory.
     pub(crate) fn push_fitting(&mut self, peer: Peer, datagram: &[u8])
-        ensures { length self.old < most_datagrams → length datagram.now ≤ longest_datagram → self.new ≡ self.old ++ (peer, datagram.now) ∷ [] }
+        ensures { length self.old < most_datagrams
+            → length datagram.now ≤ longest_datagram
+            → self.new ≡ self.old ++ (peer, datagram.now) ∷ [] }
     {
         if self.len() < MOST && datagram.len() <= LONGEST {
             self.push(peer, datagram);

@@ -1,4 +1,5 @@
-//! What is planned of a write before anything is changed: its answer, and the version with the entry that it makes (RFC 9176 sections 5, 5.3.1 and 5.3.2).
+//! What is planned of a write before anything is changed: its answer, and the version with the
+//! entry that it makes (RFC 9176 sections 5, 5.3.1 and 5.3.2).
 ghost use Rattle.std.specs.Prelude.{◌≡◌, ◌≤◌, ◌^◌, ℕ, [], List, IfOk};
 ghost use Rattle.std.specs.Option.{ForSome};
 ghost use Rattle.message_model.specs.Blocks.{IsBlock};
@@ -12,7 +13,8 @@ ghost use Rattle.history_model.specs.Versions.{VersionStandsFor};
 ghost use Rattle.event_model.specs.declared.notes.Note.{Note};
 ghost use Rattle.journal_model.specs.declared.steps.Step.{Step};
 ghost use Rattle.journal_model.specs.Changes as changes;
-ghost use Rattle.journal_model.specs.Changes.{body_read, change_made, created_at, entry_of_step, registration};
+ghost use Rattle.journal_model.specs.Changes.{body_read, change_made, created_at, entry_of_step};
+ghost use Rattle.journal_model.specs.Changes.{registration};
 ghost use Rattle.journal_model.specs.Effects.{bare};
 ghost use Rattle.message_model.specs.Codes as codes_of;
 ghost use Rattle.history_model.specs.Replay.{replay, number_for};
@@ -53,9 +55,12 @@ pub(crate) struct Outcome {
     pub entering: Option<Entering>,
 }
 
-/// What is answered to a change that is refused (RFC 9176 section 5.3); `Starved` where memory ran out.
+/// What is answered to a change that is refused (RFC 9176 section 5.3); `Starved` where memory ran
+/// out.
 fn refused_reply(refusal: Refusal) -> Result<Reply<'static>, Starved>
-    ensures said { (history : List Entry) (entry : Entry) → IsRefusalOf 0 history entry refusal → IfOk result (IsRefusedWith (change_refusal 0 history entry)) }
+    ensures said { (history : List Entry) (entry : Entry)
+        → IsRefusalOf 0 history entry refusal
+        → IfOk result (IsRefusedWith (change_refusal 0 history entry)) }
     ensures reply { IfOk result IsReply }
     ensures short { IfOk result IsShort }
 {
@@ -68,9 +73,12 @@ fn refused_reply(refusal: Refusal) -> Result<Reply<'static>, Starved>
     }
 }
 
-/// What is answered to a body that gives no draft (RFC 6690 section 2, RFC 9176 appendix C); `Starved` where memory ran out.
+/// What is answered to a body that gives no draft (RFC 6690 section 2, RFC 9176 appendix C);
+/// `Starved` where memory ran out.
 fn bad_body_reply(fault: DraftFault) -> Result<Reply<'static>, Starved>
-    ensures said { (body : List ℕ) → IsFaultOf body fault → IfOk result (IsBadBody (body_read body)) }
+    ensures said { (body : List ℕ)
+        → IsFaultOf body fault
+        → IfOk result (IsBadBody (body_read body)) }
     ensures reply { IfOk result IsReply }
     ensures short { IfOk result IsShort }
 {
@@ -82,7 +90,8 @@ fn bad_body_reply(fault: DraftFault) -> Result<Reply<'static>, Starved>
     }
 }
 
-/// 2.01 with the location of a registration (RFC 9176 section 5), and the block of the request that it answers, where it is one.
+/// 2.01 with the location of a registration (RFC 9176 section 5), and the block of the request that
+/// it answers, where it is one.
 fn created(number: u64, block1: Option<Block>) -> Reply<'static>
     requires { ForSome block1 IsBlock }
     ensures said { reply_said result ≡ created_at number (block1_options block1) }
@@ -101,7 +110,8 @@ fn created(number: u64, block1: Option<Block>) -> Reply<'static>
     }
 }
 
-/// What comes of a change that is accepted, by the version with its entry and what is answered. `Starved`: out of memory.
+/// What comes of a change that is accepted, by the version with its entry and what is answered.
+/// `Starved`: out of memory.
 fn entered(
     alloc: Global,
     version: Directory,
@@ -113,8 +123,13 @@ fn entered(
     requires short { IsShort reply }
     ensures reply { IfOk result (λ o. IsReply o.reply) }
     ensures short { IfOk result (λ o. IsShort o.reply) }
-    ensures moments { (moment : ℕ) → version.at ≡ moment → version.swept ≤ moment → IfOk result (IsTimely moment) }
-    ensures planned { (history : List Entry) (swept : ℕ) (entry : Entry) (meant : changes.Outcome) → HasEntry history swept entry version number kind → reply_said reply.entry ≡ meant.reply
+    ensures moments { (moment : ℕ)
+        → version.at ≡ moment
+        → version.swept ≤ moment
+        → IfOk result (IsTimely moment) }
+    ensures planned { (history : List Entry) (swept : ℕ) (entry : Entry) (meant : changes.Outcome)
+        → HasEntry history swept entry version number kind
+        → reply_said reply.entry ≡ meant.reply
         → IfOk result (IsPlanned history swept meant.notes (change_made history entry meant)) }
 {
     let version = Arc::new(alloc, version)?;
@@ -134,7 +149,8 @@ fn refused(refusal: Refusal) -> Result<Outcome, Starved>
     ensures reply { IfOk result (λ o. IsReply o.reply) }
     ensures short { IfOk result (λ o. IsShort o.reply) }
     ensures moments { (moment : ℕ) → IfOk result (IsTimely moment) }
-    ensures planned { (history : List Entry) (swept : ℕ) (entry : Entry) (meant : changes.Outcome) → IsRefusalOf 0 history entry refusal
+    ensures planned { (history : List Entry) (swept : ℕ) (entry : Entry) (meant : changes.Outcome)
+        → IsRefusalOf 0 history entry refusal
         → IfOk result (IsPlanned history swept meant.notes (change_made history entry meant)) }
 {
     let reply = refused_reply(refusal)?;
@@ -149,8 +165,11 @@ fn refused_body(fault: DraftFault) -> Result<Outcome, Starved>
     ensures reply { IfOk result (λ o. IsReply o.reply) }
     ensures short { IfOk result (λ o. IsShort o.reply) }
     ensures moments { (moment : ℕ) → IfOk result (IsTimely moment) }
-    ensures planned { (history : List Entry) (swept moment : ℕ) (s : Step) (params : RegParams) (body : List ℕ) (options : List Opt) (further : List Note) → IsFaultOf body fault
-        → IfOk result (IsPlanned history swept further (registration history moment s params body options further)) }
+    ensures planned { (history : List Entry) (swept moment : ℕ) (s : Step) (params : RegParams)
+        (body : List ℕ) (options : List Opt) (further : List Note)
+        → IsFaultOf body fault
+        → IfOk result (IsPlanned history swept further
+        (registration history moment s params body options further)) }
 {
     let reply = bad_body_reply(fault)?;
     Ok(Outcome {
@@ -159,7 +178,8 @@ fn refused_body(fault: DraftFault) -> Result<Outcome, Starved>
     })
 }
 
-/// What comes of the registration of a draft (RFC 9176 section 5), which ends a block of a request where one is named. `Starved`: out of memory.
+/// What comes of the registration of a draft (RFC 9176 section 5), which ends a block of a request
+/// where one is named. `Starved`: out of memory.
 fn draft_registered(
     alloc: Global,
     version: &Directory,
@@ -175,9 +195,13 @@ fn draft_registered(
     ensures reply { IfOk result (λ o. IsReply o.reply) }
     ensures short { IfOk result (λ o. IsShort o.reply) }
     ensures moments { IfOk result (IsTimely now.0) }
-    ensures planned { (history : List Entry) (entry : Entry) (meant : changes.Outcome) → VersionStandsFor 0 history version.now → IsRegistrationOf now draft entry
-        → meant.reply ≡ created_at (number_for draft.name now.0 (replay history)) (block1_options block1)
-        → IfOk result (IsPlanned history version.now.swept meant.notes (change_made history entry meant)) }
+    ensures planned { (history : List Entry) (entry : Entry) (meant : changes.Outcome)
+        → VersionStandsFor 0 history version.now
+        → IsRegistrationOf now draft entry
+        → meant.reply
+        ≡ created_at (number_for draft.name now.0 (replay history)) (block1_options block1)
+        → IfOk result (IsPlanned history version.now.swept meant.notes
+        (change_made history entry meant)) }
 {
     match version.register(now, draft) {
         Ok((version, number)) => {
@@ -188,8 +212,8 @@ fn draft_registered(
     }
 }
 
-/// What comes of a registration with these parameters and this body (RFC 9176 section 5), which ends a block of a request where one is named.
-/// `Starved`: out of memory.
+/// What comes of a registration with these parameters and this body (RFC 9176 section 5), which
+/// ends a block of a request where one is named. `Starved`: out of memory.
 pub(crate) fn registered(
     alloc: Global,
     version: &Directory,
@@ -207,9 +231,14 @@ pub(crate) fn registered(
     ensures reply { IfOk result (λ o. IsReply o.reply) }
     ensures short { IfOk result (λ o. IsShort o.reply) }
     ensures moments { IfOk result (IsTimely now.0) }
-    ensures next { (history : List Entry) → VersionStandsFor 0 history version.now → IfOk result (IsNextOf history) }
-    ensures planned { (history : List Entry) (s : Step) (further : List Note) → VersionStandsFor 0 history version.now → s.peer ≡ peer
-        → IfOk result (IsPlanned history version.now.swept further (registration history now.0 s params body.now (block1_options block1) further)) }
+    ensures next { (history : List Entry)
+        → VersionStandsFor 0 history version.now
+        → IfOk result (IsNextOf history) }
+    ensures planned { (history : List Entry) (s : Step) (further : List Note)
+        → VersionStandsFor 0 history version.now
+        → s.peer ≡ peer
+        → IfOk result (IsPlanned history version.now.swept further
+        (registration history now.0 s params body.now (block1_options block1) further)) }
 {
     match build(alloc, params, peer, body) {
         Ok(draft) => draft_registered(alloc, version, now, draft, block1),
@@ -217,7 +246,8 @@ pub(crate) fn registered(
     }
 }
 
-/// What comes of an update of the registration of a number (RFC 9176 section 5.3.1). `Starved`: out of memory.
+/// What comes of an update of the registration of a number (RFC 9176 section 5.3.1). `Starved`: out
+/// of memory.
 pub(crate) fn updated(
     alloc: Global,
     version: &Directory,
@@ -233,9 +263,15 @@ pub(crate) fn updated(
     ensures reply { IfOk result (λ o. IsReply o.reply) }
     ensures short { IfOk result (λ o. IsShort o.reply) }
     ensures moments { IfOk result (IsTimely now.0) }
-    ensures next { (history : List Entry) → VersionStandsFor 0 history version.now → IfOk result (IsNextOf history) }
-    ensures planned { (history : List Entry) (s : Step) → VersionStandsFor 0 history version.now → s.peer ≡ peer
-        → IfOk result (IsPlanned history version.now.swept [] (change_made history (entry_of_step now.0 s (change_of.Update number change)) (record { reply = bare codes_of.changed; notes = [] }))) }
+    ensures next { (history : List Entry)
+        → VersionStandsFor 0 history version.now
+        → IfOk result (IsNextOf history) }
+    ensures planned { (history : List Entry) (s : Step)
+        → VersionStandsFor 0 history version.now
+        → s.peer ≡ peer
+        → IfOk result (IsPlanned history version.now.swept []
+        (change_made history (entry_of_step now.0 s (change_of.Update number change))
+        (record { reply = bare codes_of.changed; notes = [] }))) }
 {
     match version.update(now, number, change, peer) {
         Ok(version) => {
@@ -246,7 +282,8 @@ pub(crate) fn updated(
     }
 }
 
-/// What comes of a removal of the registration of a number (RFC 9176 section 5.3.2). `Starved`: out of memory.
+/// What comes of a removal of the registration of a number (RFC 9176 section 5.3.2). `Starved`: out
+/// of memory.
 pub(crate) fn removed(
     alloc: Global,
     version: &Directory,
@@ -259,9 +296,14 @@ pub(crate) fn removed(
     ensures reply { IfOk result (λ o. IsReply o.reply) }
     ensures short { IfOk result (λ o. IsShort o.reply) }
     ensures moments { IfOk result (IsTimely now.0) }
-    ensures next { (history : List Entry) → VersionStandsFor 0 history version.now → IfOk result (IsNextOf history) }
-    ensures planned { (history : List Entry) (s : Step) → VersionStandsFor 0 history version.now
-        → IfOk result (IsPlanned history version.now.swept [] (change_made history (entry_of_step now.0 s (change_of.Remove number)) (record { reply = bare codes_of.deleted; notes = [] }))) }
+    ensures next { (history : List Entry)
+        → VersionStandsFor 0 history version.now
+        → IfOk result (IsNextOf history) }
+    ensures planned { (history : List Entry) (s : Step)
+        → VersionStandsFor 0 history version.now
+        → IfOk result (IsPlanned history version.now.swept []
+        (change_made history (entry_of_step now.0 s (change_of.Remove number))
+        (record { reply = bare codes_of.deleted; notes = [] }))) }
 {
     match version.remove(now, number) {
         Ok(version) => {

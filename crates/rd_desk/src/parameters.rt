@@ -1,4 +1,5 @@
-//! The parameters of a registration, by the query options of its request (RFC 9176 sections 5 and 5.1).
+//! The parameters of a registration, by the query options of its request (RFC 9176 sections 5 and
+//! 5.1).
 ghost use Rattle.std.specs.Prelude.{◌≡◌, None, IfOk};
 ghost use Rattle.message_model.specs.Request.{queries_in};
 ghost use Rattle.record_model.specs.AllowedParameters.{AreAllowed};
@@ -12,14 +13,16 @@ use query_text::{QueryBad, reg_params};
 use rd_base::{RegParams, Starved};
 use std::alloc::Global;
 
-/// The parameters of a registration, or of a simple one, whose query options are not refused. `Starved`: out of memory.
+/// The parameters of a registration, or of a simple one, whose query options are not refused.
+/// `Starved`: out of memory.
 pub(crate) fn given_params(
     alloc: Global,
     meaning: &Meaning<'_>,
     simple: bool,
 ) -> Result<RegParams, Starved>
     requires { fault_of (registering simple) (queries_in (message_in meaning.now.view)) ≡ None }
-    ensures value { IfOk result (λ params. params ≡ registration_values (queries_in (message_in meaning.now.view))) }
+    ensures value { IfOk result (λ params. params
+        ≡ registration_values (queries_in (message_in meaning.now.view))) }
     ensures allowed { IfOk result AreAllowed }
 {
     match reg_params(alloc, queries(meaning), simple) {

@@ -1,5 +1,7 @@
-//! What a tick plans for the observers that are due, before anything changes (RFC 7641 sections 1.3 and 4.2).
-ghost use Rattle.std.specs.Prelude.{◌≡◌, ◌<◌, ◌≤◌, ◌+◌, ◌%◌, ◌^◌, ◌++◌, ◌∷◌, [], ℕ, Bool, true, false, List, Some, IfOk, OnOk, length, bytes_eq, slice_get};
+//! What a tick plans for the observers that are due, before anything changes (RFC 7641 sections 1.3
+//! and 4.2).
+ghost use Rattle.std.specs.Prelude.{◌≡◌, ◌<◌, ◌≤◌, ◌+◌, ◌%◌, ◌^◌, ◌++◌, ◌∷◌, [], ℕ, Bool, true};
+ghost use Rattle.std.specs.Prelude.{false, List, Some, IfOk, OnOk, length, bytes_eq, slice_get};
 ghost use Rattle.std.specs.List.{list_any};
 ghost use Rattle.std.specs.Arc.{arc_value};
 ghost use Rattle.std.specs.Option.{ForSome};
@@ -62,7 +64,8 @@ pub(crate) enum Planned {
 pub(crate) struct Plan {
     /// For each of them.
     pub(crate) items: Vec<Planned>,
-    /// The peers that notices are planned for, at most 64: each gets no other (RFC 7252 section 4.7, NSTART).
+    /// The peers that notices are planned for, at most 64: each gets no other (RFC 7252 section
+    /// 4.7, NSTART).
     pub(crate) peers: Vec<Peer>,
     /// The answers that are kept for further blocks.
     pub(crate) kept: Vec<Answer>,
@@ -79,7 +82,8 @@ pub(crate) struct Occasion {
     pub(crate) tag: Tag,
 }
 
-/// The block that an observer gets, by the exponent of the size that it asked for: the first (RFC 7959 section 2.4).
+/// The block that an observer gets, by the exponent of the size that it asked for: the first (RFC
+/// 7959 section 2.4).
 fn block_of_notice(szx: u8) -> Option<Block>
     ensures first { result ≡ planning_of.block_of_notice szx }
     ensures block { ForSome result IsBlock }
@@ -107,7 +111,8 @@ fn block_named(szx: u8, body: &[u8]) -> Option<Block>
     None
 }
 
-/// The octets of a notice to an observer, with a body (RFC 7641 section 4.2). `Starved`: out of memory.
+/// The octets of a notice to an observer, with a body (RFC 7641 section 4.2). `Starved`: out of
+/// memory.
 fn notice_octets(
     alloc: Global,
     observer: &Observer,
@@ -117,7 +122,8 @@ fn notice_octets(
     body: &[u8],
 ) -> Result<Bytes, Starved>
     requires { observe < 2 ^ 24 }
-    ensures spelled { IfOk result (λ octets. octets ≡ notice_spelled observer.now tag.0 mid observe body.now) }
+    ensures spelled { IfOk result (λ octets. octets
+        ≡ notice_spelled observer.now tag.0 mid observe body.now) }
     ensures short { IfOk result (λ octets. length octets ≤ longest_datagram) }
 {
     let named = block_named(observer.szx, body);
@@ -170,7 +176,8 @@ impl Plan {
 
     /// Another observer's listing is unchanged. `Starved`: out of memory.
     pub(crate) fn add_unchanged(&mut self) -> Result<(), Starved>
-        ensures items { OnOk result (self.new.items.items ≡ self.old.items.items ++ planned.Unchanged ∷ []) }
+        ensures items { OnOk result (self.new.items.items
+            ≡ self.old.items.items ++ planned.Unchanged ∷ []) }
         ensures peers { self.new.peers.items ≡ self.old.peers.items }
         ensures kept { self.new.kept.items ≡ self.old.kept.items }
     {
@@ -178,7 +185,8 @@ impl Plan {
         Ok(())
     }
 
-    /// The body of a notice to an observer is kept for further blocks, where it is longer than the block that it gets. `Starved`: out of memory.
+    /// The body of a notice to an observer is kept for further blocks, where it is longer than the
+    /// block that it gets. `Starved`: out of memory.
     fn keep(
         &mut self,
         alloc: Global,
@@ -186,7 +194,8 @@ impl Plan {
         body: &Arc<Bytes>,
         tag: Tag,
     ) -> Result<(), Starved>
-        ensures kept { OnOk result (self.new.kept.items ≡ self.old.kept.items ++ planning_of.kept_by observer.now (arc_value body.now) tag.0) }
+        ensures kept { OnOk result (self.new.kept.items
+            ≡ self.old.kept.items ++ planning_of.kept_by observer.now (arc_value body.now) tag.0) }
         ensures peers { self.new.peers.items ≡ self.old.peers.items }
         ensures items { self.new.items.items ≡ self.old.items.items }
     {
@@ -204,7 +213,8 @@ impl Plan {
         Ok(())
     }
 
-    /// Another observer gets a notice with this body, under a Message ID and with an Observe value. `Starved`: out of memory.
+    /// Another observer gets a notice with this body, under a Message ID and with an Observe value.
+    /// `Starved`: out of memory.
     pub(crate) fn add_notice(
         &mut self,
         alloc: Global,
@@ -215,7 +225,10 @@ impl Plan {
         body: Arc<Bytes>,
     ) -> Result<(), Starved>
         requires { observe < 2 ^ 24 }
-        ensures { OnOk result ((sent : Message) × (self.new.items.items ≡ self.old.items.items ++ planned.Noticed sent body ∷ []) × AddsNotice observer.now occasion.now.0 occasion.word occasion.tag.0 (arc_value body) mid observe sent self.old self.new) }
+        ensures { OnOk result ((sent : Message)
+            × (self.new.items.items ≡ self.old.items.items ++ planned.Noticed sent body ∷ [])
+            × AddsNotice observer.now occasion.now.0 occasion.word occasion.tag.0 (arc_value body)
+            mid observe sent self.old self.new) }
     {
         let bytes = notice_octets(alloc, observer, occasion.tag, mid, observe, body.as_slice())?;
         self.keep(alloc, observer, &body, occasion.tag)?;
@@ -230,7 +243,8 @@ impl Plan {
     }
 }
 
-/// The body of the query of the observer with an index: that which is kept for all who observe it, or else it is formed. `Starved`: out of memory.
+/// The body of the query of the observer with an index: that which is kept for all who observe it,
+/// or else it is formed. `Starved`: out of memory.
 pub(crate) fn formed_body(
     watching: &Watching,
     alloc: Global,
@@ -241,7 +255,11 @@ pub(crate) fn formed_body(
     requires within { index < length watching.now.observers }
     requires after_at { version.now.at ≤ now.0 }
     requires after_sweep { version.now.swept ≤ now.0 }
-    ensures { (rows : List Row) (o : Observed) → now.0 ≡ journal.now rows → WatchingStandsFor rows watching.now → VersionStandsFor 0 (entries rows) version.now → slice_get (observers (events rows)) index ≡ Some o
+    ensures { (rows : List Row) (o : Observed)
+        → now.0 ≡ journal.now rows
+        → WatchingStandsFor rows watching.now
+        → VersionStandsFor 0 (entries rows) version.now
+        → slice_get (observers (events rows)) index ≡ Some o
         → IfOk result (λ body. arc_value body ≡ listing o.query (entries rows) (journal.now rows)) }
 {
     if let Some(body) = watching.body(index) {

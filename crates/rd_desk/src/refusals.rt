@@ -1,4 +1,5 @@
-//! The refusals that a request alone decides, as answers (RFC 7252 sections 5.4, 5.8 and 5.9, RFC 9176 sections 5 and 6).
+//! The refusals that a request alone decides, as answers (RFC 7252 sections 5.4, 5.8 and 5.9, RFC
+//! 9176 sections 5 and 6).
 ghost use Rattle.std.specs.Prelude.{◌≡◌};
 ghost use Rattle.message_model.specs.Refusals as refusals_of;
 ghost use Rattle.message_model.specs.Refusals.{refusal_code, refusal_word};

@@ -30,7 +30,8 @@ fn reply_to(refused: Refused) -> Reply<'static>
     }
 }
 
-/// Whether nothing is answered: an unrecognized critical option in a message that is not confirmable (RFC 7252 section 5.4.1).
+/// Whether nothing is answered: an unrecognized critical option in a message that is not
+/// confirmable (RFC 7252 section 5.4.1).
 fn is_passed_over(kind: Kind4, refused: &Refused) -> bool
     ensures { result ≡ is_passed_over kind refused.now }
 {
@@ -51,7 +52,10 @@ pub(crate) fn refuse(
     requires token { length view.now.token.now ≤ longest_token }
     requires refused { IsRefusedBy refused (message_in view.now) }
     requires room { length out.old < most_datagrams }
-    ensures sends { (s : Step) → IsStepOf s peer mids.old → Sends (refusal_answered view.now.kind (first_bad_option (message_in view.now).options) s (message_in view.now) (refused_with refused)) out.old out.new mids.old mids.new }
+    ensures sends { (s : Step)
+        → IsStepOf s peer mids.old
+        → Sends (refusal_answered view.now.kind (first_bad_option (message_in view.now).options) s
+        (message_in view.now) (refused_with refused)) out.old out.new mids.old mids.new }
 {
     if is_passed_over(view.kind, &refused) {
         return;

@@ -60,8 +60,12 @@ impl Tables {
         requires filled { codes_of.empty < code }
         requires word { length word.now ≤ 13 }
         requires room { length out.old < most_datagrams }
-        ensures way { (rows : List Row) (s : Step) (starved : Bool) (place : ℕ) → s.peer ≡ peer → IsOpen place peer view.now.mid admitted.0 (events rows)
-            → UnderWay rows s starved nothing self.old out.old mids.old → UnderWay rows s starved (settling place s (message_in view.now) (refused code word.now)) self.new out.new mids.new }
+        ensures way { (rows : List Row) (s : Step) (starved : Bool) (place : ℕ)
+            → s.peer ≡ peer
+            → IsOpen place peer view.now.mid admitted.0 (events rows)
+            → UnderWay rows s starved nothing self.old out.old mids.old
+            → UnderWay rows s starved (settling place s (message_in view.now)
+            (refused code word.now)) self.new out.new mids.new }
         ensures version { self.new.version ≡ self.old.version }
     {
         self.settle(mids, peer, view, admitted, &refusal(code, word), out);

@@ -50,9 +50,14 @@ fn whole_outcome(
     ensures reply { IfOk result (λ o. IsReply o.reply) }
     ensures short { IfOk result (λ o. IsShort o.reply) }
     ensures moments { IfOk result (IsTimely now.0) }
-    ensures next { (history : List Entry) → VersionStandsFor 0 history version.now → IfOk result (IsNextOf history) }
-    ensures planned { (rows : List Row) (s : Step) → VersionStandsFor 0 (entries rows) version.now → s.peer ≡ peer
-        → IfOk result (IsPlanned (entries rows) version.now.swept [] (registration_outcome None rows now.0 s (message_in meaning.now.view))) }
+    ensures next { (history : List Entry)
+        → VersionStandsFor 0 history version.now
+        → IfOk result (IsNextOf history) }
+    ensures planned { (rows : List Row) (s : Step)
+        → VersionStandsFor 0 (entries rows) version.now
+        → s.peer ≡ peer
+        → IfOk result (IsPlanned (entries rows) version.now.swept []
+        (registration_outcome None rows now.0 s (message_in meaning.now.view))) }
 {
     let params = given_params(alloc, meaning, false)?;
     registered(
@@ -79,15 +84,22 @@ impl Tables {
         out: &mut Outbox,
     ) -> Stepped
         requires token { length meaning.now.view.token.now ≤ longest_token }
-        requires good { fault_of reading.Register (queries_in (message_in meaning.now.view)) ≡ None }
+        requires good { fault_of reading.Register (queries_in (message_in meaning.now.view))
+            ≡ None }
         requires room { length out.old < most_datagrams }
         requires free { B.has_staged board.old ≡ false }
         requires told { AreToldOf self.old.version (B.told board.old) }
-        ensures way { (rows : List Row) (s : Step) (place : ℕ) → s.peer ≡ peer → IsOpen place s.peer (message_in meaning.now.view).mid admitted.0 (events rows)
+        ensures way { (rows : List Row) (s : Step) (place : ℕ)
+            → s.peer ≡ peer
+            → IsOpen place s.peer (message_in meaning.now.view).mid admitted.0 (events rows)
             → UnderWay rows s (is_starved_step result) nothing self.old out.old mids.old
-            → UnderWay rows s (is_starved_step result) (unless_failing (is_starved_step result) place s (message_in meaning.now.view)
-            (settling place s (message_in meaning.now.view) (registration_outcome None rows (row_moment rows s) s (message_in meaning.now.view)))) self.new out.new mids.new }
-        ensures laid { IsLaid self.old.version self.new.version (B.staged board.old) (B.staged board.new) (B.has_staged board.new) }
+            → UnderWay rows s (is_starved_step result)
+            (unless_failing (is_starved_step result) place s (message_in meaning.now.view)
+            (settling place s (message_in meaning.now.view)
+            (registration_outcome None rows (row_moment rows s) s
+            (message_in meaning.now.view)))) self.new out.new mids.new }
+        ensures laid { IsLaid self.old.version self.new.version (B.staged board.old)
+            (B.staged board.new) (B.has_staged board.new) }
         ensures name { B.name board.new ≡ B.name board.old }
         ensures told { B.told board.new ≡ B.told board.old }
     {
@@ -109,15 +121,22 @@ impl Tables {
         requires meaning { IsMeaning (message_in meaning.now.view) meaning.now }
         requires blocks { HasShortBlocks meaning.now }
         requires token { length meaning.now.view.token.now ≤ longest_token }
-        requires good { fault_of reading.Register (queries_in (message_in meaning.now.view)) ≡ None }
+        requires good { fault_of reading.Register (queries_in (message_in meaning.now.view))
+            ≡ None }
         requires room { length out.old < most_datagrams }
         requires free { B.has_staged board.old ≡ false }
         requires told { AreToldOf self.old.version (B.told board.old) }
-        ensures way { (rows : List Row) (s : Step) (place : ℕ) → s.peer ≡ peer → IsOpen place s.peer (message_in meaning.now.view).mid admitted.0 (events rows)
+        ensures way { (rows : List Row) (s : Step) (place : ℕ)
+            → s.peer ≡ peer
+            → IsOpen place s.peer (message_in meaning.now.view).mid admitted.0 (events rows)
             → UnderWay rows s (is_starved_step result) nothing self.old out.old mids.old
-            → UnderWay rows s (is_starved_step result) (unless_failing (is_starved_step result) place s (message_in meaning.now.view)
-            (settling place s (message_in meaning.now.view) (registering rows (row_moment rows s) s (message_in meaning.now.view)))) self.new out.new mids.new }
-        ensures laid { IsLaid self.old.version self.new.version (B.staged board.old) (B.staged board.new) (B.has_staged board.new) }
+            → UnderWay rows s (is_starved_step result)
+            (unless_failing (is_starved_step result) place s (message_in meaning.now.view)
+            (settling place s (message_in meaning.now.view)
+            (registering rows (row_moment rows s) s (message_in meaning.now.view)))) self.new
+            out.new mids.new }
+        ensures laid { IsLaid self.old.version self.new.version (B.staged board.old)
+            (B.staged board.new) (B.has_staged board.new) }
         ensures name { B.name board.new ≡ B.name board.old }
         ensures told { B.told board.new ≡ B.told board.old }
     {

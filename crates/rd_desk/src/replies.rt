@@ -6,7 +6,8 @@ ghost use Rattle.message_model.specs.Codes as codes_of;
 ghost use Rattle.message_model.specs.Blocks.{IsBlock};
 ghost use Rattle.message_model.specs.OptionTable as table;
 ghost use Rattle.message_model.specs.Spelling.{spelling};
-ghost use Rattle.coap_message.specs.PartialMessages.{longest_datagram, with_last_option, with_payload};
+ghost use Rattle.coap_message.specs.PartialMessages.{longest_datagram, with_last_option};
+ghost use Rattle.coap_message.specs.PartialMessages.{with_payload};
 ghost use Rattle.coap_message.specs.Views.{message_in};
 ghost use Rattle.event_model.specs.declared.notes.Note.{Note};
 ghost use Rattle.journal_model.specs.declared.steps.Step.{Step};
@@ -14,7 +15,8 @@ ghost use Rattle.journal_model.specs.Effects as effects;
 ghost use Rattle.journal_model.specs.Effects.{answering, drawn_for};
 ghost use Rattle.journal_model.specs.UnfinishedRow.{drawing};
 ghost use Rattle.rd_desk.specs.Outboxes.{most_datagrams};
-ghost use Rattle.rd_desk.specs.Replies.{IsReply, reply_said, options_of, tag_octets, location_option, format_option, block1_options};
+ghost use Rattle.rd_desk.specs.Replies.{IsReply, reply_said, options_of, tag_octets};
+ghost use Rattle.rd_desk.specs.Replies.{location_option, format_option, block1_options};
 ghost use Rattle.rd_desk.specs.Writing.{IsReadyFor, with_options, notice_saying};
 ghost use Rattle.journal_model.specs.Bodies.{tag_option, observe_option, block2_option};
 ghost use Rattle.journal_model.specs.Changes.{location_options};
@@ -247,9 +249,14 @@ fn answer_kind(kind: Kind4) -> Kind4
     }
 }
 
-/// The Message ID of that answer: the one of a confirmable request, and else the next that is drawn (RFC 7252 section 4.4).
+/// The Message ID of that answer: the one of a confirmable request, and else the next that is drawn
+/// (RFC 7252 section 4.4).
 fn answer_mid(mids: &mut Mids, kind: Kind4, mid: u16) -> u16
-    ensures mid { (s : Step) (m : Message) → s.worker ≡ mids.old.worker → s.drawn ≡ mids.old.drawn → m.mid ≡ mid → result ≡ effects.answer_mid s m kind }
+    ensures mid { (s : Step) (m : Message)
+        → s.worker ≡ mids.old.worker
+        → s.drawn ≡ mids.old.drawn
+        → m.mid ≡ mid
+        → result ≡ effects.answer_mid s m kind }
     ensures worker { mids.new.worker ≡ mids.old.worker }
     ensures drawn { mids.new.drawn ≡ drawing (drawn_for kind) mids.old.drawn }
 {
@@ -263,7 +270,11 @@ fn answer_mid(mids: &mut Mids, kind: Kind4, mid: u16) -> u16
 pub(crate) fn begin_answer(mids: &mut Mids, view: &View<'_>, reply: &Reply<'_>) -> Writer
     requires token { length view.now.token.now ≤ longest_token }
     requires reply { IsReply reply.now }
-    ensures begun { (s : Step) → s.worker ≡ mids.old.worker → s.drawn ≡ mids.old.drawn → with_payload result reply.now.payload.now ≡ effects.answer s (message_in view.now) (reply_said reply.now) }
+    ensures begun { (s : Step)
+        → s.worker ≡ mids.old.worker
+        → s.drawn ≡ mids.old.drawn
+        → with_payload result reply.now.payload.now
+        ≡ effects.answer s (message_in view.now) (reply_said reply.now) }
     ensures open_end { result.payload ≡ [] }
     ensures filled { codes_of.empty < result.code }
     ensures size { length (spelling result) ≤ 200 }
@@ -276,7 +287,8 @@ pub(crate) fn begin_answer(mids: &mut Mids, view: &View<'_>, reply: &Reply<'_>) 
     writer
 }
 
-/// The answer to a request is sent (RFC 7252 section 5.3.1). It draws a Message ID where the request was not confirmable.
+/// The answer to a request is sent (RFC 7252 section 5.3.1). It draws a Message ID where the
+/// request was not confirmable.
 pub(crate) fn answer(
     mids: &mut Mids,
     peer: Peer,
@@ -287,7 +299,10 @@ pub(crate) fn answer(
     requires token { length view.now.token.now ≤ longest_token }
     requires reply { IsReply reply.now }
     requires room { length out.old < most_datagrams }
-    ensures sends { (s : Step) (notes : List Note) → IsStepOf s peer mids.old → Sends (answering s (message_in view.now) (reply_said reply.now) notes) out.old out.new mids.old mids.new }
+    ensures sends { (s : Step) (notes : List Note)
+        → IsStepOf s peer mids.old
+        → Sends (answering s (message_in view.now) (reply_said reply.now) notes) out.old out.new
+        mids.old mids.new }
 {
     let mut writer = begin_answer(mids, view, reply);
     let Ok(datagram) = writer.finish(reply.payload) else {
@@ -296,7 +311,8 @@ pub(crate) fn answer(
     out.push(peer, datagram);
 }
 
-/// The octets of a notice (RFC 7641 section 4.2): a confirmable message with a reply, under this Message ID and token. `Starved`: out of memory.
+/// The octets of a notice (RFC 7641 section 4.2): a confirmable message with a reply, under this
+/// Message ID and token. `Starved`: out of memory.
 pub(crate) fn spell_notice(
     alloc: Global,
     mid: u16,
@@ -305,7 +321,8 @@ pub(crate) fn spell_notice(
 ) -> Result<Bytes, Starved>
     requires token { length token.now ≤ longest_token }
     requires reply { IsReply reply.now }
-    ensures spelled { IfOk result (λ octets. octets ≡ spelling (notice_saying mid token.now (reply_said reply.now))) }
+    ensures spelled { IfOk result (λ octets. octets
+        ≡ spelling (notice_saying mid token.now (reply_said reply.now))) }
     ensures short { IfOk result (λ octets. length octets ≤ longest_datagram) }
 {
     let mut writer = Writer::start(Kind4::Con, reply.code, mid, token);

@@ -1,4 +1,5 @@
-//! What a request asks beyond its options: its query, the block that it wants, and whether it only looks (RFC 9176 sections 4.1 and 6).
+//! What a request asks beyond its options: its query, the block that it wants, and whether it only
+//! looks (RFC 9176 sections 4.1 and 6).
 ghost use Rattle.std.specs.Prelude.{◌≡◌, Some, None, IfOk, IfErr, OnOk};
 ghost use Rattle.std.specs.Option.{ForSome};
 ghost use Rattle.message_model.specs.Blocks.{IsBlock};
@@ -7,7 +8,8 @@ ghost use Rattle.coap_message.specs.Views.{message_in};
 ghost use Rattle.coap_options.specs.Meanings.{IsMeaning, HasShortBlocks, HasReadableBlocks};
 ghost use Rattle.journal_model.specs.Requests as requests_of;
 ghost use Rattle.journal_model.specs.Machine.{is_look_datagram};
-ghost use Rattle.rd_desk.specs.Asking.{begins_observation, is_plain_lookup, refused_with, IsRefusedBy};
+ghost use Rattle.rd_desk.specs.Asking.{begins_observation, is_plain_lookup, refused_with};
+ghost use Rattle.rd_desk.specs.Asking.{IsRefusedBy};
 ghost use Rattle.rd_desk.specs.WriteJobs.{is_write_path};
 
 use block_wise::block_read;
@@ -119,7 +121,8 @@ pub(crate) fn is_lookup(path: &Path) -> bool
     }
 }
 
-/// Whether it is that of a registration, a simple registration, or a request on a registration (RFC 9176 sections 5, 5.1 and 5.3).
+/// Whether it is that of a registration, a simple registration, or a request on a registration (RFC
+/// 9176 sections 5, 5.1 and 5.3).
 pub(crate) fn is_write(path: &Path) -> bool
     ensures { result ≡ is_write_path path.now }
 {
@@ -164,7 +167,8 @@ fn only_looks(meaning: &Meaning<'_>) -> bool
     is_plain_lookup(meaning)
 }
 
-/// Whether a payload comes where the path takes none: with an update or a simple registration (RFC 9176 sections 5.1 and 5.3.1).
+/// Whether a payload comes where the path takes none: with an update or a simple registration (RFC
+/// 9176 sections 5.1 and 5.3.1).
 pub(crate) fn has_bad_payload(meaning: &Meaning<'_>) -> bool
     ensures { (m : Message) → IsMeaning m meaning.now → result ≡ requests_of.has_bad_payload m }
 {
@@ -203,7 +207,8 @@ pub(crate) fn asked<'a>(view: &View<'a>) -> Result<Meaning<'a>, Refused>
     ensures short { IfOk result HasShortBlocks }
     ensures readable { IfOk result HasReadableBlocks }
     ensures accepted { OnOk result (requests_of.refusal_of_request (message_in view.now) ≡ None) }
-    ensures refused { IfErr result (λ refused. requests_of.refusal_of_request (message_in view.now) ≡ Some (refused_with refused)) }
+    ensures refused { IfErr result (λ refused. requests_of.refusal_of_request (message_in view.now)
+        ≡ Some (refused_with refused)) }
     ensures by { IfErr result (λ refused. IsRefusedBy refused (message_in view.now)) }
 {
     let meaning = match request(view) {
@@ -230,8 +235,9 @@ fn is_look_request(view: &View<'_>) -> bool
     }
 }
 
-/// Whether a datagram is a request that only looks: a lookup of a first block that neither begins nor ends an observation, or
-/// a discovery, which nothing refuses. It is answered from the registrations alone.
+/// Whether a datagram is a request that only looks: a lookup of a first block that neither begins
+/// nor ends an observation, or a discovery, which nothing refuses. It is answered from the
+/// registrations alone.
 #[tactic(auto, unfolding(journal_model::specs::Machine::is_look_datagram))]
 pub fn is_look(datagram: &[u8]) -> bool
     ensures { result ≡ is_look_datagram datagram.now }

@@ -1,5 +1,7 @@
-//! Requests of fetches whose wait has ended: each is sent again, or its fetch ends (RFC 7252 section 4.2, RFC 9176 section 5.1).
-ghost use Rattle.std.specs.Prelude.{◌≡◌, ◌<◌, ◌≤◌, ◌+◌, ◌++◌, ◌∷◌, [], ℕ, Bool, List, Some, length, slice_get};
+//! Requests of fetches whose wait has ended: each is sent again, or its fetch ends (RFC 7252
+//! section 4.2, RFC 9176 section 5.1).
+ghost use Rattle.std.specs.Prelude.{◌≡◌, ◌<◌, ◌≤◌, ◌+◌, ◌++◌, ◌∷◌, [], ℕ, Bool, List, Some};
+ghost use Rattle.std.specs.Prelude.{length, slice_get};
 ghost use Rattle.rd_base.specs.declared.peers.Peer.{Peer as Endpoint};
 ghost use Rattle.coap_message.specs.PartialMessages.{longest_datagram};
 ghost use Rattle.event_model.specs.declared.notes.Note.TheVariants as note;
@@ -26,8 +28,14 @@ use exchange_core::Again;
 
 /// The last request of the fetch at an index is sent.
 fn send_request(fetches: &Fetching, index: usize, out: &mut Outbox)
-    ensures some { (f : running.Fetch) → slice_get fetches.now.fetches index ≡ Some f → 0 < length f.waits.octets }
-    ensures sent { (f : running.Fetch) → slice_get fetches.now.fetches index ≡ Some f → length out.old < most_datagrams → length f.waits.octets ≤ longest_datagram → out.new ≡ out.old ++ (f.peer, f.waits.octets) ∷ [] }
+    ensures some { (f : running.Fetch)
+        → slice_get fetches.now.fetches index ≡ Some f
+        → 0 < length f.waits.octets }
+    ensures sent { (f : running.Fetch)
+        → slice_get fetches.now.fetches index ≡ Some f
+        → length out.old < most_datagrams
+        → length f.waits.octets ≤ longest_datagram
+        → out.new ≡ out.old ++ (f.peer, f.waits.octets) ∷ [] }
 {
     let Some(peer) = fetches.at(index) else {
         return;
@@ -37,7 +45,11 @@ fn send_request(fetches: &Fetching, index: usize, out: &mut Outbox)
 
 /// The fetch at an index ends.
 fn end_fetch(fetches: &mut Fetching, index: usize)
-    ensures { (octets : OctetsSent) (past : List Event) (peer : Endpoint) (e : Event) → slice_get (running.fetches past) index ≡ Some peer → e.note ≡ note.Ceased peer → FetchesStandFor octets past fetches.old → FetchesStandFor octets (e ∷ past) fetches.new }
+    ensures { (octets : OctetsSent) (past : List Event) (peer : Endpoint) (e : Event)
+        → slice_get (running.fetches past) index ≡ Some peer
+        → e.note ≡ note.Ceased peer
+        → FetchesStandFor octets past fetches.old
+        → FetchesStandFor octets (e ∷ past) fetches.new }
 {
     let Some(peer) = fetches.at(index) else {
         return;
@@ -46,10 +58,14 @@ fn end_fetch(fetches: &mut Fetching, index: usize)
 }
 
 impl Tables {
-    /// What is due of the fetch at an index: nothing, or its request is sent again, or the fetch ends. Whether it runs on.
+    /// What is due of the fetch at an index: nothing, or its request is sent again, or the fetch
+    /// ends. Whether it runs on.
     fn request_again(&mut self, index: usize, out: &mut Outbox) -> bool
         requires { index < length self.old.fetches.fetches }
-        ensures { (rows : List Row) (s : Step) (starved : Bool) (first : Effects) (mids : Mids) (most less : ℕ) → most ≡ less + 1 → Resending rows s starved first self.old out.old mids index most
+        ensures { (rows : List Row) (s : Step) (starved : Bool) (first : Effects) (mids : Mids)
+            (most less : ℕ)
+            → most ≡ less + 1
+            → Resending rows s starved first self.old out.old mids index most
             → Resending rows s starved first self.new out.new mids (index_after result index) less }
     {
         match self.fetches.timeout(self.moment, index) {
@@ -67,7 +83,10 @@ impl Tables {
 
     /// What is due of the fetch at an index, where there is one. The index of the next.
     fn request_next(&mut self, index: usize, out: &mut Outbox) -> usize
-        ensures { (rows : List Row) (s : Step) (starved : Bool) (first : Effects) (mids : Mids) (most less : ℕ) → most ≡ less + 1 → Resending rows s starved first self.old out.old mids index most
+        ensures { (rows : List Row) (s : Step) (starved : Bool) (first : Effects) (mids : Mids)
+            (most less : ℕ)
+            → most ≡ less + 1
+            → Resending rows s starved first self.old out.old mids index most
             → Resending rows s starved first self.new out.new mids result less }
     {
         if index >= self.fetches.len() {
@@ -79,11 +98,16 @@ impl Tables {
         index
     }
 
-    /// The third part of a tick: requests of fetches whose wait has ended are sent again, and after the last time, or where a response that comes apart did not
-    /// come, their fetches end. Takes no memory.
+    /// The third part of a tick: requests of fetches whose wait has ended are sent again, and after
+    /// the last time, or where a response that comes apart did not come, their fetches end. Takes
+    /// no memory.
     pub(crate) fn requests_again(&mut self, out: &mut Outbox)
-        ensures { (rows : List Row) (s : Step) (starved : Bool) (done : Effects) (mids : Mids) → LeavesFetches rows s starved done → length done.sent + length (running.fetches (events rows)) ≤ most_datagrams
-            → UnderWay rows s starved done self.old out.old mids → UnderWay rows s starved (joined done (ticks_of.requests_again rows (row_moment rows s))) self.new out.new mids }
+        ensures { (rows : List Row) (s : Step) (starved : Bool) (done : Effects) (mids : Mids)
+            → LeavesFetches rows s starved done
+            → length done.sent + length (running.fetches (events rows)) ≤ most_datagrams
+            → UnderWay rows s starved done self.old out.old mids
+            → UnderWay rows s starved (joined done
+            (ticks_of.requests_again rows (row_moment rows s))) self.new out.new mids }
     {
         let count = self.fetches.len();
         let mut index = 0;

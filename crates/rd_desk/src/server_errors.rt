@@ -42,7 +42,9 @@ fn service_unavailable(word: &'static [u8]) -> Reply<'static>
 pub(crate) fn answer_starved(mids: &mut Mids, peer: Peer, view: &View<'_>, out: &mut Outbox)
     requires token { length view.now.token.now ≤ longest_token }
     requires room { length out.old < most_datagrams }
-    ensures sends { (s : Step) → IsStepOf s peer mids.old → Sends (without_memory s (message_in view.now)) out.old out.new mids.old mids.new }
+    ensures sends { (s : Step)
+        → IsStepOf s peer mids.old
+        → Sends (without_memory s (message_in view.now)) out.old out.new mids.old mids.new }
 {
     answer(mids, peer, view, &internal_server_error(), out);
 }
@@ -58,7 +60,11 @@ pub(crate) fn answer_full(
     requires token { length view.now.token.now ≤ longest_token }
     requires word { length word.now ≤ 1_024 }
     requires room { length out.old < most_datagrams }
-    ensures sends { (s : Step) → IsStepOf s peer mids.old → Sends (answering s (message_in view.now) (diagnostic codes_of.service_unavailable word.now) []) out.old out.new mids.old mids.new }
+    ensures sends { (s : Step)
+        → IsStepOf s peer mids.old
+        → Sends (answering s (message_in view.now)
+        (diagnostic codes_of.service_unavailable word.now) []) out.old out.new mids.old
+        mids.new }
 {
     answer(mids, peer, view, &service_unavailable(word), out);
 }

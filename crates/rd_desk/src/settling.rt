@@ -43,8 +43,13 @@ pub(crate) fn answer_short(
     requires reply { IsReply reply.now }
     requires short { IsShort reply.now }
     requires room { length out.old < most_datagrams }
-    ensures sends { (s : Step) (notes : List Note) → IsStepOf s peer mids.old → Sends (answering s (message_in view.now) (reply_said reply.now) notes) out.old out.new mids.old mids.new }
-    ensures octets { (s : Step) → IsStepOf s peer mids.old → result ≡ spelling (effects.answer s (message_in view.now) (reply_said reply.now)) }
+    ensures sends { (s : Step) (notes : List Note)
+        → IsStepOf s peer mids.old
+        → Sends (answering s (message_in view.now) (reply_said reply.now) notes) out.old out.new
+        mids.old mids.new }
+    ensures octets { (s : Step)
+        → IsStepOf s peer mids.old
+        → result ≡ spelling (effects.answer s (message_in view.now) (reply_said reply.now)) }
 {
     known_number(reply.location);
     let mut writer = begin_answer(mids, view, reply);
@@ -56,7 +61,8 @@ pub(crate) fn answer_short(
 }
 
 impl Tables {
-    /// An admitted write is answered, and the answer settles it: a repeat gets the same octets. Takes no memory.
+    /// An admitted write is answered, and the answer settles it: a repeat gets the same octets.
+    /// Takes no memory.
     pub(crate) fn settle(
         &mut self,
         mids: &mut Mids,
@@ -70,15 +76,22 @@ impl Tables {
         requires reply { IsReply reply.now }
         requires short { IsShort reply.now }
         requires room { length out.old < most_datagrams }
-        ensures way { (rows : List Row) (s : Step) (starved : Bool) (done : Effects) (place : ℕ) → s.peer ≡ peer → done.drew ≡ 0 → IsOpen place peer view.now.mid admitted.0 (events (making rows s starved done))
-            → UnderWay rows s starved done self.old out.old mids.old → UnderWay rows s starved (joined done (answering_settled place s (message_in view.now) (reply_said reply.now))) self.new out.new mids.new }
+        ensures way { (rows : List Row) (s : Step) (starved : Bool) (done : Effects) (place : ℕ)
+            → s.peer ≡ peer
+            → done.drew ≡ 0
+            → IsOpen place peer view.now.mid admitted.0 (events (making rows s starved done))
+            → UnderWay rows s starved done self.old out.old mids.old
+            → UnderWay rows s starved (joined done
+            (answering_settled place s (message_in view.now) (reply_said reply.now))) self.new
+            out.new mids.new }
         ensures version { self.new.version ≡ self.old.version }
     {
         let octets = answer_short(mids, peer, view, reply, out);
         self.exchanges.settle(peer, view.mid, admitted, octets);
     }
 
-    /// An admitted write for which memory ran out is answered 5.00, and is forgotten, so that it may come again as a new one. Takes no memory.
+    /// An admitted write for which memory ran out is answered 5.00, and is forgotten, so that it
+    /// may come again as a new one. Takes no memory.
     pub(crate) fn fail(
         &mut self,
         mids: &mut Mids,
@@ -89,8 +102,12 @@ impl Tables {
     )
         requires token { length view.now.token.now ≤ longest_token }
         requires room { length out.old < most_datagrams }
-        ensures way { (rows : List Row) (s : Step) (starved : Bool) (place : ℕ) → s.peer ≡ peer → IsOpen place peer view.now.mid admitted.0 (events rows)
-            → UnderWay rows s starved nothing self.old out.old mids.old → UnderWay rows s starved (failing place s (message_in view.now)) self.new out.new mids.new }
+        ensures way { (rows : List Row) (s : Step) (starved : Bool) (place : ℕ)
+            → s.peer ≡ peer
+            → IsOpen place peer view.now.mid admitted.0 (events rows)
+            → UnderWay rows s starved nothing self.old out.old mids.old
+            → UnderWay rows s starved (failing place s (message_in view.now)) self.new out.new
+            mids.new }
         ensures version { self.new.version ≡ self.old.version }
     {
         answer(mids, peer, view, &internal_server_error(), out);

@@ -1,4 +1,5 @@
-//! Simple registrations: the directory answers, and then fetches the links of the device itself (RFC 9176 section 5.1).
+//! Simple registrations: the directory answers, and then fetches the links of the device itself
+//! (RFC 9176 section 5.1).
 ghost use Rattle.std.specs.Prelude.{◌≡◌, ◌<◌, ◌≤◌, ◌+◌, ℕ, Bool, [], ◌∷◌, ◌++◌, List, length, None};
 ghost use Rattle.message_model.specs.Codes as codes_of;
 ghost use Rattle.message_model.specs.Message.{longest_token};
@@ -68,7 +69,8 @@ fn drawn_for(kind: Kind4) -> u64
 }
 
 impl Tables {
-    /// The 2.04 is sent and settles the write, where the fetch that comes after it started already: whatever fetches the tables have, these stay.
+    /// The 2.04 is sent and settles the write, where the fetch that comes after it started already:
+    /// whatever fetches the tables have, these stay.
     fn settle_beside_fetch(
         &mut self,
         mids: &mut Mids,
@@ -79,9 +81,14 @@ impl Tables {
     )
         requires token { length view.now.token.now ≤ longest_token }
         requires room { length out.old < most_datagrams }
-        ensures way { (fetches : Table) (rows : List Row) (s : Step) (starved : Bool) (place : ℕ) → s.peer ≡ peer → IsOpen place peer view.now.mid admitted.0 (events rows)
-            → UnderWay rows s starved nothing (record self.old { fetches = fetches }) out.old mids.old
-            → UnderWay rows s starved (settling place s (message_in view.now) (record { reply = effects.bare codes_of.changed; notes = [] })) (record self.new { fetches = fetches }) out.new mids.new }
+        ensures way { (fetches : Table) (rows : List Row) (s : Step) (starved : Bool) (place : ℕ)
+            → s.peer ≡ peer
+            → IsOpen place peer view.now.mid admitted.0 (events rows)
+            → UnderWay rows s starved nothing (record self.old { fetches = fetches }) out.old
+            mids.old
+            → UnderWay rows s starved (settling place s (message_in view.now)
+            (record { reply = effects.bare codes_of.changed; notes = [] }))
+            (record self.new { fetches = fetches }) out.new mids.new }
         ensures fetches { self.new.fetches ≡ self.old.fetches }
         ensures one { length out.new ≡ length out.old + 1 }
         ensures version { self.new.version ≡ self.old.version }
@@ -90,9 +97,10 @@ impl Tables {
         self.exchanges.settle(peer, view.mid, admitted, octets);
     }
 
-    /// A simple registration that was admitted is done: it is answered, and a fetch of the links of its device starts after the answer, unless one runs or
-    /// as many run as may (RFC 9176 section 5.1). The first wait is made from the word. What takes memory comes before anything is sent; where it runs out,
-    /// the write fails.
+    /// A simple registration that was admitted is done: it is answered, and a fetch of the links of
+    /// its device starts after the answer, unless one runs or as many run as may (RFC 9176 section
+    /// 5.1). The first wait is made from the word. What takes memory comes before anything is sent;
+    /// where it runs out, the write fails.
     pub(crate) fn commit_simple(
         &mut self,
         alloc: Global,
@@ -107,10 +115,15 @@ impl Tables {
         requires token { length meaning.now.view.token.now ≤ longest_token }
         requires good { fault_of reading.Simple (queries_in (message_in meaning.now.view)) ≡ None }
         requires room { length out.old + 1 < most_datagrams }
-        ensures way { (rows : List Row) (s : Step) (place : ℕ) → s.peer ≡ peer → s.word ≡ word → IsOpen place s.peer (message_in meaning.now.view).mid admitted.0 (events rows)
+        ensures way { (rows : List Row) (s : Step) (place : ℕ)
+            → s.peer ≡ peer
+            → s.word ≡ word
+            → IsOpen place s.peer (message_in meaning.now.view).mid admitted.0 (events rows)
             → UnderWay rows s (is_starved_step result) nothing self.old out.old mids.old
-            → UnderWay rows s (is_starved_step result) (unless_failing (is_starved_step result) place s (message_in meaning.now.view)
-            (registering_simply (events rows) place s (message_in meaning.now.view))) self.new out.new mids.new }
+            → UnderWay rows s (is_starved_step result)
+            (unless_failing (is_starved_step result) place s (message_in meaning.now.view)
+            (registering_simply (events rows) place s (message_in meaning.now.view))) self.new
+            out.new mids.new }
         ensures version { self.new.version ≡ self.old.version }
     {
         let Ok(params) = given_params(alloc, meaning, true) else {

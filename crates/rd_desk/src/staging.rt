@@ -7,7 +7,8 @@ use directory_core::Board;
 use rd_base::Starved;
 use std::sync::Arc;
 
-/// What is planned of a write, with its version laid on the board, where it makes an entry. `Starved`: memory ran out, and nothing is staged.
+/// What is planned of a write, with its version laid on the board, where it makes an entry.
+/// `Starved`: memory ran out, and nothing is staged.
 pub(crate) fn staged<B: Board>(
     board: &mut B,
     planned: Result<Outcome, Starved>,
@@ -16,7 +17,8 @@ pub(crate) fn staged<B: Board>(
     requires next { IfSome (B.told board.old) (λ history. IfOk planned (IsNextOf history)) }
     requires swept { IfOk planned IsSweptBefore }
     ensures same { IfOk result (λ o. planned ≡ Ok o) }
-    ensures laid { IfSome (B.staged board.old) (λ before. IfOk result (λ o. B.staged board.new ≡ Some (version_ready o.entering before))) }
+    ensures laid { IfSome (B.staged board.old) (λ before. IfOk result (λ o. B.staged board.new
+        ≡ Some (version_ready o.entering before))) }
     ensures kept { OnErr result (B.staged board.new ≡ B.staged board.old) }
     ensures none_laid { IfOk result (λ o. o.entering ≡ None → B.has_staged board.new ≡ false) }
     ensures none_kept { OnErr result (B.has_staged board.new ≡ false) }

@@ -18,7 +18,8 @@ use std::marker::Model;
 use std::sync::Arc;
 use transfers::Transfers;
 
-/// What a desk keeps between its steps. Contracts say which journal it stands for; and while a step is under way, what was done of its row so far.
+/// What a desk keeps between its steps. Contracts say which journal it stands for; and while a step
+/// is under way, what was done of its row so far.
 #[derive(Drop)]
 pub(crate) struct Tables {
     /// The greatest moment that was handed in, at most 10^15.
@@ -44,13 +45,27 @@ impl Model for Tables {
 
     ghost Value = { Seen };
 
-    ghost view = { λ t. record { moment = t.moment.0; version = arc_value t.version; exchanges = t.exchanges; transfers = t.transfers; watching = t.watching; fetches = t.fetches; observed = t.observed } };
+    ghost view = { λ t. record {
+      moment = t.moment.0;
+      version = arc_value t.version;
+      exchanges =
+          t.exchanges;
+      transfers = t.transfers;
+      watching = t.watching;
+      fetches = t.fetches;
+      observed =
+          t.observed;
+    } };
 
-    ghost invariant = { λ t. (t.moment.0 ≤ 10 ^ 15) × (t.exchanges.moment ≤ t.moment.0) × ((arc_value t.version).at ≤ t.moment.0) × ((arc_value t.version).swept ≤ t.moment.0) };
+    ghost invariant = { λ t. (t.moment.0 ≤ 10 ^ 15)
+        × (t.exchanges.moment ≤ t.moment.0)
+        × ((arc_value t.version).at ≤ t.moment.0)
+        × ((arc_value t.version).swept ≤ t.moment.0) };
 }
 
 impl Tables {
-    /// Tables of a directory in which nothing was done, at the moment 0, with all the room that they take. `Starved`: out of memory.
+    /// Tables of a directory in which nothing was done, at the moment 0, with all the room that
+    /// they take. `Starved`: out of memory.
     pub(crate) fn make(alloc: Global) -> Result<Tables, Starved>
         ensures { IfOk result (StandsFor []) }
     {
@@ -70,11 +85,16 @@ impl Tables {
         })
     }
 
-    /// Time passes to a moment, at most 10^15, or stands where it is not later than that of the tables; the observers are due whose listing a lapse meanwhile
-    /// changes. A step begins with it. Takes no memory.
+    /// Time passes to a moment, at most 10^15, or stands where it is not later than that of the
+    /// tables; the observers are due whose listing a lapse meanwhile changes. A step begins with
+    /// it. Takes no memory.
     pub(crate) fn pass(&mut self, now: Moment)
         requires { now.0 ≤ 10 ^ 15 }
-        ensures way { (rows : List Row) (s : Step) (starved : Bool) (out : List (Peer × List ℕ)) (mids : Mids) → out ≡ [] → IsCalled rows s now mids self.old → UnderWay rows s starved nothing self.new out mids }
+        ensures way { (rows : List Row) (s : Step) (starved : Bool) (out : List (Peer
+            × List ℕ)) (mids : Mids)
+            → out ≡ []
+            → IsCalled rows s now mids self.old
+            → UnderWay rows s starved nothing self.new out mids }
         ensures version { self.new.version ≡ self.old.version }
     {
         let to = self.moment.later(now);

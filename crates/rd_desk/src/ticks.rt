@@ -1,4 +1,5 @@
-//! The tick: what time makes due (RFC 7252 section 4.2, RFC 7641 sections 1.3 and 4.5, RFC 9176 section 5).
+//! The tick: what time makes due (RFC 7252 section 4.2, RFC 7641 sections 1.3 and 4.5, RFC 9176
+//! section 5).
 ghost use Rattle.std.specs.Prelude.{◌≡◌, ◌<◌, ◌≤◌, ◌^◌, [], ℕ, Bool, false, List, IfOk};
 ghost use Rattle.std.specs.Arc.{arc_value};
 ghost use Rattle.rd_base.specs.declared.peers.Peer.{Peer as Endpoint};
@@ -35,7 +36,9 @@ fn swept<L: Ledger>(
     requires some { 0 < L.parts }
     requires after_at { version.now.at ≤ now.0 }
     requires after_sweep { version.now.swept ≤ now.0 }
-    ensures stands { (history : List Entry) → VersionStandsFor 0 history version.now → IfOk result (λ shared. VersionStandsFor 0 history (arc_value shared)) }
+    ensures stands { (history : List Entry)
+        → VersionStandsFor 0 history version.now
+        → IfOk result (λ shared. VersionStandsFor 0 history (arc_value shared)) }
     ensures at { IfOk result (λ shared. (arc_value shared).at ≡ version.now.at) }
     ensures swept { IfOk result (λ shared. (arc_value shared).swept ≡ now.0) }
 {
@@ -48,14 +51,22 @@ fn swept<L: Ledger>(
 impl Tables {
     /// Exchanges that are older than an exchange lives are dropped. Takes no memory.
     fn drop_old_exchanges(&mut self)
-        ensures { (rows : List Row) (s : Step) (starved : Bool) (done : Effects) (out : List (Endpoint × List ℕ)) (mids : Drawn) → UnderWay rows s starved done self.old out mids → UnderWay rows s starved done self.new out mids }
+        ensures { (rows : List Row) (s : Step) (starved : Bool) (done : Effects)
+            (out : List (Endpoint
+            × List ℕ)) (mids : Drawn)
+            → UnderWay rows s starved done self.old out mids
+            → UnderWay rows s starved done self.new out mids }
     {
         self.exchanges.age(self.moment);
     }
 
     /// Registrations that have lapsed are dropped from the version, where memory suffices.
     fn sweep(&mut self, alloc: Global)
-        ensures { (rows : List Row) (s : Step) (starved : Bool) (done : Effects) (out : List (Endpoint × List ℕ)) (mids : Drawn) → UnderWay rows s starved done self.old out mids → UnderWay rows s starved done self.new out mids }
+        ensures { (rows : List Row) (s : Step) (starved : Bool) (done : Effects)
+            (out : List (Endpoint
+            × List ℕ)) (mids : Drawn)
+            → UnderWay rows s starved done self.old out mids
+            → UnderWay rows s starved done self.new out mids }
     {
         let Ok(version) = swept::<Brand>(Blank::new(1), alloc, &*self.version, self.moment) else {
             return;
@@ -63,9 +74,11 @@ impl Tables {
         self.version = version;
     }
 
-    /// The step of a tick, at a moment that is at most 10^15; one below that of the tables is lifted to it. Notices are sent again, due observers get new ones, and
-    /// requests of fetches are sent again; what is old or has lapsed is dropped. `Starved`: out of memory, and then there are no new notices. Where no observer is due
-    /// whose peer waits for no notice, no memory is needed: a sweep that finds none leaves what has lapsed. `out` is empty.
+    /// The step of a tick, at a moment that is at most 10^15; one below that of the tables is
+    /// lifted to it. Notices are sent again, due observers get new ones, and requests of fetches
+    /// are sent again; what is old or has lapsed is dropped. `Starved`: out of memory, and then
+    /// there are no new notices. Where no observer is due whose peer waits for no notice, no memory
+    /// is needed: a sweep that finds none leaves what has lapsed. `out` is empty.
     pub(crate) fn tick(
         &mut self,
         alloc: Global,
@@ -76,9 +89,15 @@ impl Tables {
     ) -> Stepped
         requires moment { now.0 ≤ 10 ^ 15 }
         requires empty { out.old ≡ [] }
-        ensures made { (rows : List Row) (s : Step) → s.kind ≡ step.Tick → s.word ≡ word → IsCalled rows s now mids.old self.old
+        ensures made { (rows : List Row) (s : Step)
+            → s.kind ≡ step.Tick
+            → s.word ≡ word
+            → IsCalled rows s now mids.old self.old
             → Made rows (row rows s (is_starved_step result)) self.new out.new mids.old mids.new }
-        ensures unstarved { (rows : List Row) (s : Step) → s.kind ≡ step.Tick → IsCalled rows s now mids.old self.old → tick_takes_memory rows (row_moment rows s) s ≡ false
+        ensures unstarved { (rows : List Row) (s : Step)
+            → s.kind ≡ step.Tick
+            → IsCalled rows s now mids.old self.old
+            → tick_takes_memory rows (row_moment rows s) s ≡ false
             → is_starved_step result ≡ false }
     {
         self.pass(now);

@@ -11,10 +11,13 @@ use crate::empty_messages::send_empty;
 use coap_message::{Kind4, Unread};
 use rd_base::Peer;
 
-/// A confirmable message with a format error is rejected by a Reset. What else is no message is passed over.
+/// A confirmable message with a format error is rejected by a Reset. What else is no message is
+/// passed over.
 pub(crate) fn reject(peer: Peer, fault: Unread, out: &mut Outbox)
     requires { length out.old < most_datagrams }
-    ensures { (s : Step) (mids : Mids) → s.peer ≡ peer → Sends (unread_answered s fault) out.old out.new mids mids }
+    ensures { (s : Step) (mids : Mids)
+        → s.peer ≡ peer
+        → Sends (unread_answered s fault) out.old out.new mids mids }
 {
     match fault {
         Unread::Format(Kind4::Con, mid) => {

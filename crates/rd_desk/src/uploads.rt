@@ -1,5 +1,6 @@
 //! Registrations whose body comes in blocks (RFC 7959 sections 2.3, 2.5 and 2.9).
-ghost use Rattle.std.specs.Prelude.{◌≡◌, ◌≢◌, ◌<◌, ◌≤◌, ◌^◌, ℕ, Bool, [], ◌∷◌, List, length, None, IfOk, false};
+ghost use Rattle.std.specs.Prelude.{◌≡◌, ◌≢◌, ◌<◌, ◌≤◌, ◌^◌, ℕ, Bool, [], ◌∷◌, List, length};
+ghost use Rattle.std.specs.Prelude.{None, IfOk, false};
 ghost use Rattle.rd_base.specs.declared.peers.Peer.{Peer};
 ghost use Rattle.message_model.specs.Blocks.{IsBlock};
 ghost use Rattle.message_model.specs.Codes as codes_of;
@@ -55,7 +56,8 @@ const CONTINUE: u8 = 95;
 /// 4.08, to a block that does not begin where what is collected ends (RFC 7959 section 2.9.2).
 const REQUEST_ENTITY_INCOMPLETE: u8 = 136;
 
-/// 4.13, to a block with which more would be collected than a body may have (RFC 7959 section 2.9.3).
+/// 4.13, to a block with which more would be collected than a body may have (RFC 7959 section
+/// 2.9.3).
 const REQUEST_ENTITY_TOO_LARGE: u8 = 141;
 
 /// 5.03, to a first block where as many other uploads live as may (RFC 7252 section 5.9.3.4).
@@ -64,7 +66,8 @@ const SERVICE_UNAVAILABLE: u8 = 163;
 /// 2.31 to a block that is collected, and more follow.
 fn continued(block: Block) -> Reply<'static>
     requires { IsBlock block }
-    ensures said { reply_said result ≡ record { code = codes_of.continue; options = block1_option block; payload = [] } }
+    ensures said { reply_said result
+        ≡ record { code = codes_of.continue; options = block1_option block; payload = [] } }
     ensures reply { IsReply result }
     ensures short { IsShort result }
 {
@@ -80,7 +83,8 @@ fn continued(block: Block) -> Reply<'static>
     }
 }
 
-/// What comes of a registration by the last of its blocks, which makes its body whole. `Starved`: out of memory.
+/// What comes of a registration by the last of its blocks, which makes its body whole. `Starved`:
+/// out of memory.
 fn body_outcome(
     alloc: Global,
     version: &Directory,
@@ -98,18 +102,24 @@ fn body_outcome(
     ensures moments { IfOk result (IsTimely now.0) }
     ensures reply { IfOk result (λ o. IsReply o.reply) }
     ensures short { IfOk result (λ o. IsShort o.reply) }
-    ensures next { (history : List Entry) → VersionStandsFor 0 history version.now → IfOk result (IsNextOf history) }
-    ensures planned { (history : List Entry) (s : Step) (further : List Note) → VersionStandsFor 0 history version.now → s.peer ≡ peer
+    ensures next { (history : List Entry)
+        → VersionStandsFor 0 history version.now
+        → IfOk result (IsNextOf history) }
+    ensures planned { (history : List Entry) (s : Step) (further : List Note)
+        → VersionStandsFor 0 history version.now
+        → s.peer ≡ peer
         → IfOk result (IsPlanned history version.now.swept further
-        (registration history now.0 s (registration_values (queries_in (message_in meaning.now.view))) body.now (block1_option block.now) further)) }
+        (registration history now.0 s (registration_values
+        (queries_in (message_in meaning.now.view))) body.now (block1_option block.now)
+        further)) }
 {
     let params = given_params(alloc, meaning, false)?;
     registered(alloc, version, now, peer, params, body, Some(*block))
 }
 
 impl Tables {
-    /// How a block is answered that comes from a peer, under the key of its request. One that more follow is collected where it is answered by `More`;
-    /// after any other answer all is as before.
+    /// How a block is answered that comes from a peer, under the key of its request. One that more
+    /// follow is collected where it is answered by `More`; after any other answer all is as before.
     fn take_block(
         &mut self,
         alloc: Global,
@@ -118,10 +128,22 @@ impl Tables {
         block: &Block,
         piece: &[u8],
     ) -> Upload
-        ensures answer { (rows : List Row) (s : Step) (starved : Bool) (out : List (Peer × List ℕ)) (mids : Mids) → s.peer ≡ peer → UnderWay rows s starved nothing self.old out mids → result ≢ Upload.Starved
-            → result ≡ block_answer (row_moment rows s) (s.peer, key.now) block.now piece.now (events rows) }
-        ensures more { (rows : List Row) (s : Step) (starved : Bool) (out : List (Peer × List ℕ)) (mids : Mids) → s.peer ≡ peer → result ≡ Upload.More → UnderWay rows s starved nothing self.old out mids
-            → UnderWay rows s starved (joined nothing (noting (note.Piece s.peer key.now block.now.num piece.now ∷ []))) self.new out mids }
+        ensures answer { (rows : List Row) (s : Step) (starved : Bool) (out : List (Peer
+            × List ℕ)) (mids : Mids)
+            → s.peer ≡ peer
+            → UnderWay rows s starved nothing self.old out mids
+            → result ≢ Upload.Starved
+            → result
+            ≡ block_answer (row_moment rows s) (s.peer, key.now) block.now piece.now
+            (events rows) }
+        ensures more { (rows : List Row) (s : Step) (starved : Bool) (out : List (Peer
+            × List ℕ)) (mids : Mids)
+            → s.peer ≡ peer
+            → result ≡ Upload.More
+            → UnderWay rows s starved nothing self.old out mids
+            → UnderWay rows s starved (joined nothing
+            (noting (note.Piece s.peer key.now block.now.num piece.now ∷ []))) self.new out
+            mids }
         ensures other { result ≢ Upload.More → self.new ≡ self.old }
         ensures version { self.new.version ≡ self.old.version }
     {
@@ -131,15 +153,21 @@ impl Tables {
 
     /// The upload of a registration that is accepted ends. Takes no memory.
     fn end_upload(&mut self, peer: Peer, key: &Key)
-        ensures way { (rows : List Row) (s : Step) (starved : Bool) (done : Effects) (out : List (Peer × List ℕ)) (mids : Mids) → s.peer ≡ peer → UnderWay rows s starved done self.old out mids
-            → UnderWay rows s starved (joined done (noting (note.Finished s.peer key.now ∷ []))) self.new out mids }
+        ensures way { (rows : List Row) (s : Step) (starved : Bool) (done : Effects)
+            (out : List (Peer
+            × List ℕ)) (mids : Mids)
+            → s.peer ≡ peer
+            → UnderWay rows s starved done self.old out mids
+            → UnderWay rows s starved (joined done (noting (note.Finished s.peer key.now ∷ [])))
+            self.new out mids }
         ensures version { self.new.version ≡ self.old.version }
     {
         self.transfers.end_upload(peer, key);
     }
 
-    /// What is planned of a registration by the last of its blocks is done: where it is accepted, its entry is made and its upload ends; else its upload
-    /// stays, so that the block can come again. In both cases the write is answered, and settled by that. Takes no memory.
+    /// What is planned of a registration by the last of its blocks is done: where it is accepted,
+    /// its entry is made and its upload ends; else its upload stays, so that the block can come
+    /// again. In both cases the write is answered, and settled by that. Takes no memory.
     fn settle_upload(
         &mut self,
         mids: &mut Mids,
@@ -155,9 +183,16 @@ impl Tables {
         requires reply { IsReply outcome.reply }
         requires short { IsShort outcome.reply }
         requires room { length out.old < most_datagrams }
-        ensures way { (rows : List Row) (s : Step) (starved : Bool) (place : ℕ) (meant : changes.Outcome) → s.peer ≡ peer → IsOpen place peer view.now.mid admitted.0 (events rows)
-            → IsMadeAt (row_moment rows s) meant → IsPlanned (entries rows) self.old.version.swept (note.Finished s.peer key.now ∷ []) meant outcome
-            → UnderWay rows s starved nothing self.old out.old mids.old → UnderWay rows s starved (settling place s (message_in view.now) meant) self.new out.new mids.new }
+        ensures way { (rows : List Row) (s : Step) (starved : Bool) (place : ℕ)
+            (meant : changes.Outcome)
+            → s.peer ≡ peer
+            → IsOpen place peer view.now.mid admitted.0 (events rows)
+            → IsMadeAt (row_moment rows s) meant
+            → IsPlanned (entries rows) self.old.version.swept (note.Finished s.peer key.now ∷ [])
+            meant outcome
+            → UnderWay rows s starved nothing self.old out.old mids.old
+            → UnderWay rows s starved (settling place s (message_in view.now) meant) self.new
+            out.new mids.new }
         ensures version { IsLeftBy self.old.version self.new.version outcome.entering }
     {
         let Outcome { reply, entering } = outcome;
@@ -170,7 +205,8 @@ impl Tables {
         self.settle(mids, peer, view, admitted, &reply, out);
     }
 
-    /// A registration whose last block came is done with its whole body. What takes memory comes before anything changes; where it runs out, the write fails.
+    /// A registration whose last block came is done with its whole body. What takes memory comes
+    /// before anything changes; where it runs out, the write fails.
     fn commit_body<B: Board>(
         &mut self,
         alloc: Global,
@@ -185,18 +221,25 @@ impl Tables {
         out: &mut Outbox,
     ) -> Stepped
         requires token { length meaning.now.view.token.now ≤ longest_token }
-        requires good { fault_of reading.Register (queries_in (message_in meaning.now.view)) ≡ None }
+        requires good { fault_of reading.Register (queries_in (message_in meaning.now.view))
+            ≡ None }
         requires block { IsBlock block.now }
         requires room { length out.old < most_datagrams }
         requires free { B.has_staged board.old ≡ false }
         requires told { AreToldOf self.old.version (B.told board.old) }
-        ensures way { (rows : List Row) (s : Step) (place : ℕ) → s.peer ≡ peer → IsOpen place peer meaning.now.view.mid admitted.0 (events rows)
+        ensures way { (rows : List Row) (s : Step) (place : ℕ)
+            → s.peer ≡ peer
+            → IsOpen place peer meaning.now.view.mid admitted.0 (events rows)
             → UnderWay rows s (is_starved_step result) nothing self.old out.old mids.old
-            → UnderWay rows s (is_starved_step result) (unless_failing (is_starved_step result) place s (message_in meaning.now.view)
+            → UnderWay rows s (is_starved_step result)
+            (unless_failing (is_starved_step result) place s (message_in meaning.now.view)
             (settling place s (message_in meaning.now.view)
-            (registration (entries rows) (row_moment rows s) s (registration_values (queries_in (message_in meaning.now.view))) body.now (block1_option block.now) (note.Finished s.peer key.now ∷ []))))
-            self.new out.new mids.new }
-        ensures laid { IsLaid self.old.version self.new.version (B.staged board.old) (B.staged board.new) (B.has_staged board.new) }
+            (registration (entries rows) (row_moment rows s) s
+            (registration_values (queries_in (message_in meaning.now.view))) body.now
+            (block1_option block.now) (note.Finished s.peer key.now ∷ [])))) self.new out.new
+            mids.new }
+        ensures laid { IsLaid self.old.version self.new.version (B.staged board.old)
+            (B.staged board.new) (B.has_staged board.new) }
         ensures name { B.name board.new ≡ B.name board.old }
         ensures told { B.told board.new ≡ B.told board.old }
     {
@@ -221,8 +264,8 @@ impl Tables {
         }
     }
 
-    /// A block of a registration that was admitted is done (RFC 7959 sections 2.5 and 2.9). What takes memory comes before anything changes; where it runs
-    /// out, the write fails.
+    /// A block of a registration that was admitted is done (RFC 7959 sections 2.5 and 2.9). What
+    /// takes memory comes before anything changes; where it runs out, the write fails.
     pub(crate) fn commit_block<B: Board>(
         &mut self,
         alloc: Global,
@@ -236,16 +279,23 @@ impl Tables {
     ) -> Stepped
         requires meaning { IsMeaning (message_in meaning.now.view) meaning.now }
         requires token { length meaning.now.view.token.now ≤ longest_token }
-        requires good { fault_of reading.Register (queries_in (message_in meaning.now.view)) ≡ None }
+        requires good { fault_of reading.Register (queries_in (message_in meaning.now.view))
+            ≡ None }
         requires block { IsBlock block.now }
         requires room { length out.old < most_datagrams }
         requires free { B.has_staged board.old ≡ false }
         requires told { AreToldOf self.old.version (B.told board.old) }
-        ensures way { (rows : List Row) (s : Step) (place : ℕ) → s.peer ≡ peer → IsOpen place s.peer (message_in meaning.now.view).mid admitted.0 (events rows)
+        ensures way { (rows : List Row) (s : Step) (place : ℕ)
+            → s.peer ≡ peer
+            → IsOpen place s.peer (message_in meaning.now.view).mid admitted.0 (events rows)
             → UnderWay rows s (is_starved_step result) nothing self.old out.old mids.old
-            → UnderWay rows s (is_starved_step result) (unless_failing (is_starved_step result) place s (message_in meaning.now.view)
-            (settling place s (message_in meaning.now.view) (block_uploaded rows (row_moment rows s) s (message_in meaning.now.view) block.now))) self.new out.new mids.new }
-        ensures laid { IsLaid self.old.version self.new.version (B.staged board.old) (B.staged board.new) (B.has_staged board.new) }
+            → UnderWay rows s (is_starved_step result)
+            (unless_failing (is_starved_step result) place s (message_in meaning.now.view)
+            (settling place s (message_in meaning.now.view)
+            (block_uploaded rows (row_moment rows s) s (message_in meaning.now.view)
+            block.now))) self.new out.new mids.new }
+        ensures laid { IsLaid self.old.version self.new.version (B.staged board.old)
+            (B.staged board.new) (B.has_staged board.new) }
         ensures name { B.name board.new ≡ B.name board.old }
         ensures told { B.told board.new ≡ B.told board.old }
     {

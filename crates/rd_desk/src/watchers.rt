@@ -41,7 +41,10 @@ impl Tables {
     /// The observer with an index, in the order in which they joined; none from their number on.
     pub(crate) fn observer(&self, index: usize) -> Option<Watcher>
         ensures shown { IsShown (slice_get self.now.watching.observers index) result }
-        ensures observer { (rows : List Row) (o : Observed) → StandsFor rows self.now → slice_get (observers (events rows)) index ≡ Some o → IfSome result (IsObserverAfter rows o) }
+        ensures observer { (rows : List Row) (o : Observed)
+            → StandsFor rows self.now
+            → slice_get (observers (events rows)) index ≡ Some o
+            → IfSome result (IsObserverAfter rows o) }
     {
         match self.watching.at(index) {
             Some(observer) => Some(shown(observer)),

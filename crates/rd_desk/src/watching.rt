@@ -1,5 +1,7 @@
 //! The watched queries and their observers: who observes, and who is due (RFC 7641 section 4).
-ghost use Rattle.std.specs.Prelude.{◌≡◌, ◌≢◌, ◌≤◌, ◌<◌, ◌∷◌, [], ◌&&◌, List, Bool, true, false, Some, IfOk, IfSome, OnErr, map, length, nat_lt, option_map, slice_get, remove};
+ghost use Rattle.std.specs.Prelude.{◌≡◌, ◌≢◌, ◌≤◌, ◌<◌, ◌∷◌, [], ◌&&◌, List, Bool, true, false};
+ghost use Rattle.std.specs.Prelude.{Some, IfOk, IfSome, OnErr, map, length, nat_lt, option_map};
+ghost use Rattle.std.specs.Prelude.{slice_get, remove};
 ghost use Rattle.std.specs.List.{list_any};
 ghost use Rattle.std.specs.Arc.{arc_value};
 ghost use Rattle.std.specs.Option.{option_copied};
@@ -23,7 +25,8 @@ ghost use Rattle.journal_model.specs.Ticks.{is_confirmable_with};
 ghost use Rattle.journal_model.specs.UnfinishedRow.{making};
 ghost use Rattle.exchange_core.specs.Retransmissions.{Resends};
 ghost use Rattle.observers.specs.ObserverEvents.{notice_due};
-ghost use Rattle.observers.specs.Watchers.{Watcher, is_awaited, next_ready, noticed, due_of, timed, changed_at};
+ghost use Rattle.observers.specs.Watchers.{Watcher, is_awaited, next_ready, noticed, due_of};
+ghost use Rattle.observers.specs.Watchers.{timed, changed_at};
 ghost use Rattle.rd_desk.specs.ChangeKinds.{kind_of};
 ghost use Rattle.rd_desk.specs.Desks.{DirectoryStandsFor};
 ghost use Rattle.rd_desk.specs.Entering.{IsEntered};
@@ -43,7 +46,8 @@ use std::marker::Model;
 use std::sync::Arc;
 use watch_table::WatchTable;
 
-/// The queries that are observed, and who observes them (RFC 7641 section 4.1): each query is watched as often as it is observed.
+/// The queries that are observed, and who observes them (RFC 7641 section 4.1): each query is
+/// watched as often as it is observed.
 #[derive(Drop)]
 pub(crate) struct Watching {
     /// The watched queries, each at its place.
@@ -63,7 +67,8 @@ impl Model for Watching {
 }
 
 impl Watching {
-    /// No observers, with room for as many as there are at most. `Starved` where memory ran out, and then nothing is kept.
+    /// No observers, with room for as many as there are at most. `Starved` where memory ran out,
+    /// and then nothing is kept.
     pub(crate) fn make(alloc: Global) -> Result<Watching, Starved>
         ensures { IfOk result (WatchingStandsFor []) }
     {
@@ -72,11 +77,19 @@ impl Watching {
         Ok(Watching { watches, observers })
     }
 
-    /// Time passes from one moment to another: the observers are due to whose queries registrations of this version give lines that lapse meanwhile.
-    /// The first moment is not before the last sweep of the version. Takes no memory.
+    /// Time passes from one moment to another: the observers are due to whose queries registrations
+    /// of this version give lines that lapse meanwhile. The first moment is not before the last
+    /// sweep of the version. Takes no memory.
     pub(crate) fn pass(&mut self, version: &Directory, from: Moment, to: Moment)
         requires { version.now.swept ≤ from.0 }
-        ensures { (rows : List Row) (s : Step) (starved : Bool) → IsDeskJournal rows → is_look s.kind ≡ false → from.0 ≡ now rows → to.0 ≡ row_moment rows s → DirectoryStandsFor rows version.now → WatchingStandsFor rows self.old → WatchingStandsFor (making rows s starved nothing) self.new }
+        ensures { (rows : List Row) (s : Step) (starved : Bool)
+            → IsDeskJournal rows
+            → is_look s.kind ≡ false
+            → from.0 ≡ now rows
+            → to.0 ≡ row_moment rows s
+            → DirectoryStandsFor rows version.now
+            → WatchingStandsFor rows self.old
+            → WatchingStandsFor (making rows s starved nothing) self.new }
     {
         if touch_lapsing(&mut self.watches, version, from, to) {
             hand_on(&mut self.watches, &mut self.observers);
@@ -87,7 +100,15 @@ impl Watching {
     /// gives other lines after it than before. An update that leaves the base and the attributes is
     /// seen by none, and is compared with no query. Takes no memory.
     pub(crate) fn enter(&mut self, kind: ChangeKind, old: Option<&Record>, new: Option<&Record>)
-        ensures { (rows : List Row) (s : Step) (starved : Bool) (done : Effects) (entry : Entry) → IsDeskJournal rows → is_look s.kind ≡ false → done.notes ≡ [] → kind ≡ kind_of entry.change → IsEntered rows s entry (option_copied old.entry) (option_copied new.entry) → WatchingStandsFor (making rows s starved done) self.old → WatchingStandsFor (making rows s starved (joined done (noting (note.Entered entry ∷ [])))) self.new }
+        ensures { (rows : List Row) (s : Step) (starved : Bool) (done : Effects) (entry : Entry)
+            → IsDeskJournal rows
+            → is_look s.kind ≡ false
+            → done.notes ≡ []
+            → kind ≡ kind_of entry.change
+            → IsEntered rows s entry (option_copied old.entry) (option_copied new.entry)
+            → WatchingStandsFor (making rows s starved done) self.old
+            → WatchingStandsFor (making rows s starved
+            (joined done (noting (note.Entered entry ∷ [])))) self.new }
     {
         if stays_as_shown(kind, old, new) {
             return;
@@ -96,24 +117,42 @@ impl Watching {
         hand_on(&mut self.watches, &mut self.observers);
     }
 
-    /// The observer of a peer and a token is taken out, where there is one; whether there is. Takes no memory.
+    /// The observer of a peer and a token is taken out, where there is one; whether there is. Takes
+    /// no memory.
     pub(crate) fn leave(&mut self, peer: &Peer, token: &Token) -> bool
-        ensures found { (rows : List Row) → WatchingStandsFor rows self.old → result ≡ is_observer (peer.now, token.now) (observers (events rows)) }
-        ensures stands { (rows : List Row) (s : Step) (starved : Bool) (done : Effects) → WatchingStandsFor (making rows s starved done) self.old → WatchingStandsFor (making rows s starved (joined done (noting (removal (peer.now, token.now) (observers (events (making rows s starved done))))))) self.new }
+        ensures found { (rows : List Row)
+            → WatchingStandsFor rows self.old
+            → result ≡ is_observer (peer.now, token.now) (observers (events rows)) }
+        ensures stands { (rows : List Row) (s : Step) (starved : Bool) (done : Effects)
+            → WatchingStandsFor (making rows s starved done) self.old
+            → WatchingStandsFor (making rows s starved
+            (joined done (noting (removal (peer.now, token.now)
+            (observers (events (making rows s starved done))))))) self.new }
     {
         joining::leave(&mut self.watches, &mut self.observers, peer, token)
     }
 
-    /// An observer of a query joins in place of that of its peer and token: it is added, with the body that it is answered with, where there is room; whether there is.
-    /// `Starved`: out of memory, and nothing changed.
+    /// An observer of a query joins in place of that of its peer and token: it is added, with the
+    /// body that it is answered with, where there is room; whether there is. `Starved`: out of
+    /// memory, and nothing changed.
     pub(crate) fn join(
         &mut self,
         alloc: Global,
         query: &Query,
         joining: Joining,
     ) -> Result<bool, Starved>
-        ensures room { (rows : List Row) → WatchingStandsFor rows self.old → IfOk result (λ added. added ≡ has_room_for query.now (without (joining.peer, joining.token) (observers (events rows)))) }
-        ensures stands { (rows : List Row) (s : Step) (starved : Bool) (done : Effects) → WatchingStandsFor (making rows s starved done) self.old → IfOk result (λ added. WatchingStandsFor (making rows s starved (joined done (noting (joining_notes added (observer_joining query.now joining) (arc_value joining.body) (observers (events (making rows s starved done))))))) self.new) }
+        ensures room { (rows : List Row)
+            → WatchingStandsFor rows self.old
+            → IfOk result (λ added. added
+            ≡ has_room_for query.now (without (joining.peer, joining.token)
+            (observers (events rows)))) }
+        ensures stands { (rows : List Row) (s : Step) (starved : Bool) (done : Effects)
+            → WatchingStandsFor (making rows s starved done) self.old
+            → IfOk result (λ added. WatchingStandsFor
+            (making rows s starved (joined done
+            (noting (joining_notes added (observer_joining query.now joining)
+            (arc_value joining.body) (observers (events (making rows s starved done)))))))
+            self.new) }
         ensures unchanged { OnErr result (self.new ≡ self.old) }
     {
         joining::join(
@@ -125,18 +164,32 @@ impl Watching {
         )
     }
 
-    /// An acknowledgement of a peer with a Message ID came: it ends the flight of the notice that it is of; whether there is one (RFC 7641 section 4.5).
+    /// An acknowledgement of a peer with a Message ID came: it ends the flight of the notice that
+    /// it is of; whether there is one (RFC 7641 section 4.5).
     pub(crate) fn acked(&mut self, peer: &Peer, mid: u16) -> bool
-        ensures found { (rows : List Row) → WatchingStandsFor rows self.old → result ≡ nat_lt 0 (length (waited_for peer.now mid (events rows))) }
-        ensures stands { (rows : List Row) (s : Step) (starved : Bool) (done : Effects) → WatchingStandsFor (making rows s starved done) self.old → WatchingStandsFor (making rows s starved (joined done (noting (map (λ o. note.Landed peer.now mid) (waited_for peer.now mid (events (making rows s starved done))))))) self.new }
+        ensures found { (rows : List Row)
+            → WatchingStandsFor rows self.old
+            → result ≡ nat_lt 0 (length (waited_for peer.now mid (events rows))) }
+        ensures stands { (rows : List Row) (s : Step) (starved : Bool) (done : Effects)
+            → WatchingStandsFor (making rows s starved done) self.old
+            → WatchingStandsFor (making rows s starved
+            (joined done (noting (map (λ o. note.Landed peer.now mid)
+            (waited_for peer.now mid (events (making rows s starved done))))))) self.new }
     {
         self.observers.acked(peer, mid)
     }
 
-    /// A Reset of a peer with a Message ID came: it takes out the observer whose notice it is of; whether there is one (RFC 7641 section 3.6).
+    /// A Reset of a peer with a Message ID came: it takes out the observer whose notice it is of;
+    /// whether there is one (RFC 7641 section 3.6).
     pub(crate) fn reset(&mut self, peer: &Peer, mid: u16) -> bool
-        ensures found { (rows : List Row) → WatchingStandsFor rows self.old → result ≡ nat_lt 0 (length (waited_for peer.now mid (events rows))) }
-        ensures stands { (rows : List Row) (s : Step) (starved : Bool) (done : Effects) → WatchingStandsFor (making rows s starved done) self.old → WatchingStandsFor (making rows s starved (joined done (noting (map (λ o. note.Unwatched o.peer o.token) (waited_for peer.now mid (events (making rows s starved done))))))) self.new }
+        ensures found { (rows : List Row)
+            → WatchingStandsFor rows self.old
+            → result ≡ nat_lt 0 (length (waited_for peer.now mid (events rows))) }
+        ensures stands { (rows : List Row) (s : Step) (starved : Bool) (done : Effects)
+            → WatchingStandsFor (making rows s starved done) self.old
+            → WatchingStandsFor (making rows s starved
+            (joined done (noting (map (λ o. note.Unwatched o.peer o.token)
+            (waited_for peer.now mid (events (making rows s starved done))))))) self.new }
     {
         joining::reset(&mut self.watches, &mut self.observers, peer, mid)
     }
@@ -155,12 +208,17 @@ impl Watching {
         self.observers.at(index)
     }
 
-    /// The first index from a number on of an observer that is due and to whose peer no notice is in flight (RFC 7252 section 4.7, NSTART).
+    /// The first index from a number on of an observer that is due and to whose peer no notice is
+    /// in flight (RFC 7252 section 4.7, NSTART).
     pub(crate) fn next_due(&self, from: usize) -> Option<usize>
-        ensures next { (rows : List Row) → WatchingStandsFor rows self.now → result ≡ next_noticed from (events rows) (transitions rows) }
+        ensures next { (rows : List Row)
+            → WatchingStandsFor rows self.now
+            → result ≡ next_noticed from (events rows) (transitions rows) }
         ensures ready { result ≡ next_ready from self.now.observers }
         ensures within { IfSome result (λ i. (from ≤ i) × (i < length self.now.observers)) }
-        ensures free { (x : Watcher) → IfSome result (λ i. slice_get self.now.observers i ≡ Some x → is_awaited x.peer self.now.observers ≡ false) }
+        ensures free { (x : Watcher)
+            → IfSome result (λ i. slice_get self.now.observers i ≡ Some x
+            → is_awaited x.peer self.now.observers ≡ false) }
     {
         self.observers.next_due(from)
     }
@@ -168,58 +226,108 @@ impl Watching {
     /// The query of the observer with an index.
     pub(crate) fn query(&self, index: usize) -> &Query
         requires { index < length self.now.observers }
-        ensures { (rows : List Row) (o : Observed) → WatchingStandsFor rows self.now → slice_get (observers (events rows)) index ≡ Some o → result.now ≡ o.query }
+        ensures { (rows : List Row) (o : Observed)
+            → WatchingStandsFor rows self.now
+            → slice_get (observers (events rows)) index ≡ Some o
+            → result.now ≡ o.query }
     {
         self.watches
             .query(joining::place_at(&self.observers, index))
     }
 
-    /// The body of the query of the observer with an index, where one is kept: it is the listing now.
+    /// The body of the query of the observer with an index, where one is kept: it is the listing
+    /// now.
     pub(crate) fn body(&self, index: usize) -> Option<&Arc<Bytes>>
         requires { index < length self.now.observers }
-        ensures { (rows : List Row) (o : Observed) → WatchingStandsFor rows self.now → slice_get (observers (events rows)) index ≡ Some o → IfSome result (λ body. arc_value body.now ≡ listing o.query (entries rows) (now rows)) }
+        ensures { (rows : List Row) (o : Observed)
+            → WatchingStandsFor rows self.now
+            → slice_get (observers (events rows)) index ≡ Some o
+            → IfSome result (λ body. arc_value body.now
+            ≡ listing o.query (entries rows) (now rows)) }
     {
         self.watches.body(joining::place_at(&self.observers, index))
     }
 
-    /// Keeps a body for the query of the observer with an index, so that it is formed once for all who observe it. It is the listing now. Takes no memory.
+    /// Keeps a body for the query of the observer with an index, so that it is formed once for all
+    /// who observe it. It is the listing now. Takes no memory.
     pub(crate) fn keep_body(&mut self, index: usize, body: Arc<Bytes>)
         requires { index < length self.old.observers }
-        ensures stands { (rows : List Row) (o : Observed) → arc_value body ≡ listing o.query (entries rows) (now rows) → slice_get (observers (events rows)) index ≡ Some o → WatchingStandsFor rows self.old → WatchingStandsFor rows self.new }
+        ensures stands { (rows : List Row) (o : Observed)
+            → arc_value body ≡ listing o.query (entries rows) (now rows)
+            → slice_get (observers (events rows)) index ≡ Some o
+            → WatchingStandsFor rows self.old
+            → WatchingStandsFor rows self.new }
         ensures same { self.new.observers ≡ self.old.observers }
     {
         let place = joining::place_at(&self.observers, index);
         self.watches.set_body(place, body);
     }
 
-    /// A notice with a body was formed for the observer with an index, to whose peer none is in flight: it is due no longer. Takes no memory.
+    /// A notice with a body was formed for the observer with an index, to whose peer none is in
+    /// flight: it is due no longer. Takes no memory.
     pub(crate) fn formed(&mut self, index: usize, flight: Sent, body: Arc<Bytes>)
         requires within { index < length self.old.observers }
-        requires free { (x : Watcher) → slice_get self.old.observers index ≡ Some x → is_awaited x.peer self.old.observers ≡ false }
-        ensures stands { (rows : List Row) (s : Step) (starved : Bool) (done : Effects) (x : Watcher) → slice_get self.old.observers index ≡ Some x → list_any (λ d. is_same_peer d.0 x.peer && is_confirmable_with flight.mid d.1) done.sent ≡ false → is_confirmable_with flight.mid flight.octets ≡ true → ((first : Event) → first.moment ≡ row_moment rows s → first.word ≡ s.word → Resends first [] flight.resend) → WatchingStandsFor (making rows s starved done) self.old → WatchingStandsFor (making rows s starved (joined done (forming x (arc_value body) flight))) self.new }
+        requires free { (x : Watcher)
+            → slice_get self.old.observers index ≡ Some x
+            → is_awaited x.peer self.old.observers ≡ false }
+        ensures stands { (rows : List Row) (s : Step) (starved : Bool) (done : Effects)
+            (x : Watcher)
+            → slice_get self.old.observers index ≡ Some x
+            → list_any (λ d. is_same_peer d.0 x.peer
+            && is_confirmable_with flight.mid d.1) done.sent
+            ≡ false
+            → is_confirmable_with flight.mid flight.octets ≡ true
+            → ((first : Event)
+            → first.moment ≡ row_moment rows s
+            → first.word ≡ s.word
+            → Resends first [] flight.resend)
+            → WatchingStandsFor (making rows s starved done) self.old
+            → WatchingStandsFor (making rows s starved
+            (joined done (forming x (arc_value body) flight))) self.new }
         ensures len { length self.new.observers ≡ length self.old.observers }
-        ensures formed { self.new.observers ≡ changed_at (noticed flight (arc_value body)) index self.old.observers }
+        ensures formed { self.new.observers
+            ≡ changed_at (noticed flight (arc_value body)) index self.old.observers }
     {
         self.observers.formed(index, flight, body);
     }
 
-    /// The listing of the observer with an index was found unchanged: it is due no longer. Takes no memory.
+    /// The listing of the observer with an index was found unchanged: it is due no longer. Takes no
+    /// memory.
     pub(crate) fn unchanged(&mut self, index: usize)
         requires { index < length self.old.observers }
-        ensures stands { (rows : List Row) (s : Step) (starved : Bool) (done : Effects) (x : Watcher) → slice_get self.old.observers index ≡ Some x → WatchingStandsFor (making rows s starved done) self.old → WatchingStandsFor (making rows s starved (joined done (noting (note.Unchanged x.peer x.token ∷ [])))) self.new }
+        ensures stands { (rows : List Row) (s : Step) (starved : Bool) (done : Effects)
+            (x : Watcher)
+            → slice_get self.old.observers index ≡ Some x
+            → WatchingStandsFor (making rows s starved done) self.old
+            → WatchingStandsFor (making rows s starved
+            (joined done (noting (note.Unchanged x.peer x.token ∷ [])))) self.new }
         ensures len { length self.new.observers ≡ length self.old.observers }
     {
         self.observers.unchanged(index);
     }
 
-    /// What is due now of the notice in flight to the observer with an index; `Wait` where none is in flight. A retransmission counts as made now.
+    /// What is due now of the notice in flight to the observer with an index; `Wait` where none is
+    /// in flight. A retransmission counts as made now.
     pub(crate) fn timeout(&mut self, now: Moment, index: usize) -> Again
         requires { index < length self.old.observers }
-        ensures due { (rows : List Row) (o : Observed) → WatchingStandsFor rows self.old → slice_get (observers (events rows)) index ≡ Some o → result ≡ notice_due now.0 (flight o (events rows)) }
-        ensures stands { (rows : List Row) (s : Step) (starved : Bool) (done : Effects) (x : Watcher) (sent : Message) → result ≡ Again.Send → slice_get self.old.observers index ≡ Some x → x.flight ≡ Some sent → now.0 ≡ row_moment rows s → WatchingStandsFor (making rows s starved done) self.old → WatchingStandsFor (making rows s starved (joined done (sending_again x sent))) self.new }
+        ensures due { (rows : List Row) (o : Observed)
+            → WatchingStandsFor rows self.old
+            → slice_get (observers (events rows)) index ≡ Some o
+            → result ≡ notice_due now.0 (flight o (events rows)) }
+        ensures stands { (rows : List Row) (s : Step) (starved : Bool) (done : Effects)
+            (x : Watcher) (sent : Message)
+            → result ≡ Again.Send
+            → slice_get self.old.observers index ≡ Some x
+            → x.flight ≡ Some sent
+            → now.0 ≡ row_moment rows s
+            → WatchingStandsFor (making rows s starved done) self.old
+            → WatchingStandsFor (making rows s starved (joined done (sending_again x sent)))
+            self.new }
         ensures unsent { result ≢ Again.Send → self.new ≡ self.old }
         ensures len { length self.new.observers ≡ length self.old.observers }
-        ensures answer { (x : Watcher) → slice_get self.old.observers index ≡ Some x → result ≡ due_of now.0 x.flight }
+        ensures answer { (x : Watcher)
+            → slice_get self.old.observers index ≡ Some x
+            → result ≡ due_of now.0 x.flight }
         ensures kept { self.new.observers ≡ changed_at (timed now.0) index self.old.observers }
     {
         self.observers.timeout(now, index)
@@ -228,7 +336,12 @@ impl Watching {
     /// The observer with an index is taken out, whose notice is given up (RFC 7641 section 4.5).
     pub(crate) fn timed_out(&mut self, index: usize)
         requires { index < length self.old.observers }
-        ensures stands { (rows : List Row) (s : Step) (starved : Bool) (done : Effects) (x : Watcher) → slice_get self.old.observers index ≡ Some x → WatchingStandsFor (making rows s starved done) self.old → WatchingStandsFor (making rows s starved (joined done (noting (note.Unwatched x.peer x.token ∷ [])))) self.new }
+        ensures stands { (rows : List Row) (s : Step) (starved : Bool) (done : Effects)
+            (x : Watcher)
+            → slice_get self.old.observers index ≡ Some x
+            → WatchingStandsFor (making rows s starved done) self.old
+            → WatchingStandsFor (making rows s starved
+            (joined done (noting (note.Unwatched x.peer x.token ∷ [])))) self.new }
         ensures left { self.new.observers ≡ remove self.old.observers index }
     {
         joining::take_out(&mut self.watches, &mut self.observers, index);

@@ -14,7 +14,8 @@ use coap_options::Meaning;
 use rd_base::{Bytes, Moment, Peer};
 use std::marker::Model;
 
-/// A write that was admitted, to be done by the next step of its worker but ticks. Nothing refuses its request for itself.
+/// A write that was admitted, to be done by the next step of its worker but ticks. Nothing refuses
+/// its request for itself.
 #[derive(Drop)]
 pub struct WriteJob {
     /// Who wrote.
@@ -31,7 +32,12 @@ impl Model for WriteJob {
 
     ghost Value = { Write };
 
-    ghost view = { λ job. record { peer = job.peer; datagram = job.datagram; admitted = job.admitted.0 } };
+    ghost view = { λ job. record {
+      peer = job.peer;
+      datagram = job.datagram;
+      admitted =
+          job.admitted.0;
+    } };
 
     ghost invariant = { λ job. is_write_datagram job.datagram ≡ true };
 }

@@ -1,5 +1,6 @@
 //! The machine of a replay: the desk, its workers, and the greatest moment that was handed in.
-ghost use Rattle.std.specs.Prelude.{◌≡◌, ◌≤◌, ◌<◌, ◌^◌, ℕ, [], List, Ok, IfOk, IfSome, is_some, length, max, slice_get};
+ghost use Rattle.std.specs.Prelude.{◌≡◌, ◌≤◌, ◌<◌, ◌^◌, ℕ, [], List, Ok, IfOk, IfSome, is_some};
+ghost use Rattle.std.specs.Prelude.{length, max, slice_get};
 ghost use Rattle.line_model.specs.declared.lines.Line.TheVariants as kind;
 ghost use Rattle.line_model.specs.Lines.{IsLine};
 ghost use Rattle.journal_model.specs.declared.rows.Row.{Row};
@@ -7,7 +8,8 @@ ghost use Rattle.journal_model.specs.DeskJournal.{max_workers};
 ghost use Rattle.journal_model.specs.Machine.{job_of};
 ghost use Rattle.trace_model.specs.Output.{last_line};
 ghost use Rattle.trace_model.specs.Steps as steps;
-ghost use Rattle.rd_server.specs.Machines.{IsMachine, IsMachineAt, IsWorkerAt, Performs, lines_sent, sent_of};
+ghost use Rattle.rd_server.specs.Machines.{IsMachine, IsMachineAt, IsWorkerAt, Performs};
+ghost use Rattle.rd_server.specs.Machines.{lines_sent, sent_of};
 
 use crate::troubles::Trouble;
 use crate::workers::Worker;
@@ -17,8 +19,10 @@ use rd_desk::{Desk, Outbox};
 use std::alloc::Global;
 use trace_text::{Line, Reason, out_print};
 
-/// A directory that lines of a trace drive, without any socket: one desk, from 1 to 16 workers that hear datagrams, do the jobs that these leave them, and let time pass (RFC 9176, RFC 7252,
-/// RFC 7641, RFC 7959); and what the last step sent. Contracts say after which journal it stands (`IsMachineAt`).
+/// A directory that lines of a trace drive, without any socket: one desk, from 1 to 16 workers that
+/// hear datagrams, do the jobs that these leave them, and let time pass (RFC 9176, RFC 7252, RFC
+/// 7641, RFC 7959); and what the last step sent. Contracts say after which journal it stands
+/// (`IsMachineAt`).
 #[derive(Drop)]
 pub struct Machine {
     /// Where its memory comes from.
@@ -37,7 +41,8 @@ pub struct Machine {
 fn workers_of(alloc: Global, number: u8) -> Result<Vec<Worker>, Starved>
     requires { number ≤ max_workers }
     ensures number { IfOk result (λ workers. length workers.items ≡ number) }
-    ensures each { IfOk result (λ workers. (worker : ℕ) → IfSome (slice_get workers.items worker) (IsWorkerAt [] worker)) }
+    ensures each { IfOk result (λ workers. (worker : ℕ)
+        → IfSome (slice_get workers.items worker) (IsWorkerAt [] worker)) }
 {
     let mut workers = Vec::with_capacity(alloc, usize::from(number))?;
     'numbers: for worker in 0..number {
@@ -47,7 +52,8 @@ fn workers_of(alloc: Global, number: u8) -> Result<Vec<Worker>, Starved>
 }
 
 impl Machine {
-    /// A machine of so many workers, at most 16 and numbered from 0, which made no step yet. `Starved`: out of memory.
+    /// A machine of so many workers, at most 16 and numbered from 0, which made no step yet.
+    /// `Starved`: out of memory.
     pub fn make(alloc: Global, workers: u8) -> Result<Machine, Starved>
         requires { workers ≤ max_workers }
         ensures { IfOk result (IsMachineAt workers []) }
@@ -61,7 +67,8 @@ impl Machine {
         })
     }
 
-    /// A datagram comes to a worker. The line is bad where there is no such worker, and where it holds a job.
+    /// A datagram comes to a worker. The line is bad where there is no such worker, and where it
+    /// holds a job.
     fn come(
         &mut self,
         worker: u8,
@@ -72,8 +79,10 @@ impl Machine {
         requires stands { IsMachine self.old }
         requires moment { moment.0 ≤ 10 ^ 15 }
         requires empty { self.old.sent ≡ [] }
-        ensures { (workers : ℕ) (rows : List Row) → IsMachineAt workers rows self.old
-            → Performs workers rows (steps.step_of_line workers rows (Ok (kind.Come worker moment peer datagram))) self.new result }
+        ensures { (workers : ℕ) (rows : List Row)
+            → IsMachineAt workers rows self.old
+            → Performs workers rows (steps.step_of_line workers rows
+            (Ok (kind.Come worker moment peer datagram))) self.new result }
     {
         let Some(hearer) = self.workers.get_mut(usize::from(worker)) else {
             return Err(Trouble::Bad(Reason::Worker));
@@ -92,13 +101,16 @@ impl Machine {
         )?)
     }
 
-    /// A worker does its job. Where it holds none it makes no step, and hands in no moment. The line is bad where there is no such worker.
+    /// A worker does its job. Where it holds none it makes no step, and hands in no moment. The
+    /// line is bad where there is no such worker.
     fn go(&mut self, worker: u8, moment: Moment) -> Result<(), Trouble>
         requires stands { IsMachine self.old }
         requires moment { moment.0 ≤ 10 ^ 15 }
         requires empty { self.old.sent ≡ [] }
-        ensures { (workers : ℕ) (rows : List Row) → IsMachineAt workers rows self.old
-            → Performs workers rows (steps.step_of_line workers rows (Ok (kind.Go worker moment))) self.new result }
+        ensures { (workers : ℕ) (rows : List Row)
+            → IsMachineAt workers rows self.old
+            → Performs workers rows (steps.step_of_line workers rows (Ok (kind.Go worker moment)))
+            self.new result }
     {
         let Some(goer) = self.workers.get_mut(usize::from(worker)) else {
             return Err(Trouble::Bad(Reason::Worker));
@@ -115,8 +127,10 @@ impl Machine {
         requires stands { IsMachine self.old }
         requires moment { moment.0 ≤ 10 ^ 15 }
         requires empty { self.old.sent ≡ [] }
-        ensures { (workers : ℕ) (rows : List Row) → IsMachineAt workers rows self.old
-            → Performs workers rows (steps.step_of_line workers rows (Ok (kind.Tick worker moment word))) self.new result }
+        ensures { (workers : ℕ) (rows : List Row)
+            → IsMachineAt workers rows self.old
+            → Performs workers rows (steps.step_of_line workers rows
+            (Ok (kind.Tick worker moment word))) self.new result }
     {
         let Some(ticker) = self.workers.get_mut(usize::from(worker)) else {
             return Err(Trouble::Bad(Reason::Worker));
@@ -125,9 +139,11 @@ impl Machine {
         Ok(ticker.tick(&mut self.desk, self.latest, word, &mut self.sent)?)
     }
 
-    /// Does what a line says, as one step of the worker that it names, and has what that step sent. A moment, in milliseconds and at most 10^15, is lifted to the greatest that came
-    /// before. `Bad`: there is no such worker, or a datagram comes to one that holds a job; then the machine is as before, and has sent nothing. `Starved`: out of memory; then it is
-    /// not to be used any more.
+    /// Does what a line says, as one step of the worker that it names, and has what that step sent.
+    /// A moment, in milliseconds and at most 10^15, is lifted to the greatest that came before.
+    /// `Bad`: there is no such worker, or a datagram comes to one that holds a job; then the
+    /// machine is as before, and has sent nothing. `Starved`: out of memory; then it is not to be
+    /// used any more.
     pub fn perform(&mut self, line: Line) -> Result<(), Trouble>
         requires stands { IsMachine self.old }
         requires line { IsLine line }
@@ -158,9 +174,13 @@ impl Machine {
         &self.sent
     }
 
-    /// Whether a worker holds a job: then no datagram comes to it. One that there is not holds none.
+    /// Whether a worker holds a job: then no datagram comes to it. One that there is not holds
+    /// none.
     pub fn is_busy(&self, worker: u8) -> bool
-        ensures { (workers : ℕ) (rows : List Row) → IsMachineAt workers rows self.now → worker < workers → result ≡ is_some (job_of worker rows) }
+        ensures { (workers : ℕ) (rows : List Row)
+            → IsMachineAt workers rows self.now
+            → worker < workers
+            → result ≡ is_some (job_of worker rows) }
     {
         let Some(holder) = self.workers.get(usize::from(worker)) else {
             return false;
@@ -168,7 +188,8 @@ impl Machine {
         holder.is_busy()
     }
 
-    /// The lines of the output for what the last step sent, which is one of this worker. `Starved`: out of memory.
+    /// The lines of the output for what the last step sent, which is one of this worker. `Starved`:
+    /// out of memory.
     pub fn sent_text(&self, worker: u8) -> Result<Bytes, Starved>
         ensures { IfOk result (λ text. text ≡ lines_sent worker (sent_of self.now)) }
     {
@@ -186,10 +207,13 @@ impl Machine {
         Ok(text)
     }
 
-    /// The line that ends the output: how many changes were accepted, how many registrations are live at the greatest moment that was handed in, and how many observers there are.
+    /// The line that ends the output: how many changes were accepted, how many registrations are
+    /// live at the greatest moment that was handed in, and how many observers there are.
     pub fn end_line(&self) -> Result<Bytes, Starved>
         requires { IsMachine self.now }
-        ensures { IfOk result (λ text. (workers : ℕ) (rows : List Row) → IsMachineAt workers rows self.now → text ≡ last_line rows) }
+        ensures { IfOk result (λ text. (workers : ℕ) (rows : List Row)
+            → IsMachineAt workers rows self.now
+            → text ≡ last_line rows) }
     {
         let version = self.desk.version();
         let entries = version.entries();

@@ -5,7 +5,8 @@ ghost use Rattle.journal_model.specs.declared.rows.Row.{Row};
 ghost use Rattle.trace_model.specs.Made.{made_output, octets_sent};
 ghost use Rattle.rd_server.specs.Endings.{CountsWrites};
 ghost use Rattle.rd_server.specs.Journal.{after_line, journal};
-ghost use Rattle.rd_server.specs.MadeRuns.{CountsLine, CountsLines, IsCounted, IsCountedAt, IsMade, summary};
+ghost use Rattle.rd_server.specs.MadeRuns.{CountsLine, CountsLines, IsCounted, IsCountedAt};
+ghost use Rattle.rd_server.specs.MadeRuns.{IsMade, summary};
 ghost use Rattle.rd_server.specs.Words.{AreDevices, IsWorkers};
 
 use crate::endings::Status;
@@ -61,10 +62,13 @@ impl Count {
         })
     }
 
-    /// Does a line, and counts it and what it sent. Where the line is bad nothing is counted. `Starved`: out of memory, or a count is at its last value.
+    /// Does a line, and counts it and what it sent. Where the line is bad nothing is counted.
+    /// `Starved`: out of memory, or a count is at its last value.
     fn do_line(&mut self, alloc: Global, line: &[u8]) -> Result<(), Trouble>
         requires { IsCounted self.old }
-        ensures { (workers : ℕ) (rows : List Row) (lines : ℕ) → IsCountedAt workers rows lines self.old → CountsLine workers lines (after_line workers rows line.now) self.new result }
+        ensures { (workers : ℕ) (rows : List Row) (lines : ℕ)
+            → IsCountedAt workers rows lines self.old
+            → CountsLine workers lines (after_line workers rows line.now) self.new result }
     {
         perform(alloc, &mut self.machine, line)?;
         let sent = self.machine.sent();
@@ -79,8 +83,10 @@ impl Count {
     /// Does the lines of a trace, and counts them, up to the first that is bad.
     fn do_lines(&mut self, alloc: Global, trace: &[u8]) -> Result<(), Trouble>
         requires { IsCounted self.old }
-        ensures { (workers : ℕ) (rows : List Row) (lines : ℕ) → IsCountedAt workers rows lines self.old
-            → CountsLines workers (lines + length (lines_of trace.now)) (journal workers rows (lines + 1) (lines_of trace.now)) self.new result }
+        ensures { (workers : ℕ) (rows : List Row) (lines : ℕ)
+            → IsCountedAt workers rows lines self.old
+            → CountsLines workers (lines + length (lines_of trace.now))
+            (journal workers rows (lines + 1) (lines_of trace.now)) self.new result }
     {
         let mut rest = trace;
         'lines: while let Some((line, more)) = cut(b'\n', rest) {
@@ -93,10 +99,13 @@ impl Count {
         self.do_line(alloc, rest)
     }
 
-    /// The lines that say what was counted, and the line that ends the output. `Starved`: out of memory.
+    /// The lines that say what was counted, and the line that ends the output. `Starved`: out of
+    /// memory.
     fn text(&self, alloc: Global) -> Result<Bytes, Starved>
         requires { IsCounted self.now }
-        ensures { IfOk result (λ text. (workers : ℕ) (rows : List Row) (lines : ℕ) → IsCountedAt workers rows lines self.now → text ≡ summary lines rows) }
+        ensures { IfOk result (λ text. (workers : ℕ) (rows : List Row) (lines : ℕ)
+            → IsCountedAt workers rows lines self.now
+            → text ≡ summary lines rows) }
     {
         let made = format!(in alloc; "made {}\n", self.lines)?;
         let sent = format!(in alloc; "sent {} {}\n", self.datagrams, self.octets)?;
@@ -124,11 +133,13 @@ fn made_text(alloc: Global, devices: u32, workers: u8) -> Result<Bytes, Starved>
     }
 }
 
-/// Makes the trace of a number of devices and does it, and writes how many lines it has, how many datagrams it sent with how many octets, and the line that ends the output.
+/// Makes the trace of a number of devices and does it, and writes how many lines it has, how many
+/// datagrams it sent with how many octets, and the line that ends the output.
 pub fn run_made<K: Sink>(alloc: Global, devices: u32, workers: u8, out: &mut K) -> Status
     requires devices { AreDevices devices }
     requires workers { IsWorkers workers }
-    ensures written { IsMade (made_output devices workers) (K.holds out.old) (K.holds out.new) result }
+    ensures written { IsMade (made_output devices workers) (K.holds out.old) (K.holds out.new)
+        result }
     ensures writes { CountsWrites (K.faults out.old) (K.faults out.new) result }
 {
     let Ok(text) = made_text(alloc, devices, workers) else {

@@ -1,5 +1,6 @@
 //! A replay in the middle of a trace.
-ghost use Rattle.std.specs.Prelude.{◌≡◌, ◌≤◌, ℕ, List, [], ◌∷◌, ◌++◌, IfOk, take, true, None, Option, length};
+ghost use Rattle.std.specs.Prelude.{◌≡◌, ◌≤◌, ℕ, List, [], ◌∷◌, ◌++◌, IfOk, take, true, None};
+ghost use Rattle.std.specs.Prelude.{Option, length};
 ghost use Rattle.std.specs.Io.KnownBytes.{Appends};
 ghost use Rattle.line_model.specs.Lines as trace;
 ghost use Rattle.journal_model.specs.declared.rows.Row.{Row};
@@ -8,7 +9,9 @@ ghost use Rattle.trace_model.specs.Output.{text, last_line};
 ghost use Rattle.trace_model.specs.Steps as steps;
 ghost use Rattle.rd_server.specs.Fields as fields;
 ghost use Rattle.rd_server.specs.Machines.{IsMachine, IsMachineAt, PerformsFor, lines_sent};
-ghost use Rattle.rd_server.specs.Sessions.{CountsAll, CountsUnwritten, Writes, DoesLine, Feeds, EndsLines, Finishes, IsAt, IsSession, Place, journal_from, start};
+ghost use Rattle.rd_server.specs.Sessions.{CountsAll, CountsUnwritten, Writes, DoesLine, Feeds};
+ghost use Rattle.rd_server.specs.Sessions.{EndsLines, Finishes, IsAt, IsSession, Place};
+ghost use Rattle.rd_server.specs.Sessions.{journal_from, start};
 
 use crate::endings::Stop;
 use crate::fields::cut;
@@ -44,11 +47,14 @@ fn worker_of(line: &Line) -> u8
 /// No line is longer, its line feed apart.
 const LONGEST_LINE: usize = 8600;
 
-/// Does what a line says, and answers which worker it names. Where the line is bad the machine is as before, and after memory ran out it is not to be used any more.
+/// Does what a line says, and answers which worker it names. Where the line is bad the machine is
+/// as before, and after memory ran out it is not to be used any more.
 pub fn perform(alloc: Global, machine: &mut Machine, line: &[u8]) -> Result<u8, Trouble>
     requires { IsMachine machine.old }
-    ensures { (workers : ℕ) (rows : List Row) → IsMachineAt workers rows machine.old
-        → PerformsFor workers rows (steps.step_of_line workers rows (trace.line_of line.now)) machine.new result }
+    ensures { (workers : ℕ) (rows : List Row)
+        → IsMachineAt workers rows machine.old
+        → PerformsFor workers rows (steps.step_of_line workers rows (trace.line_of line.now))
+        machine.new result }
 {
     let step = line_read(alloc, line)?;
     let worker = worker_of(&step);
@@ -74,7 +80,8 @@ pub fn write_all<K: Sink>(out: &mut K, bytes: &[u8]) -> bool
 
 /// Writes the lines of the datagrams that the last step sent, which is one of this worker.
 fn send<K: Sink>(machine: &Machine, worker: u8, out: &mut K) -> Option<Stop>
-    ensures written { Writes (K.holds out.old) (K.holds out.new) (lines_sent worker machine.now.sent) result }
+    ensures written { Writes (K.holds out.old) (K.holds out.new)
+        (lines_sent worker machine.now.sent) result }
     ensures cause { CountsUnwritten (K.faults out.old) (K.faults out.new) result }
 {
     let Ok(text) = machine.sent_text(worker) else {
@@ -102,8 +109,10 @@ impl Session {
     /// Does a line that is whole.
     fn do_line<K: Sink>(&mut self, alloc: Global, line: &[u8], out: &mut K) -> Option<Stop>
         requires { IsMachine self.old.machine }
-        ensures done { (workers : ℕ) (rows : List Row) → IsMachineAt workers rows self.old.machine
-            → DoesLine workers rows self.old.line line.now self.new (K.holds out.old) (K.holds out.new) result }
+        ensures done { (workers : ℕ) (rows : List Row)
+            → IsMachineAt workers rows self.old.machine
+            → DoesLine workers rows self.old.line line.now self.new (K.holds out.old)
+            (K.holds out.new) result }
         ensures kept { self.new.pending ≡ self.old.pending }
         ensures cause { CountsUnwritten (K.faults out.old) (K.faults out.new) result }
     {
@@ -125,8 +134,10 @@ impl Session {
     fn end_line<K: Sink>(&mut self, alloc: Global, line: &[u8], out: &mut K) -> Option<Stop>
         requires stands { IsSession self.old }
         requires whole { None ≡ fields.cut 10 line.now }
-        ensures fed { (workers : ℕ) (place : Place) → IsAt workers place self.old
-            → Feeds workers place (line.now ++ 10 ∷ []) self.new (K.holds out.old) (K.holds out.new) result }
+        ensures fed { (workers : ℕ) (place : Place)
+            → IsAt workers place self.old
+            → Feeds workers place (line.now
+            ++ 10 ∷ []) self.new (K.holds out.old) (K.holds out.new) result }
         ensures cause { CountsUnwritten (K.faults out.old) (K.faults out.new) result }
     {
         if self.pending.is_empty() {
@@ -142,7 +153,8 @@ impl Session {
     /// Keeps the beginning of a line, if no line is longer.
     fn keep(&mut self, rest: &[u8]) -> Option<Stop>
         requires { None ≡ fields.cut 10 rest.now }
-        ensures fed { (workers : ℕ) (place : Place) (held : Option (List ℕ)) → IsAt workers place self.old
+        ensures fed { (workers : ℕ) (place : Place) (held : Option (List ℕ))
+            → IsAt workers place self.old
             → Feeds workers place rest.now self.new held held result }
         ensures cause { (count : ℕ) → CountsUnwritten count count result }
     {
@@ -192,7 +204,8 @@ impl Session {
     /// Writes the line that ends the output.
     fn write_end<K: Sink>(&self, out: &mut K) -> Option<Stop>
         requires { IsMachine self.now.machine }
-        ensures written { (workers : ℕ) (rows : List Row) → IsMachineAt workers rows self.now.machine
+        ensures written { (workers : ℕ) (rows : List Row)
+            → IsMachineAt workers rows self.now.machine
             → Writes (K.holds out.old) (K.holds out.new) (last_line rows) result }
         ensures cause { CountsUnwritten (K.faults out.old) (K.faults out.new) result }
     {
@@ -208,8 +221,10 @@ impl Session {
     /// The trace has ended: does the last line, and writes the line that ends the output.
     pub fn finish<K: Sink>(&mut self, alloc: Global, out: &mut K) -> Option<Stop>
         requires { IsSession self.old }
-        ensures finished { (workers : ℕ) (place : Place) → IsAt workers place self.old
-            → Finishes (journal_from workers place []) (text place.rows) (K.holds out.old) (K.holds out.new) result }
+        ensures finished { (workers : ℕ) (place : Place)
+            → IsAt workers place self.old
+            → Finishes (journal_from workers place []) (text place.rows) (K.holds out.old)
+            (K.holds out.new) result }
         ensures cause { CountsUnwritten (K.faults out.old) (K.faults out.new) result }
     {
         if let Some(stop) = self.last_line(alloc, out) {

@@ -1,5 +1,6 @@
 //! The workers of a replay: each draws Message IDs of its own, and holds one job at most.
-ghost use Rattle.std.specs.Prelude.{◌≡◌, ◌≤◌, ◌<◌, ◌^◌, ℕ, true, false, [], List, IfOk, IfSome, Some, Ok, is_some};
+ghost use Rattle.std.specs.Prelude.{◌≡◌, ◌≤◌, ◌<◌, ◌^◌, ℕ, true, false, [], List, IfOk, IfSome};
+ghost use Rattle.std.specs.Prelude.{Some, Ok, is_some};
 ghost use Rattle.journal_model.specs.declared.rows.Row.{Row};
 ghost use Rattle.journal_model.specs.declared.steps.Step.{Step};
 ghost use Rattle.journal_model.specs.declared.steps.StepKind.TheVariants as step;
@@ -48,7 +49,9 @@ impl Worker {
 
     /// Whether it holds a job: then no datagram comes to it.
     pub fn is_busy(&self) -> bool
-        ensures { (rows : List Row) (number : ℕ) → IsWorkerAt rows number self.now → result ≡ is_some (job_of number rows) }
+        ensures { (rows : List Row) (number : ℕ)
+            → IsWorkerAt rows number self.now
+            → result ≡ is_some (job_of number rows) }
     {
         self.job.is_some()
     }
@@ -67,8 +70,13 @@ impl Worker {
         requires after_at { desk.now.tables.version.at ≤ now.0 }
         requires after_sweep { desk.now.tables.version.swept ≤ now.0 }
         requires empty { out.old ≡ [] }
-        ensures { IfOk result (λ _. (rows : List Row) (s : Step) → s.kind ≡ step.Look → s.peer ≡ peer → s.datagram ≡ datagram.now → s.word ≡ 0
-            → MayStep rows s now desk.now.tables self.old → Steps rows s desk.now.tables self.new out.new) }
+        ensures { IfOk result (λ _. (rows : List Row) (s : Step)
+            → s.kind ≡ step.Look
+            → s.peer ≡ peer
+            → s.datagram ≡ datagram.now
+            → s.word ≡ 0
+            → MayStep rows s now desk.now.tables self.old
+            → Steps rows s desk.now.tables self.new out.new) }
     {
         match look(
             alloc,
@@ -100,8 +108,13 @@ impl Worker {
         requires moment { now.0 ≤ 10 ^ 15 }
         requires other { is_look_datagram datagram.now ≡ false }
         requires empty { out.old ≡ [] }
-        ensures { IfOk result (λ _. (rows : List Row) (s : Step) → s.kind ≡ step.Admit → s.peer ≡ peer → s.datagram ≡ datagram.now → s.word ≡ 0
-            → MayStep rows s now desk.old.tables self.old → Steps rows s desk.new.tables self.new out.new) }
+        ensures { IfOk result (λ _. (rows : List Row) (s : Step)
+            → s.kind ≡ step.Admit
+            → s.peer ≡ peer
+            → s.datagram ≡ datagram.now
+            → s.word ≡ 0
+            → MayStep rows s now desk.old.tables self.old
+            → Steps rows s desk.new.tables self.new out.new) }
     {
         match desk.admit(now, 0, &mut self.mids, peer, datagram, out) {
             Admitted::Done => Ok(()),
@@ -127,8 +140,13 @@ impl Worker {
         requires after_at { desk.old.tables.version.at ≤ now.0 }
         requires after_sweep { desk.old.tables.version.swept ≤ now.0 }
         requires empty { out.old ≡ [] }
-        ensures { IfOk result (λ _. (rows : List Row) (s : Step) → s.kind ≡ hearing datagram.now → s.peer ≡ peer → s.datagram ≡ datagram.now → s.word ≡ 0
-            → MayStep rows s now desk.old.tables self.old → Steps rows s desk.new.tables self.new out.new) }
+        ensures { IfOk result (λ _. (rows : List Row) (s : Step)
+            → s.kind ≡ hearing datagram.now
+            → s.peer ≡ peer
+            → s.datagram ≡ datagram.now
+            → s.word ≡ 0
+            → MayStep rows s now desk.old.tables self.old
+            → Steps rows s desk.new.tables self.new out.new) }
     {
         if is_look(datagram) {
             return self.look(alloc, &*desk, now, peer, datagram, out);
@@ -136,7 +154,8 @@ impl Worker {
         self.admit(desk, now, peer, datagram, out)
     }
 
-    /// It does the job that it holds; where it holds none, nothing happens. `Starved`: out of memory.
+    /// It does the job that it holds; where it holds none, nothing happens. `Starved`: out of
+    /// memory.
     pub fn go(
         &mut self,
         desk: &mut Desk<NoBoard>,
@@ -145,8 +164,12 @@ impl Worker {
     ) -> Result<(), Starved>
         requires moment { now.0 ≤ 10 ^ 15 }
         requires empty { out.old ≡ [] }
-        ensures { IfOk result (λ _. (rows : List Row) (s : Step) → job_of s.worker rows ≡ Some (record { kind = s.kind; peer = s.peer; datagram = s.datagram }) → s.word ≡ 0
-            → MayStep rows s now desk.old.tables self.old → Steps rows s desk.new.tables self.new out.new) }
+        ensures { IfOk result (λ _. (rows : List Row) (s : Step)
+            → job_of s.worker rows
+            ≡ Some (record { kind = s.kind; peer = s.peer; datagram = s.datagram })
+            → s.word ≡ 0
+            → MayStep rows s now desk.old.tables self.old
+            → Steps rows s desk.new.tables self.new out.new) }
     {
         match mem::replace(&mut self.job, None) {
             Some(Job::Write(job)) => unstarved(desk.commit(now, &mut self.mids, job, out)),
@@ -165,8 +188,11 @@ impl Worker {
     ) -> Result<(), Starved>
         requires moment { now.0 ≤ 10 ^ 15 }
         requires empty { out.old ≡ [] }
-        ensures { IfOk result (λ _. (rows : List Row) (s : Step) → s.kind ≡ step.Tick → s.word ≡ word
-            → MayStep rows s now desk.old.tables self.old → Steps rows s desk.new.tables self.new out.new) }
+        ensures { IfOk result (λ _. (rows : List Row) (s : Step)
+            → s.kind ≡ step.Tick
+            → s.word ≡ word
+            → MayStep rows s now desk.old.tables self.old
+            → Steps rows s desk.new.tables self.new out.new) }
     {
         unstarved(desk.tick(now, word, &mut self.mids, out))
     }

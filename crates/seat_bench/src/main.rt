@@ -1,5 +1,5 @@
-//! `seat_bench`: what seats cost beside the calls of the desk that they make. It measures, and never
-//! fails.
+//! `seat_bench`: what seats cost beside the calls of the desk that they make. It measures, and
+//! never fails.
 //!
 //! Times go to standard error, nanoseconds for each call, the least of several rounds; standard
 //! output has how many calls were made, which is the same in each run.

@@ -9,8 +9,8 @@ use rd_desk::is_look;
 /// How many calls a round makes.
 pub const CALLS: u64 = 20_000;
 
-/// How many lookups each seat makes in a round: so many that the system has spread the threads of the
-/// seats over its processors long before the round is over.
+/// How many lookups each seat makes in a round: so many that the system has spread the threads of
+/// the seats over its processors long before the round is over.
 pub const LOOKUPS: u64 = 200_000;
 
 /// Who asks.

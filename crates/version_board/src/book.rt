@@ -1,4 +1,5 @@
-//! The book of a board: the list of the entries that were published, which only grows. It exists in contracts alone; of it the code has one word, the number of its entries.
+//! The book of a board: the list of the entries that were published, which only grows. It exists in
+//! contracts alone; of it the code has one word, the number of its entries.
 ghost use Rattle.std.specs.Prelude.{◌≡◌, ◌≢◌, ◌+◌, ◌∷◌, ◌++◌, [], true, false, length};
 ghost use Rattle.version_board.specs.Books.{head_of, InOrder};
 
@@ -81,7 +82,8 @@ pub(crate) fn compare(one: &Front, other: &Front)
     both.learn(other);
 }
 
-/// Enters the entry after those of the front, if the book has no others. Whether it did; if not, the front has the others too. The front has `old` entries.
+/// Enters the entry after those of the front, if the book has no others. Whether it did; if not,
+/// the front has the others too. The front has `old` entries.
 fn try_enter<E: Entering>(head: &Head, front: &mut Front, old: u64, new: u64) -> bool
     requires head { head.now ≡ head_of front.old.book }
     requires old { old ≡ length front.old.log }
@@ -99,7 +101,8 @@ fn try_enter<E: Entering>(head: &Head, front: &mut Front, old: u64, new: u64) ->
     head.compare_exchange::<EnteringStep<E>, Nothing>(old, new, front, &mut offer, &mut pen) == old
 }
 
-/// Enters the entry after those of the front, of which there are `old`. Who enters is alone, so it takes one step.
+/// Enters the entry after those of the front, of which there are `old`. Who enters is alone, so it
+/// takes one step.
 pub(crate) fn enter<E: Entering, R: Wait>(
     rt: &R,
     head: &Head,

@@ -13,5 +13,11 @@ pub trait Entering {
 }
 
 impl Entering for Brand {
-    ghost entered = { record { moment = record { 0 = 0 }; worker = 0; peer = record { host = V4 []; port = 0 }; change = Remove 0 } };
+    ghost entered = { record {
+      moment = record { 0 = 0 };
+      worker = 0;
+      peer = record
+          { host = V4 []; port = 0 };
+      change = Remove 0;
+    } };
 }

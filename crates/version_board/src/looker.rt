@@ -1,5 +1,6 @@
 //! A looker: it reads what is shown, and waits for nobody.
-ghost use Rattle.std.specs.Prelude.{◌≡◌, ◌≢◌, ◌⊎◌, ◌≤◌, List, [], true, None, is_some, IfOk, IfErr, IfSome, IfNone};
+ghost use Rattle.std.specs.Prelude.{◌≡◌, ◌≢◌, ◌⊎◌, ◌≤◌, List, [], true, None, is_some, IfOk};
+ghost use Rattle.std.specs.Prelude.{IfErr, IfSome, IfNone};
 ghost use Rattle.std.specs.Arc.{arc_value};
 ghost use mathlib.Core.List.{IsPrefix};
 ghost use Rattle.left_right.specs.Sides.{view};
@@ -18,7 +19,8 @@ use std::marker::Model;
 use std::mem;
 use std::sync::Arc;
 
-/// Who reads what is published. Contracts see the name of its board, and the entries that it has seen.
+/// Who reads what is published. Contracts see the name of its board, and the entries that it has
+/// seen.
 #[derive(Drop)]
 pub struct Looker {
     /// It is there between any two calls.
@@ -160,7 +162,9 @@ impl Looker {
 
     /// The looker has seen, from then on, all that the publisher has published.
     ///
-    /// Each beginning of what the looker had seen is also the beginning of what is published, or has all of that as its beginning: so no version that the looker gave before has an entry where the published one has another.
+    /// Each beginning of what the looker had seen is also the beginning of what is published, or
+    /// has all of that as its beginning: so no version that the looker gave before has an entry
+    /// where the published one has another.
     pub fn meet(&mut self, publisher: &mut Publisher)
         requires name { self.old.name ≡ publisher.old.name }
         ensures publisher { publisher.new ≡ publisher.old }
@@ -168,7 +172,9 @@ impl Looker {
         ensures seen { IsPrefix self.old.seen self.new.seen }
         ensures met { IsPrefix publisher.old.told self.new.seen }
         ensures only { (self.new.seen ≡ self.old.seen) ⊎ (self.new.seen ≡ publisher.old.told) }
-        ensures order { (entries : List Entry) → IsPrefix entries self.old.seen → InOrder entries publisher.old.told }
+        ensures order { (entries : List Entry)
+            → IsPrefix entries self.old.seen
+            → InOrder entries publisher.old.told }
     {
         let (told, entries) = publisher.front();
         compare(&self.front, told);

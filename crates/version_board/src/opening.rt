@@ -1,5 +1,6 @@
 //! A board is opened: its publisher and its lookers.
-ghost use Rattle.std.specs.Prelude.{◌≡◌, ◌≤◌, ◌∷◌, [], ℕ, None, Some, IfOk, true, length, replicate, drop};
+ghost use Rattle.std.specs.Prelude.{◌≡◌, ◌≤◌, ◌∷◌, [], ℕ, None, Some, IfOk, true, length};
+ghost use Rattle.std.specs.Prelude.{replicate, drop};
 ghost use Rattle.std.specs.Arc.{arc_value};
 ghost use Rattle.std.specs.Vec.{vec_capacity};
 ghost use Rattle.left_right.specs.Sides.{view};
@@ -30,8 +31,10 @@ fn lookers_of(
     requires none { front.now.log ≡ [] }
     ensures view { view writer.new.desk.place ≡ view writer.old.desk.place }
     ensures shown { writer.new.desk.shown ≡ writer.old.desk.shown }
-    ensures none { drop writer.new.behind writer.new.log.items ≡ drop writer.old.behind writer.old.log.items }
-    ensures lookers { IfOk result (λ made. made.items ≡ replicate lookers (new_looker (name_of front.now.book))) }
+    ensures none { drop writer.new.behind writer.new.log.items
+        ≡ drop writer.old.behind writer.old.log.items }
+    ensures lookers { IfOk result (λ made. made.items
+        ≡ replicate lookers (new_looker (name_of front.now.book))) }
 {
     let mut made = Vec::with_capacity(alloc, lookers as usize)?;
     'lookers: for _ in 0..lookers {
@@ -43,7 +46,8 @@ fn lookers_of(
     Ok(made)
 }
 
-/// A board that shows `first`, with its publisher and so many lookers. It waits while the first version is shown under the board's name.
+/// A board that shows `first`, with its publisher and so many lookers. It waits while the first
+/// version is shown under the board's name.
 pub fn board<R: Wait>(
     alloc: Global,
     rt: &R,

@@ -35,7 +35,8 @@ pub struct Content {
 impl Published {
     /// A copy, which shares the version.
     pub(crate) fn share(&self) -> Result<Published, AllocError>
-        ensures version { IfOk result (λ copy. arc_value copy.version ≡ arc_value self.now.version) }
+        ensures version { IfOk result (λ copy. arc_value copy.version
+            ≡ arc_value self.now.version) }
         ensures front { IfOk result (λ copy. copy.front ≡ self.now.front) }
     {
         let version = Arc::try_clone(&self.version)?;

@@ -18,7 +18,8 @@ use std::marker::Model;
 use std::mem;
 use std::sync::{Arc, Wait};
 
-/// Who publishes versions. Contracts see the name of its board, the entries of what is published, the version that is, and the version that is staged.
+/// Who publishes versions. Contracts see the name of its board, the entries of what is published,
+/// the version that is, and the version that is staged.
 ///
 /// It cannot be dropped: `end` ends it.
 pub struct Publisher {
@@ -44,9 +45,23 @@ impl Model for Publisher {
 
     ghost Value = { PublisherSeen };
 
-    ghost view = { λ p. record { name = name_of p.front.book; told = p.front.log; published = option_map (λ writer. arc_value writer.desk.shown.value.version) p.writer; staged = option_map arc_value p.staged } };
+    ghost view = { λ p. record {
+      name = name_of p.front.book;
+      told = p.front.log;
+      published =
+          option_map (λ writer. arc_value writer.desk.shown.value.version) p.writer;
+      staged =
+          option_map arc_value p.staged;
+    } };
 
-    ghost invariant = { λ p. IsSome p.writer × IfSome p.writer (λ writer. (known_at writer.desk.place ≡ knowing (name_of p.front.book)) × (writer.desk.shown.value.front.book ≡ p.front.book) × (writer.desk.shown.value.front.log ≡ p.front.log) × (drop writer.behind writer.log.items ≡ [])) × (p.head ≡ head_of p.front.book) × (p.entries ≡ length p.front.log) × IfSome p.staged (λ version. (arc_value version).swept ≤ (arc_value version).at) };
+    ghost invariant = { λ p. IsSome p.writer
+        × IfSome p.writer (λ writer. (known_at writer.desk.place ≡ knowing (name_of p.front.book))
+        × (writer.desk.shown.value.front.book ≡ p.front.book)
+        × (writer.desk.shown.value.front.log ≡ p.front.log)
+        × (drop writer.behind writer.log.items ≡ []))
+        × (p.head ≡ head_of p.front.book)
+        × (p.entries ≡ length p.front.log)
+        × IfSome p.staged (λ version. (arc_value version).swept ≤ (arc_value version).at) };
 }
 
 impl Publisher {
@@ -99,10 +114,12 @@ impl Publisher {
         &writer.published().version
     }
 
-    /// Publishes the version that is staged, which has one entry more. It waits for lookers that read the version before the last one, and cannot be refused.
+    /// Publishes the version that is staged, which has one entry more. It waits for lookers that
+    /// read the version before the last one, and cannot be refused.
     pub fn publish<E: Entering, R: Wait>(&mut self, rt: &R)
         requires staged { IsSome self.old.staged }
-        requires stands { IfSome self.old.staged (VersionStandsFor 0 (self.old.told ++ E.entered ∷ [])) }
+        requires stands { IfSome self.old.staged (VersionStandsFor 0 (self.old.told
+            ++ E.entered ∷ [])) }
         ensures name { self.new.name ≡ self.old.name }
         ensures told { self.new.told ≡ self.old.told ++ E.entered ∷ [] }
         ensures published { self.new.published ≡ self.old.staged }
@@ -125,7 +142,8 @@ impl Publisher {
         let None = out else { unreachable!() };
     }
 
-    /// Ends the board. It waits for lookers that are reading; a look that comes later finds nothing, and answers Starved.
+    /// Ends the board. It waits for lookers that are reading; a look that comes later finds
+    /// nothing, and answers Starved.
     pub fn end<R: Wait>(self, rt: &R) {
         let Publisher {
             writer: held,

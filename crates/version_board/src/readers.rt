@@ -47,7 +47,8 @@ pub(crate) type BoardReading = Reading<Published, Known, BoardRule>;
 /// Takes what is shown. The reader comes back where the board has ended.
 pub(crate) fn take(reader: BoardReader) -> Result<BoardReading, BoardReader>
     requires known { (view reader.place).known ≡ true }
-    ensures taken { IfOk result (λ reading. (view reading.place ≡ view reader.place) × (view reader.place ≡ knowing (name_of reading.part.value.front.book))) }
+    ensures taken { IfOk result (λ reading. (view reading.place ≡ view reader.place)
+        × (view reader.place ≡ knowing (name_of reading.part.value.front.book))) }
     ensures back { IfErr result (λ back. view back.place ≡ view reader.place) }
 {
     reader.enter_as::<TakeShown>()

@@ -55,9 +55,12 @@ impl Join<Known> for LearnName {
 /// The writer of what is shown.
 pub(crate) type BoardWriter = Writer<Published, Published, Known, BoardRule>;
 
-/// Shows the one version that is pending, for the first time under a name. It waits for as long as it cannot.
+/// Shows the one version that is pending, for the first time under a name. It waits for as long as
+/// it cannot.
 fn show_first<R: Wait>(rt: &R, mut writer: BoardWriter) -> BoardWriter
-    requires pending { (next : APublished) × (drop writer.behind writer.log.items ≡ next ∷ []) × (content_of next ≡ content_of writer.desk.shown.value) }
+    requires pending { (next : APublished)
+        × (drop writer.behind writer.log.items ≡ next ∷ [])
+        × (content_of next ≡ content_of writer.desk.shown.value) }
     ensures view { view result.desk.place ≡ knowing (name_of writer.desk.shown.value.front.book) }
     ensures shown { content_of result.desk.shown.value ≡ content_of writer.desk.shown.value }
     ensures none { drop result.behind result.log.items ≡ [] }
@@ -80,7 +83,8 @@ pub(crate) fn open_writer<R: Wait>(
     readers: u32,
 ) -> Result<BoardWriter, Starved>
     requires readers { (1 ≤ readers) × (readers ≤ 16) }
-    ensures view { IfOk result (λ writer. view writer.desk.place ≡ knowing (name_of first.front.book)) }
+    ensures view { IfOk result (λ writer. view writer.desk.place
+        ≡ knowing (name_of first.front.book)) }
     ensures shown { IfOk result (λ writer. content_of writer.desk.shown.value ≡ content_of first) }
     ensures none { IfOk result (λ writer. drop writer.behind writer.log.items ≡ []) }
 {
@@ -113,9 +117,13 @@ fn append<R: Wait>(rt: &R, writer: &mut BoardWriter, next: Published)
 /// Shows the one version that is pending. It waits for as long as it cannot.
 fn show_pending<R: Wait>(rt: &R, mut writer: BoardWriter) -> BoardWriter
     requires name { view writer.desk.place ≡ knowing (name_of writer.desk.shown.value.front.book) }
-    requires pending { (next : APublished) × (drop writer.behind writer.log.items ≡ next ∷ []) × (name_of next.front.book ≡ name_of writer.desk.shown.value.front.book) }
+    requires pending { (next : APublished)
+        × (drop writer.behind writer.log.items ≡ next ∷ [])
+        × (name_of next.front.book ≡ name_of writer.desk.shown.value.front.book) }
     ensures view { view result.desk.place ≡ view writer.desk.place }
-    ensures shown { (next : APublished) → drop writer.behind writer.log.items ≡ next ∷ [] → content_of result.desk.shown.value ≡ content_of next }
+    ensures shown { (next : APublished)
+        → drop writer.behind writer.log.items ≡ next ∷ []
+        → content_of result.desk.shown.value ≡ content_of next }
     ensures none { drop result.behind result.log.items ≡ [] }
 {
     'tries: for _ in rt.forever() {
@@ -128,7 +136,8 @@ fn show_pending<R: Wait>(rt: &R, mut writer: BoardWriter) -> BoardWriter
     unreachable!()
 }
 
-/// Shows what comes next, of the same board. It waits for readers of what was shown before the last one, and for memory.
+/// Shows what comes next, of the same board. It waits for readers of what was shown before the last
+/// one, and for memory.
 pub(crate) fn show<R: Wait>(rt: &R, mut writer: BoardWriter, next: Published) -> BoardWriter
     requires name { view writer.desk.place ≡ knowing (name_of writer.desk.shown.value.front.book) }
     requires same { name_of next.front.book ≡ name_of writer.desk.shown.value.front.book }
@@ -147,7 +156,8 @@ pub(crate) fn reader(writer: &mut BoardWriter) -> Option<BoardReader>
     ensures reader { IfSome result (λ reader. view reader.place ≡ view writer.old.desk.place) }
     ensures view { view writer.new.desk.place ≡ view writer.old.desk.place }
     ensures shown { writer.new.desk.shown ≡ writer.old.desk.shown }
-    ensures none { drop writer.new.behind writer.new.log.items ≡ drop writer.old.behind writer.old.log.items }
+    ensures none { drop writer.new.behind writer.new.log.items
+        ≡ drop writer.old.behind writer.old.log.items }
 {
     let mut reader = writer.factory().reader().ok()?;
     let note = writer.tell::<TellReader>();

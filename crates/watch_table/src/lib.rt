@@ -1,4 +1,5 @@
-//! Watched queries: which of them a change touched, and the body that was last formed for each (RFC 7641 section 1.3).
+//! Watched queries: which of them a change touched, and the body that was last formed for each (RFC
+//! 7641 section 1.3).
 #![tactic(auto)]
 
 mod faults;

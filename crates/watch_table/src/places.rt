@@ -1,11 +1,15 @@
-//! Watched queries by their places: one watcher more, one fewer, and a place for a query that is not watched yet.
-ghost use Rattle.std.specs.Prelude.{◌≡◌, ◌≢◌, ℕ, ◌+◌, ◌≤◌, ◌<◌, ◌-◌, ◌^◌, nat_le, List, Some, None, false, IsSome, IsOk, ◌∷◌, [], ◌++◌};
+//! Watched queries by their places: one watcher more, one fewer, and a place for a query that is
+//! not watched yet.
+ghost use Rattle.std.specs.Prelude.{◌≡◌, ◌≢◌, ℕ, ◌+◌, ◌≤◌, ◌<◌, ◌-◌, ◌^◌, nat_le, List, Some};
+ghost use Rattle.std.specs.Prelude.{None, false, IsSome, IsOk, ◌∷◌, [], ◌++◌};
 ghost use Rattle.std.specs.List.{list_any};
 ghost use Rattle.std.specs.Arc.{arc_value};
 ghost use Rattle.std.specs.Option.{option_copied};
 ghost use Rattle.rd_base.specs.declared.queries.Query.{Query as Sought};
 ghost use Rattle.indexmap.specs.IndexMap.{index_map_len, spare, values};
-ghost use Rattle.watch_table.specs.WatchedQueries.{watched_at, place_of, watched_first, one_more, one_fewer, without, touched, unmarked, with_body};
+ghost use Rattle.watch_table.specs.WatchedQueries.{watched_at, place_of, watched_first, one_more};
+ghost use Rattle.watch_table.specs.WatchedQueries.{one_fewer, without, touched, unmarked};
+ghost use Rattle.watch_table.specs.WatchedQueries.{with_body};
 ghost use Rattle.watch_table.specs.Places.{has_last, CanCount, IsFree, changed_at};
 ghost use Rattle.watch_table.specs.Outcomes.{Watches};
 
@@ -80,7 +84,8 @@ fn leave_before(watches: &mut IndexMap<u32, Watch>, instead_of: Option<u32>)
 fn join(watches: &mut IndexMap<u32, Watch>, place: u32)
     requires counts { CanCount watches.old.entries }
     requires watched { IsSome (watched_at place watches.old.entries) }
-    ensures joined { (query : Sought) → watches.new.entries ≡ one_more place query watches.old.entries }
+    ensures joined { (query : Sought)
+        → watches.new.entries ≡ one_more place query watches.old.entries }
     ensures len { index_map_len watches.new ≡ index_map_len watches.old }
 {
     if let Some(watch) = watches.get_mut(&place) {
@@ -88,7 +93,8 @@ fn join(watches: &mut IndexMap<u32, Watch>, place: u32)
     }
 }
 
-/// Marks what the entry with an index watches where a change of a registration changed its lines, and then drops its body.
+/// Marks what the entry with an index watches where a change of a registration changed its lines,
+/// and then drops its body.
 pub(crate) fn touch_at(
     watches: &mut IndexMap<u32, Watch>,
     index: usize,
@@ -96,7 +102,9 @@ pub(crate) fn touch_at(
     new: Option<&Record>,
 )
     ensures len { index_map_len watches.new ≡ index_map_len watches.old }
-    ensures touched { watches.new.entries ≡ changed_at (touched (option_copied old.entry) (option_copied new.entry)) index watches.old.entries }
+    ensures touched { watches.new.entries
+        ≡ changed_at (touched (option_copied old.entry) (option_copied new.entry)) index
+        watches.old.entries }
 {
     if let Some(watch) = watches.get_index_mut(index) {
         watch.touch(old, new);
@@ -141,7 +149,8 @@ fn begin(watches: &mut IndexMap<u32, Watch>, query: Query) -> u32
     requires few { index_map_len watches.old ≤ 256 }
     requires room { 0 < spare watches.old }
     ensures place { IsFree result watches.old.entries }
-    ensures begun { watches.new.entries ≡ watches.old.entries ++ (result, watched_first query) ∷ [] }
+    ensures begun { watches.new.entries
+        ≡ watches.old.entries ++ (result, watched_first query) ∷ [] }
 {
     let place = free_place(watches);
     match watches.insert(place, Watch::first(query)) {
@@ -160,7 +169,8 @@ fn watch_given(
     requires counts { CanCount watches.old.entries }
     requires few { index_map_len watches.old ≤ 256 }
     requires room { 0 < spare watches.old }
-    ensures outcome { Watches query.now watches.old.entries watches.old.entries result watches.new.entries }
+    ensures outcome { Watches query.now watches.old.entries watches.old.entries result
+        watches.new.entries }
     ensures given { result ≢ Err WatchFault.Starved }
     ensures few { index_map_len watches.new ≤ 256 }
 {
@@ -174,7 +184,8 @@ fn watch_given(
     Ok(begin(watches, given))
 }
 
-/// One watcher more of a query, after one fewer at the place that its observer had before. Memory is taken before anything changes.
+/// One watcher more of a query, after one fewer at the place that its observer had before. Memory
+/// is taken before anything changes.
 pub(crate) fn watch_instead(
     watches: &mut IndexMap<u32, Watch>,
     alloc: Global,
@@ -182,7 +193,8 @@ pub(crate) fn watch_instead(
     query: &Query,
 ) -> Result<u32, WatchFault>
     requires { index_map_len watches.old ≤ 256 }
-    ensures outcome { Watches query.now watches.old.entries (without instead_of watches.old.entries) result watches.new.entries }
+    ensures outcome { Watches query.now watches.old.entries (without instead_of watches.old.entries)
+        result watches.new.entries }
     ensures few { index_map_len watches.new ≤ 256 }
 {
     let given = query.copy(alloc)?;

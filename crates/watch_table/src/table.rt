@@ -1,9 +1,13 @@
 //! The table of watched queries.
-ghost use Rattle.std.specs.Prelude.{◌≡◌, ◌≢◌, ℕ, [], ◌∷◌, ◌++◌, List, Some, IsSome, IfOk, OnOk, option_map};
+ghost use Rattle.std.specs.Prelude.{◌≡◌, ◌≢◌, ℕ, [], ◌∷◌, ◌++◌, List, Some, IsSome, IfOk, OnOk};
+ghost use Rattle.std.specs.Prelude.{option_map};
 ghost use Rattle.std.specs.Option.{option_copied};
 ghost use Rattle.std.specs.Arc.{arc_value};
 ghost use Rattle.event_model.specs.declared.notes.Observer.{Observer};
-ghost use Rattle.watch_table.specs.WatchedQueries.{watched_at, query_at, is_marked_at, body_at, one_more, one_fewer, without, IsPlaceFor, IsFullFor, all_touched, all_unmarked, with_body};
+ghost use Rattle.watch_table.specs.WatchedQueries.{watched_at, query_at, is_marked_at, body_at};
+ghost use Rattle.watch_table.specs.WatchedQueries.{one_more, one_fewer, without, IsPlaceFor};
+ghost use Rattle.watch_table.specs.WatchedQueries.{IsFullFor, all_touched, all_unmarked};
+ghost use Rattle.watch_table.specs.WatchedQueries.{with_body};
 ghost use Rattle.watch_table.specs.Watchers.{WatchesStandFor, IsFullAmong};
 
 use crate::WatchFault;
@@ -15,7 +19,8 @@ use std::alloc::Global;
 use std::marker::Model;
 use std::sync::Arc;
 
-/// The queries that observers watch (RFC 7641 section 1.3), each at a place of its own as long as it is watched.
+/// The queries that observers watch (RFC 7641 section 1.3), each at a place of its own as long as
+/// it is watched.
 #[derive(Drop)]
 pub struct WatchTable {
     /// The watched queries by their places.
@@ -35,7 +40,8 @@ impl Model for WatchTable {
 }
 
 impl WatchTable {
-    /// No query is watched, with room for as many as are watched at most, 256. `Starved` where memory ran out, and then nothing is kept.
+    /// No query is watched, with room for as many as are watched at most, 256. `Starved` where
+    /// memory ran out, and then nothing is kept.
     pub fn make(alloc: Global) -> Result<WatchTable, Starved>
         ensures empty { IfOk result (λ t. t ≡ []) }
         ensures stands { IfOk result (λ t. WatchesStandFor [] t) }
@@ -44,39 +50,64 @@ impl WatchTable {
         Ok(WatchTable { watches })
     }
 
-    /// One watcher more of a query, whose place is answered. Where `instead_of` names a place, that place first has one watcher fewer, as by `unwatch`.
-    /// `FullWatches`: 256 other queries are watched after that, and it stays so. `Starved`: out of memory, and nothing changed.
+    /// One watcher more of a query, whose place is answered. Where `instead_of` names a place, that
+    /// place first has one watcher fewer, as by `unwatch`. `FullWatches`: 256 other queries are
+    /// watched after that, and it stays so. `Starved`: out of memory, and nothing changed.
     pub fn watch(
         &mut self,
         alloc: Global,
         instead_of: Option<u32>,
         query: &Query,
     ) -> Result<u32, WatchFault>
-        ensures place { IfOk result (λ place. IsPlaceFor query.now place (without instead_of self.old)) }
-        ensures watched { IfOk result (λ place. self.new ≡ one_more place query.now (without instead_of self.old)) }
-        ensures stands { (standing : List Observer) (o : Observer) → o.query ≡ query.now → WatchesStandFor standing (without instead_of self.old) → OnOk result (WatchesStandFor (standing ++ o ∷ []) self.new) }
-        ensures refused { result ≡ Err WatchFault.FullWatches → IsFullFor query.now (without instead_of self.old) }
-        ensures accepted { IsFullFor query.now (without instead_of self.old) → (place : ℕ) → result ≢ Ok place }
-        ensures refused_among { (standing : List Observer) → WatchesStandFor standing (without instead_of self.old) → result ≡ Err WatchFault.FullWatches → IsFullAmong query.now standing }
-        ensures accepted_among { (standing : List Observer) → WatchesStandFor standing (without instead_of self.old) → IsFullAmong query.now standing → (place : ℕ) → result ≢ Ok place }
-        ensures left { result ≡ Err WatchFault.FullWatches → self.new ≡ without instead_of self.old }
+        ensures place { IfOk result (λ place. IsPlaceFor query.now place
+            (without instead_of self.old)) }
+        ensures watched { IfOk result (λ place. self.new
+            ≡ one_more place query.now (without instead_of self.old)) }
+        ensures stands { (standing : List Observer) (o : Observer)
+            → o.query ≡ query.now
+            → WatchesStandFor standing (without instead_of self.old)
+            → OnOk result (WatchesStandFor (standing ++ o ∷ []) self.new) }
+        ensures refused { result ≡ Err WatchFault.FullWatches
+            → IsFullFor query.now (without instead_of self.old) }
+        ensures accepted { IsFullFor query.now (without instead_of self.old)
+            → (place : ℕ)
+            → result ≢ Ok place }
+        ensures refused_among { (standing : List Observer)
+            → WatchesStandFor standing (without instead_of self.old)
+            → result ≡ Err WatchFault.FullWatches
+            → IsFullAmong query.now standing }
+        ensures accepted_among { (standing : List Observer)
+            → WatchesStandFor standing (without instead_of self.old)
+            → IsFullAmong query.now standing
+            → (place : ℕ)
+            → result ≢ Ok place }
+        ensures left { result ≡ Err WatchFault.FullWatches
+            → self.new ≡ without instead_of self.old }
         ensures starved { result ≡ Err WatchFault.Starved → self.new ≡ self.old }
     {
         watch_instead(&mut self.watches, alloc, instead_of, query)
     }
 
-    /// One watcher fewer of the query at a place; it is dropped with its last. The places of the others stay.
+    /// One watcher fewer of the query at a place; it is dropped with its last. The places of the
+    /// others stay.
     pub fn unwatch(&mut self, place: u32)
         ensures left { self.new ≡ one_fewer place self.old }
-        ensures stands { (front back : List Observer) (o : Observer) → query_at place self.old ≡ Some o.query → WatchesStandFor (front ++ o ∷ back) self.old → WatchesStandFor (front ++ back) self.new }
+        ensures stands { (front back : List Observer) (o : Observer)
+            → query_at place self.old ≡ Some o.query
+            → WatchesStandFor (front ++ o ∷ back) self.old
+            → WatchesStandFor (front ++ back) self.new }
     {
         leave(&mut self.watches, place);
     }
 
-    /// Marks exactly the queries to which the old and the new state of a registration give other lines, and drops their bodies. Takes no memory.
+    /// Marks exactly the queries to which the old and the new state of a registration give other
+    /// lines, and drops their bodies. Takes no memory.
     pub fn touched(&mut self, old: Option<&Record>, new: Option<&Record>)
-        ensures touched { self.new ≡ all_touched (option_copied old.entry) (option_copied new.entry) self.old }
-        ensures stands { (standing : List Observer) → WatchesStandFor standing self.old → WatchesStandFor standing self.new }
+        ensures touched { self.new
+            ≡ all_touched (option_copied old.entry) (option_copied new.entry) self.old }
+        ensures stands { (standing : List Observer)
+            → WatchesStandFor standing self.old
+            → WatchesStandFor standing self.new }
     {
         'watches: for index in 0..self.watches.len() {
             touch_at(&mut self.watches, index, old, new);
@@ -107,14 +138,17 @@ impl WatchTable {
     /// Takes all marks off.
     pub fn clear(&mut self)
         ensures cleared { self.new ≡ all_unmarked self.old }
-        ensures stands { (standing : List Observer) → WatchesStandFor standing self.old → WatchesStandFor standing self.new }
+        ensures stands { (standing : List Observer)
+            → WatchesStandFor standing self.old
+            → WatchesStandFor standing self.new }
     {
         'watches: for index in 0..self.watches.len() {
             unmark_at(&mut self.watches, index);
         }
     }
 
-    /// The body that was last set for the query at a place: none where none was set after it gained its first watcher and after it was last touched.
+    /// The body that was last set for the query at a place: none where none was set after it gained
+    /// its first watcher and after it was last touched.
     pub fn body(&self, place: u32) -> Option<&Arc<Bytes>>
         ensures { option_map (λ body. arc_value body.now) result ≡ body_at place self.now }
     {
@@ -127,7 +161,9 @@ impl WatchTable {
     /// Sets the body that was formed for the query at a place.
     pub fn set_body(&mut self, place: u32, body: Arc<Bytes>)
         ensures set { self.new ≡ with_body place (arc_value body) self.old }
-        ensures stands { (standing : List Observer) → WatchesStandFor standing self.old → WatchesStandFor standing self.new }
+        ensures stands { (standing : List Observer)
+            → WatchesStandFor standing self.old
+            → WatchesStandFor standing self.new }
     {
         set_body(&mut self.watches, place, body);
     }

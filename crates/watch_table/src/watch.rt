@@ -32,7 +32,13 @@ impl Model for Watch {
 
     ghost Value = { Watched };
 
-    ghost view = { λ w. record { query = w.query; watchers = w.watchers; marked = w.marked; body = option_map arc_value w.body } };
+    ghost view = { λ w. record {
+      query = w.query;
+      watchers = w.watchers;
+      marked = w.marked;
+      body =
+          option_map arc_value w.body;
+    } };
 }
 
 impl Watch {
@@ -78,7 +84,8 @@ impl Watch {
 
     /// One watcher more.
     pub(crate) fn count_up(&mut self)
-        ensures { self.old.watchers < 2 ^ 64 - 1 → self.new ≡ record self.old { watchers = self.old.watchers + 1 } }
+        ensures { self.old.watchers < 2 ^ 64 - 1
+            → self.new ≡ record self.old { watchers = self.old.watchers + 1 } }
     {
         self.watchers = self.watchers.saturating_add(1);
     }

@@ -124,10 +124,10 @@ updated_of : (history : List Entry) (entry : Entry) (number : ℕ) (given : Upda
     → numbered number (replay history).records ≡ Some old → numbered number (replay (history ++ entry ∷ [])).records ≡ Some new → updated entry.moment entry.peer given old ≡ new
 updated_of history entry number given old new is before after =
     let both : Some (updated entry.moment entry.peer given old) ≡ Some new =
-        ap (option_map (updated entry.moment entry.peer given)) (sym before)
-        ∙ (sym (changed-numbered number (updated entry.moment entry.peer given) (updated-number entry.moment entry.peer given) (replay history).records)
-        ∙ (ap (numbered number) (sym (applied-update (replay history) entry number given is))
-        ∙ (ap (λ (s : State). numbered number s.records) (sym (replay_push history entry)) ∙ after))) in
+    ap (option_map (updated entry.moment entry.peer given)) (sym before)
+    ∙ (sym (changed-numbered number (updated entry.moment entry.peer given) (updated-number entry.moment entry.peer given) (replay history).records)
+    ∙ (ap (numbered number) (sym (applied-update (replay history) entry number given is))
+    ∙ (ap (λ (s : State). numbered number s.records) (sym (replay_push history entry)) ∙ after))) in
     cc
 
 -- ---- what lookups show of it
@@ -150,11 +150,11 @@ same-part : (query : Query) (old new : Record) → old.number ≡ new.number →
 unfolding leased_as
 same-part query old new number name base attrs items =
     let same : record old { lt = new.lt; granted = new.granted; base_given = new.base_given } ≡ new =
-        ap (λ n. leased_as new n old.name old.base old.attrs old.items) number
-        ∙ (ap (λ n. leased_as new new.number n old.base old.attrs old.items) name
-        ∙ (ap (λ b. leased_as new new.number new.name b old.attrs old.items) base
-        ∙ (ap (λ ps. leased_as new new.number new.name new.base ps old.items) attrs
-        ∙ ap (λ is. leased_as new new.number new.name new.base new.attrs is) items))) in
+    ap (λ n. leased_as new n old.name old.base old.attrs old.items) number
+    ∙ (ap (λ n. leased_as new new.number n old.base old.attrs old.items) name
+    ∙ (ap (λ b. leased_as new new.number new.name b old.attrs old.items) base
+    ∙ (ap (λ ps. leased_as new new.number new.name new.base ps old.items) attrs
+    ∙ ap (λ is. leased_as new new.number new.name new.base new.attrs is) items))) in
     sym (leased-part query old new.lt new.granted new.base_given) ∙ ap (part query) same
 
 -- the links are those before it where the base is

@@ -13,7 +13,7 @@ returns-in-Ok-clause-planned c history s stands from =
     let is : IsUpdateOf c.args.now c.args.number c.args.change c.args.peer entry = record { moment = refl; source = from; change = refl } in
     c.entered.ensures.planned history c.args.version.now.swept entry (record { reply = bare codes_of.changed; notes = [] })
     (record { stands = c.in-Ok.ensures.stands 0 history entry stands is; swept = c.in-Ok.ensures.swept; accepted = c.in-Ok.ensures.accepted 0 history entry stands is; about = refl; is_of = refl })
-    c.plain.ensures
+    c.plain-reply.ensures
 
 pub returns-in-Err-clause-planned : goal.returns-in-Err-clause-planned
 returns-in-Err-clause-planned c history s stands from =
