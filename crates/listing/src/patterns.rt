@@ -1,5 +1,6 @@
 //! Patterns against values (RFC 6690 section 4.1).
-ghost use Rattle.std.specs.Prelude.{◌≡◌, ◌==◌, ◌&&◌, ◌≤◌, ℕ, List, length, not, bytes_eq};
+ghost use Rattle.std.specs.Prelude.{◌≡◌, ◌==◌, ◌&&◌, ◌≤◌, ℕ, List, None, false, length};
+ghost use Rattle.std.specs.Prelude.{bytes_eq, not};
 ghost use Rattle.link_model.specs.Characters.{is_empty};
 ghost use Rattle.std.specs.Option.{option_copied};
 ghost use Rattle.std.specs.List.{list_any};
@@ -8,10 +9,23 @@ ghost use Rattle.record_model.specs.Matching as model;
 ghost use Rattle.listing.specs.Patterns.{fits};
 ghost use Rattle.listing.specs.ValueParts.{FirstPart};
 
+/// Whether the last octet of the pattern is an asterisk.
+fn ends_with_wildcard(pattern: &str) -> bool
+    ensures { result ≡ false → model.before_wildcard pattern.now ≡ None }
+{
+    match pattern.as_bytes().split_last() {
+        Some((last, _)) => *last == b'*',
+        None => false,
+    }
+}
+
 /// What stands before an asterisk that ends the pattern, where one does (RFC 6690 section 4.1).
 pub fn before_wildcard(pattern: &str) -> Option<&str>
     ensures { option_copied result ≡ model.before_wildcard pattern.now }
 {
+    if !ends_with_wildcard(pattern) {
+        return None;
+    }
     pattern.strip_suffix('*')
 }
 
@@ -57,6 +71,7 @@ impl<'a> Pattern<'a> {
     }
 
     /// The same of any value.
+    #[inline(never)]
     fn fits_any_part(&self, value: &str) -> bool
         ensures { result ≡ list_any (fits self.now) (model.parts_of value.now) }
     {
@@ -125,7 +140,7 @@ pub fn first_part(value: &str) -> Option<(&str, &str)>
 fn has_space(value: &str) -> bool
     ensures { result ≡ list_any (λ c. c == model.space) value.now }
 {
-    value.as_bytes().contains(&b' ')
+    value.as_bytes().iter().any(|octet| *octet == b' ')
 }
 
 /// Whether the value is one part, which is not empty.

@@ -72,6 +72,7 @@ fn has_part_of(name: &str, pattern: &Pattern<'_>, pair: &PairRef<'_>) -> bool
 }
 
 /// Whether one of the attributes has this name and a value that fits the pattern.
+#[inline(never)]
 fn has_value(name: &str, pattern: &Pattern<'_>, pairs: LinkPairs<'_>) -> bool
     ensures { result ≡ has_value name.now pattern.now pairs.entry }
 {
