@@ -9,6 +9,7 @@ pub mod StepLaws
 pub mod OwnLaws
 pub mod SamePartLaws
 pub mod PartCuts
+pub mod PartSizes
 pub mod AlikeLaws
 pub mod SoughtLaws
 pub mod SieveLaws

@@ -27,6 +27,15 @@ no_asterisk (c ∷ []) none = by (c == asterisk) (eqb-true c asterisk)
     by false other = refl
 no_asterisk (c ∷ d ∷ cs) none = ap (option_map (λ (front : List ℕ). c ∷ front)) (no_asterisk (d ∷ cs) (λ front e. none (c ∷ front) (ap (λ (xs : List ℕ). c ∷ xs) e)))
 
+-- where another octet ends the pattern
+pub other_end : (pattern front : List ℕ) (c : ℕ) → pattern ≡ front ++ c ∷ [] → (c == asterisk) ≡ false → before_wildcard pattern ≡ None
+other_end pattern front c e other = ap before_wildcard e ∙ by front
+  where
+    by : (front : List ℕ) → before_wildcard (front ++ c ∷ []) ≡ None
+    by [] = ap (λ (is : Bool). cond is (Some empty) None) other
+    by (d ∷ []) = ap (option_map (λ (front : List ℕ). d ∷ front)) (by [])
+    by (d ∷ e ∷ es) = ap (option_map (λ (front : List ℕ). d ∷ front)) (by (e ∷ es))
+
 -- what stands before a wildcard, by what is left without an asterisk at the end
 pub before_end : (pattern : List ℕ) (found : Option (Bor (List ℕ))) → MatchOption found ((front : List ℕ) → pattern ≢ front ++ asterisk ∷ []) (λ front. pattern ≡ front.now ++ asterisk ∷ [])
     → option_copied found ≡ before_wildcard pattern

@@ -1,9 +1,9 @@
 -- Lines, as their pieces in a row.
-use Rattle.std.proofs.Common.{◌≡◌, ℕ, true, false, ◌==◌, ◌||◌, List, [], ◌∷◌, ◌++◌, flat_map, codes, Some, None, refl, sym, ap, ◌∙◌, append_assoc}
+use Rattle.std.proofs.Common.{◌≡◌, ℕ, true, false, List, [], ◌∷◌, ◌++◌, flat_map, codes, Some, None, refl, sym, ap, ◌∙◌, append_assoc}
 use Rattle.rd_base.specs.declared.attributes.Pair.{Pair}
 use Rattle.rd_base.specs.declared.records.Item.{Item}
 use Rattle.rd_base.specs.declared.records.Record.{Record}
-use Rattle.link_model.specs.Characters.{backslash, is_empty, quote_mark}
+use Rattle.link_model.specs.Characters.{is_empty}
 use Rattle.link_model.specs.Quoting.{escaped_character, quoted}
 use Rattle.record_model.specs.Matching.{location}
 use Rattle.record_model.specs.ListingLines.{anchor_text, bracketed, endpoint_line, extra_attribute, link_line, own_pairs, quoted_attribute}

@@ -11,15 +11,6 @@ use crate::patterns::{matches_named, matches_value};
 use crate::sought::{Sought, is_href};
 use rd_base::{Criterion, Link, Links, Pair, Query, Record};
 
-/// Whether a criterion of this name and pattern matches an attribute of that name and value.
-#[inline(always)]
-fn matches_attribute(name: &str, pattern: &str, attribute: &str, value: &str) -> bool
-    ensures { result ≡ (bytes_eq attribute.now name.now
-        && model.matches_named name.now pattern.now value.now) }
-{
-    attribute == name && matches_named(name, pattern, value)
-}
-
 /// Whether a criterion of this name and pattern matches one of the attributes.
 fn matches_pairs(name: &str, pattern: &str, pairs: &[Pair]) -> bool
     ensures { result ≡ model.matches_pairs
@@ -37,13 +28,41 @@ pub fn link_matches(criterion: &Criterion, link: &Link<'_>) -> bool
     Sought::of(criterion).is_in(link)
 }
 
+/// Whether a criterion of this name is about the base of an endpoint.
+fn is_base(name: &str) -> bool
+    ensures { result ≡ bytes_eq (codes "base") name.now }
+{
+    matches!(name.as_bytes(), [b'b', b'a', b's', b'e'])
+}
+
+/// Whether it is about the name of an endpoint.
+fn is_endpoint_name(name: &str) -> bool
+    ensures { result ≡ bytes_eq (codes "ep") name.now }
+{
+    matches!(name.as_bytes(), [b'e', b'p'])
+}
+
+/// Whether it is about the sector of an endpoint.
+fn is_sector(name: &str) -> bool
+    ensures { result ≡ bytes_eq (codes "d") name.now }
+{
+    matches!(name.as_bytes(), [b'd'])
+}
+
+/// Whether it is about resource types.
+fn is_resource_type(name: &str) -> bool
+    ensures { result ≡ bytes_eq name.now (codes "rt") }
+{
+    matches!(name.as_bytes(), [b'r', b't'])
+}
+
 /// Whether a criterion of this name and pattern matches the type that each endpoint has.
 #[tactic(auto, using(crate::proofs::EndpointLaws::is_of_type))]
 fn matches_type(name: &str, pattern: &str) -> bool
     ensures { result ≡ (bytes_eq (codes "rt") name.now
         && model.matches_named name.now pattern.now model.endpoint_type) }
 {
-    name == "rt" && matches_value(pattern, "core.rd-ep")
+    is_resource_type(name) && matches_value(pattern, "core.rd-ep")
 }
 
 /// Whether a criterion of this name and pattern matches one of the attributes that each endpoint
@@ -52,14 +71,14 @@ fn matches_own(name: &str, pattern: &str, record_of: &Record) -> bool
     ensures { result ≡ model.matches_pairs (record { name = name.now; pattern = pattern.now })
         (listing_model.own_pairs record_of.now) }
 {
-    if matches_attribute(name, pattern, "base", record_of.base.as_str()) {
+    if is_base(name) && matches_named(name, pattern, record_of.base.as_str()) {
         return true;
     }
-    if matches_attribute(name, pattern, "ep", record_of.name.ep.as_str()) {
+    if is_endpoint_name(name) && matches_named(name, pattern, record_of.name.ep.as_str()) {
         return true;
     }
     if let Some(sector) = &record_of.name.sector {
-        if matches_attribute(name, pattern, "d", sector.as_str()) {
+        if is_sector(name) && matches_named(name, pattern, sector.as_str()) {
             return true;
         }
     }

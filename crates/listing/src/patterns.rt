@@ -1,5 +1,7 @@
 //! Patterns against values (RFC 6690 section 4.1).
-ghost use Rattle.std.specs.Prelude.{◌≡◌, ◌==◌, ℕ, List};
+ghost use Rattle.std.specs.Prelude.{◌≡◌, ◌==◌, ◌&&◌, ◌≤◌, ℕ, List, None, false, length};
+ghost use Rattle.std.specs.Prelude.{bytes_eq, not};
+ghost use Rattle.link_model.specs.Characters.{is_empty};
 ghost use Rattle.std.specs.Option.{option_copied};
 ghost use Rattle.std.specs.List.{list_any};
 ghost use Rattle.record_model.specs.Options.{is_among};
@@ -7,10 +9,23 @@ ghost use Rattle.record_model.specs.Matching as model;
 ghost use Rattle.listing.specs.Patterns.{fits};
 ghost use Rattle.listing.specs.ValueParts.{FirstPart};
 
+/// Whether the last octet of the pattern is an asterisk.
+fn ends_with_wildcard(pattern: &str) -> bool
+    ensures { result ≡ false → model.before_wildcard pattern.now ≡ None }
+{
+    match pattern.as_bytes().split_last() {
+        Some((last, _)) => *last == b'*',
+        None => false,
+    }
+}
+
 /// What stands before an asterisk that ends the pattern, where one does (RFC 6690 section 4.1).
 pub fn before_wildcard(pattern: &str) -> Option<&str>
     ensures { option_copied result ≡ model.before_wildcard pattern.now }
 {
+    if !ends_with_wildcard(pattern) {
+        return None;
+    }
     pattern.strip_suffix('*')
 }
 
@@ -44,8 +59,20 @@ impl<'a> Pattern<'a> {
         }
     }
 
-    /// Whether one part of the value does, which spaces part.
+    /// Whether one part of the value does, which spaces part. A value that is no longer than the
+    /// text of a whole pattern is compared with it before spaces are looked for.
     pub(crate) fn fits_part(&self, value: &str) -> bool
+        ensures { result ≡ list_any (fits self.now) (model.parts_of value.now) }
+    {
+        match self {
+            Pattern::Whole(text) if value.len() <= text.len() => is_short_part(text, value),
+            _ => self.fits_any_part(value),
+        }
+    }
+
+    /// The same of any value.
+    #[inline(never)]
+    fn fits_any_part(&self, value: &str) -> bool
         ensures { result ≡ list_any (fits self.now) (model.parts_of value.now) }
     {
         if has_space(value) {
@@ -85,7 +112,10 @@ pub fn matches_value(pattern: &str, value: &str) -> bool
 pub fn is_list_name(name: &str) -> bool
     ensures { result ≡ is_among model.list_names name.now }
 {
-    name == "rel" || name == "rev" || name == "rt" || name == "if"
+    matches!(
+        name.as_bytes(),
+        [b'r', b'e', b'l'] | [b'r', b'e', b'v'] | [b'r', b't'] | [b'i', b'f']
+    )
 }
 
 /// The first part of a value, and what stands after it; None where the value has no part. Spaces
@@ -110,7 +140,24 @@ pub fn first_part(value: &str) -> Option<(&str, &str)>
 fn has_space(value: &str) -> bool
     ensures { result ≡ list_any (λ c. c == model.space) value.now }
 {
-    value.as_bytes().contains(&b' ')
+    value.as_bytes().iter().any(|octet| *octet == b' ')
+}
+
+/// Whether the value is one part, which is not empty.
+fn is_one_part(value: &str) -> bool
+    ensures { result ≡ (not (is_empty value.now)
+        && not (list_any (λ c. c == model.space) value.now)) }
+{
+    !value.is_empty() && !has_space(value)
+}
+
+/// Whether the text is a part of a value that is no longer.
+#[tactic(auto, using(crate::proofs::PartSizes::same_or_none))]
+fn is_short_part(text: &str, value: &str) -> bool
+    requires { length value.now ≤ length text.now }
+    ensures { result ≡ list_any (λ part. bytes_eq part text.now) (model.parts_of value.now) }
+{
+    value == text && is_one_part(value)
 }
 
 /// Whether the pattern matches a value of the name: one part of it where the name's values are

@@ -49,6 +49,7 @@ fn sift<'a>(
 
 /// Whether each criterion matches the link by itself or its endpoint by itself, where the first
 /// answers tell of the endpoint.
+#[inline(never)]
 fn link_listed_by(
     criteria: &[Criterion],
     judged: &[bool],
@@ -80,6 +81,7 @@ fn link_listed_by(
 }
 
 /// Whether each criterion matches the link by itself.
+#[inline(never)]
 fn own_link_listed(criteria: &[Criterion], link: &Link<'_>) -> bool
     ensures { result ≡ list_all (λ criterion. model.link_matches criterion link.now) criteria.now }
 {

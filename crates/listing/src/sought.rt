@@ -8,7 +8,7 @@ ghost use Rattle.listing.specs.Patterns.{fits};
 ghost use Rattle.listing.specs.SoughtLinks.{fits_present, has_part, has_value, is_found};
 
 use crate::patterns::{Pattern, is_list_name};
-use rd_base::{Criterion, Link, LinkPairs};
+use rd_base::{Criterion, Link, LinkPairs, PairRef};
 
 /// What a criterion seeks in a link.
 #[derive(Clone, Copy)]
@@ -27,14 +27,14 @@ pub(crate) enum Sought<'a> {
 pub(crate) fn is_href(name: &str) -> bool
     ensures { result ≡ bytes_eq name.now (codes "href") }
 {
-    name == "href"
+    matches!(name.as_bytes(), [b'h', b'r', b'e', b'f'])
 }
 
 /// Whether criteria of this name are about anchors.
 fn is_anchor(name: &str) -> bool
     ensures { result ≡ bytes_eq name.now (codes "anchor") }
 {
-    name == "anchor"
+    name.len() == "anchor".len() && name == "anchor"
 }
 
 /// Whether there is a text, which fits the pattern.
@@ -47,13 +47,38 @@ fn fits_present(pattern: &Pattern<'_>, text: Option<&str>) -> bool
     }
 }
 
+/// Whether the attribute has this name and a value that fits the pattern. Names that are equally
+/// long are mostly the same, so they are compared last.
+fn has_value_of(name: &str, pattern: &Pattern<'_>, pair: &PairRef<'_>) -> bool
+    ensures { result ≡ (bytes_eq pair.now.name.now name.now
+        && fits pattern.now pair.now.value.now) }
+{
+    if pair.name.len() != name.len() {
+        return false;
+    }
+    pattern.fits(pair.value) && pair.name == name
+}
+
+/// Whether the attribute has this name and a value of which a part fits the pattern. Names that
+/// are equally long are mostly the same, so they are compared last.
+fn has_part_of(name: &str, pattern: &Pattern<'_>, pair: &PairRef<'_>) -> bool
+    ensures { result ≡ (bytes_eq pair.now.name.now name.now
+        && list_any (fits pattern.now) (model.parts_of pair.now.value.now)) }
+{
+    if pair.name.len() != name.len() {
+        return false;
+    }
+    pattern.fits_part(pair.value) && pair.name == name
+}
+
 /// Whether one of the attributes has this name and a value that fits the pattern.
+#[inline(never)]
 fn has_value(name: &str, pattern: &Pattern<'_>, pairs: LinkPairs<'_>) -> bool
     ensures { result ≡ has_value name.now pattern.now pairs.entry }
 {
     let mut left = pairs;
     'pairs: while let Some(pair) = left.next() {
-        if pair.name == name && pattern.fits(pair.value) {
+        if has_value_of(name, pattern, &pair) {
             return true;
         }
     }
@@ -66,7 +91,7 @@ fn has_part(name: &str, pattern: &Pattern<'_>, pairs: LinkPairs<'_>) -> bool
 {
     let mut left = pairs;
     'pairs: while let Some(pair) = left.next() {
-        if pair.name == name && pattern.fits_part(pair.value) {
+        if has_part_of(name, pattern, &pair) {
             return true;
         }
     }

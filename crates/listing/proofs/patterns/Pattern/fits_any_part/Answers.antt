@@ -4,7 +4,7 @@ use Rattle.std.proofs.Math.Bool.{or-false}
 use Rattle.std.specs.List.{list_any}
 use Rattle.listing.specs.Patterns.{fits}
 use Rattle.listing.proofs.PartCuts.{none_found, one_part}
-use Rattle.listing.proofs.patterns.Pattern.fits_part.Goals as goal
+use Rattle.listing.proofs.patterns.Pattern.fits_any_part.Goals as goal
 
 pub returns : goal.returns
 returns c =

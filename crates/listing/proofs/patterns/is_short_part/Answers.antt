@@ -1,0 +1,8 @@
+-- Another text is no part of a value that is no longer.
+use Rattle.std.proofs.Common.{◌∙◌, sym}
+use Rattle.std.proofs.lemmas.Bool.{and_left}
+use Rattle.listing.proofs.PartSizes.{same_or_none}
+use Rattle.listing.proofs.patterns.is_short_part.Goals as goal
+
+pub returns-else-eq : goal.returns-else-eq
+returns-else-eq c = c.if-eq.false ∙ sym (and_left _ _ (sym c.eq.ensures ∙ c.if-eq.false)) ∙ same_or_none c.args.value.now c.args.text.now c.requires
