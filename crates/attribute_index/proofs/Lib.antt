@@ -6,5 +6,6 @@ pub mod CarrierLaws
 mod examples
 mod Lookups
 mod RowLaws
+mod FrontLaws
 mod NumberLaws
 mod WantedLaws

@@ -7,6 +7,7 @@ ghost use Rattle.std.specs.Ordering.{as_partial_cmp};
 ghost use Rattle.std.proofs.lemmas.Cmp.{nat_list_eq_equiv, nat_list_cmp_total, then_total, on_total, and_equiv, on_equiv};
 ghost use Rattle.attribute_index.specs.Rows.{value_cmp, is_same_value};
 
+use crate::fronts::Front;
 use chunk_map::Shared;
 use rd_base::{Pair, Starved, Text};
 use std::alloc::Global;
@@ -18,6 +19,8 @@ use std::sync::Arc;
 /// texts. What is shared of one shares the texts. Contracts see it as the name and the value.
 #[derive(Drop)]
 pub struct Value {
+    /// What orders it among most values without a look at its texts.
+    front: Front,
     /// The name and the value, which no version copies.
     pair: Arc<Pair>,
 }
@@ -25,10 +28,13 @@ pub struct Value {
 impl Model for Value {
     ghost use Rattle.std.specs.Prelude.{ℕ, List};
     ghost use Rattle.std.specs.Arc.{arc_value};
+    ghost use Rattle.attribute_index.specs.Fronts.{IsFront};
 
     ghost Value = { List ℕ × List ℕ };
 
     ghost view = { λ v. ((arc_value v.pair).name, (arc_value v.pair).value) };
+
+    ghost invariant = { λ v. IsFront v.front ((arc_value v.pair).name, (arc_value v.pair).value) };
 }
 
 impl Value {
@@ -36,10 +42,11 @@ impl Value {
     pub(crate) fn of(alloc: Global, name: &str, value: &str) -> Result<Value, Starved>
         ensures { IfOk result (λ v. v ≡ (name.now, value.now)) }
     {
+        let front = Front::of(name.as_bytes(), value.as_bytes());
         let name = Text::copy_of(alloc, name)?;
         let value = Text::copy_of(alloc, value)?;
         let pair = Arc::new(alloc, Pair { name, value })?;
-        Ok(Value { pair })
+        Ok(Value { front, pair })
     }
 
     /// The name.
@@ -57,13 +64,42 @@ impl Value {
         let pair: &Pair = &*self.pair;
         pair.value.as_str()
     }
+
+    /// How it is ordered by its texts.
+    fn order_of_texts(&self, other: &Value) -> Ordering
+        ensures { result ≡ value_cmp self.now other.now }
+    {
+        match self.name().cmp(other.name()) {
+            Ordering::Equal => self.value().cmp(other.value()),
+            order => order,
+        }
+    }
+
+    /// How it is ordered: as its front, and by its texts where the fronts are equal and leave some
+    /// of them out.
+    fn order(&self, other: &Value) -> Ordering
+        ensures { result ≡ value_cmp self.now other.now }
+    {
+        match self.front.cmp(&other.front) {
+            Ordering::Equal => {
+                if self.front.is_whole() {
+                    return Ordering::Equal;
+                }
+                self.order_of_texts(other)
+            }
+            order => order,
+        }
+    }
 }
 
 /// An equal value, which shares the texts.
 impl Shared for Value {
     fn share(&self) -> Result<Value, Starved> {
         let pair = Arc::try_clone(&self.pair)?;
-        Ok(Value { pair })
+        Ok(Value {
+            front: self.front,
+            pair,
+        })
     }
 }
 
@@ -91,10 +127,7 @@ impl Ord for Value {
     ghost matches_eq = { Prim.search (comparing, rules) };
 
     fn cmp(&self, other: &Value) -> Ordering {
-        match self.name().cmp(other.name()) {
-            Ordering::Equal => self.value().cmp(other.value()),
-            order => order,
-        }
+        self.order(other)
     }
 }
 
