@@ -3,7 +3,8 @@ use Rattle.std.specs.Prelude.{◌≡◌, ℕ, zero, suc, ◌+◌, ◌*◌, ◌<�
 use Rattle.std.specs.List.{AllByRecursion}
 use Rattle.attribute_index.specs.declared.fronts.Front.{Front}
 
--- a name and a value as one list of symbols: an octet is its number and one more, and 0 stands between the two
+-- a name and a value as one list of symbols: an octet is its number and one more, and 0 stands
+-- between the two
 abbrev pub symbols_of : List ℕ × List ℕ → List ℕ
 symbols_of value = map (λ octet. octet + 1) value.0 ++ (0 ∷ map (λ octet. octet + 1) value.1)
 

@@ -8,8 +8,8 @@ const SYMBOLS: usize = 7;
 /// The base in which a number spells them: above all digits.
 const BASE: u64 = 512;
 
-/// The first 21 symbols of a name and its value, seven in each number. Fronts are ordered as the names and values are whose
-/// fronts they are, where they differ.
+/// The first 21 symbols of a name and its value, seven in each number. Fronts are ordered as the
+/// names and values are whose fronts they are, where they differ.
 #[derive(Clone, Copy, Drop, PartialEq, Eq, PartialOrd, Ord)]
 pub(crate) struct Front {
     /// The first seven symbols.
@@ -64,7 +64,8 @@ impl Front {
 
     /// Whether it spells the whole of its name and its value.
     pub(crate) fn is_whole(&self) -> bool
-        ensures { (value : List ℕ × List ℕ) → IsFront self.now value → IsTrue result → drop 21 (symbols_of value) ≡ [] }
+        ensures { (value : List ℕ × List ℕ) → IsFront self.now value → IsTrue result
+            → drop 21 (symbols_of value) ≡ [] }
     {
         self.third % BASE == 0
     }

@@ -4,7 +4,14 @@ ghost use Rattle.std.proofs.Common.{rules};
 ghost use Rattle.std.specs.Cmp.{partial_order_from_own_ties};
 ghost use Rattle.std.specs.Cmp.Rules.{comparing};
 ghost use Rattle.std.specs.Ordering.{as_partial_cmp};
-ghost use Rattle.std.proofs.lemmas.Cmp.{nat_list_eq_equiv, nat_list_cmp_total, then_total, on_total, and_equiv, on_equiv};
+ghost use Rattle.std.proofs.lemmas.Cmp.{
+  nat_list_eq_equiv,
+  nat_list_cmp_total,
+  then_total,
+  on_total,
+  and_equiv,
+  on_equiv,
+};
 ghost use Rattle.attribute_index.specs.Rows.{value_cmp, is_same_value};
 
 use crate::fronts::Front;
@@ -15,8 +22,9 @@ use std::cmp::Ordering;
 use std::marker::Model;
 use std::sync::Arc;
 
-/// A name with a value of it, or with one part of the value. Values are ordered by their names, those of one name by their
-/// texts. What is shared of one shares the texts. Contracts see it as the name and the value.
+/// A name with a value of it, or with one part of the value. Values are ordered by their names,
+/// those of one name by their texts. What is shared of one shares the texts. Contracts see it as
+/// the name and the value.
 #[derive(Drop)]
 pub struct Value {
     /// What orders it among most values without a look at its texts.
@@ -114,13 +122,15 @@ impl PartialEq for Value {
 }
 
 impl Eq for Value {
-    ghost laws = { and_equiv (on_equiv (λ p. p.0) nat_list_eq_equiv) (on_equiv (λ p. p.1) nat_list_eq_equiv) };
+    ghost laws = { and_equiv (on_equiv (λ p. p.0) nat_list_eq_equiv)
+        (on_equiv (λ p. p.1) nat_list_eq_equiv) };
 }
 
 impl Ord for Value {
     ghost cmp = { value_cmp };
 
-    ghost total = { then_total (on_total (λ p. p.0) nat_list_cmp_total) (on_total (λ p. p.1) nat_list_cmp_total) };
+    ghost total = { then_total (on_total (λ p. p.0) nat_list_cmp_total)
+        (on_total (λ p. p.1) nat_list_cmp_total) };
 
     ghost matches_partial_cmp = { Prim.search (comparing, rules) };
 
@@ -134,7 +144,8 @@ impl Ord for Value {
 impl PartialOrd for Value {
     ghost partial_cmp = { as_partial_cmp value_cmp };
 
-    ghost laws = { partial_order_from_own_ties (Prim.search (comparing, rules)) (Prim.search (comparing, rules)) };
+    ghost laws = { partial_order_from_own_ties (Prim.search (comparing, rules))
+        (Prim.search (comparing, rules)) };
 
     fn partial_cmp(&self, other: &Value) -> Option<Ordering> {
         Some(self.cmp(other))

@@ -1,4 +1,4 @@
-use Rattle.std.proofs.Common.{◌≡◌, ◌<◌, ◌≤◌, ◌+◌, ◌*◌, suc, arith, sym, subst}
+use Rattle.std.proofs.Common.{◌≡◌, ◌<◌, ◌+◌, ◌*◌, suc, arith, subst}
 use Rattle.attribute_index.specs.Fronts.{symbols_of}
 use Rattle.attribute_index.proofs.FrontLaws.{limit, limit_room, spelled_more, spelled_none}
 use Rattle.attribute_index.proofs.fronts.number_at.Goals as goal
@@ -17,6 +17,9 @@ loop-i-preserved c =
     let e : suc c.loop-i.i ≡ c.loop-i.i + 1 = omega arith in
     let here : c.loop-i.number * 512 + c.digit_at.result < limit (suc c.loop-i.i) = omega arith in
     record {
-      spells = spelled_more c.loop-i.i c.args.from c.loop-i.number c.digit_at.result (symbols_of (c.args.name.now, c.args.value.now)) c.loop-i.invariant.spells c.digit_at.ensures.digit;
+      spells =
+          spelled_more c.loop-i.i c.args.from c.loop-i.number c.digit_at.result
+          (symbols_of (c.args.name.now, c.args.value.now)) c.loop-i.invariant.spells
+          c.digit_at.ensures.digit;
       below = subst (λ n. c.loop-i.number * 512 + c.digit_at.result < limit n) e here;
     }
