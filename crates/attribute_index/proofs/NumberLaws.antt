@@ -1,5 +1,32 @@
 -- Numbers as the keys of a map.
-use Rattle.std.proofs.Common.{◌≡◌, ℕ, ◌<◌, length, arith, Bool, true, false, cond, ◌&&◌, ◌||◌, List, [], ◌∷◌, Option, Some, None, is_some, nat_eq, nat_cmp, refl, sym, ap, ◌∙◌, subst, not}
+use Rattle.std.proofs.Common.{
+  ◌≡◌,
+  ℕ,
+  ◌<◌,
+  length,
+  arith,
+  Bool,
+  true,
+  false,
+  cond,
+  ◌&&◌,
+  ◌||◌,
+  List,
+  [],
+  ◌∷◌,
+  Option,
+  Some,
+  None,
+  is_some,
+  nat_eq,
+  nat_cmp,
+  refl,
+  sym,
+  ap,
+  ◌∙◌,
+  subst,
+  not,
+}
 use Rattle.std.specs.declared.cmp.Ordering.{Ordering}
 use Rattle.std.specs.declared.cmp.Ordering.TheVariants.{Less, Equal, Greater}
 use Rattle.std.specs.Ordering.{match_ordering, is_le, MatchOrdering}
@@ -18,15 +45,22 @@ use Rattle.attribute_index.specs.Entries.{has_number}
 use Rattle.attribute_index.specs.Rows.{NumbersAscend, HasNumber, IsRow, IsEdited}
 use Rattle.attribute_index.proofs.Lookups.{lookup-insert_entry, lookup-remove_entry}
 
-any_alike : (p q : ℕ → Bool) → ((m : ℕ) → p m ≡ q m) → (ns : List ℕ) → list_any p ns ≡ list_any q ns
+any_alike : (p q : ℕ → Bool) → ((m : ℕ) → p m ≡ q m) → (ns : List ℕ)
+    → list_any p ns ≡ list_any q ns
 any_alike p q same [] = refl
-any_alike p q same (n ∷ ns) = ap (λ t. t || list_any p ns) (same n) ∙ ap (λ t. q n || t) (any_alike p q same ns)
+any_alike p q same (n ∷ ns) =
+    ap (λ t. t || list_any p ns) (same n) ∙ ap (λ t. q n || t) (any_alike p q same ns)
 
 module _ {X : Type 0} where
-  found : (es : List (ℕ × X)) (n : ℕ) → has_number (keys_of es) n ≡ is_some (lookup (is_at (nat_cmp n)) es)
-  found es n = any_alike (λ m. nat_eq n m) (is_at (nat_cmp n)) (λ m. unsigned_ties n m) (keys_of es) ∙ sym (is_some-lookup (is_at (nat_cmp n)) es)
+  found : (es : List (ℕ × X)) (n : ℕ)
+      → has_number (keys_of es) n ≡ is_some (lookup (is_at (nat_cmp n)) es)
+  found es n =
+      any_alike (λ m. nat_eq n m) (is_at (nat_cmp n)) (λ m. unsigned_ties n m) (keys_of es)
+      ∙ sym (is_some-lookup (is_at (nat_cmp n)) es)
 
-  pub number-put : (es : List (ℕ × X)) (number : ℕ) (v : X) (n : ℕ) → has_number (keys_of (insert_entry nat_cmp es number v)) n ≡ (has_number (keys_of es) n || nat_eq n number)
+  pub number-put : (es : List (ℕ × X)) (number : ℕ) (v : X) (n : ℕ)
+      → has_number (keys_of (insert_entry nat_cmp es number v)) n
+      ≡ (has_number (keys_of es) n || nat_eq n number)
   number-put es number v n =
       found (insert_entry nat_cmp es number v) n
       ∙ ap is_some (lookup-insert_entry nat_cmp_total n number v es)
@@ -40,7 +74,9 @@ module _ {X : Type 0} where
       by false (Some x) = refl
       by false None = refl
 
-  pub number-taken : (es : List (ℕ × X)) (number n : ℕ) → IsAscending nat_cmp es → has_number (keys_of (remove_entry (is_at (nat_cmp number)) es)) n ≡ (has_number (keys_of es) n && not (nat_eq n number))
+  pub number-taken : (es : List (ℕ × X)) (number n : ℕ) → IsAscending nat_cmp es
+      → has_number (keys_of (remove_entry (is_at (nat_cmp number)) es)) n
+      ≡ (has_number (keys_of es) n && not (nat_eq n number))
   number-taken es number n up =
       found (remove_entry (is_at (nat_cmp number)) es) n
       ∙ ap is_some (lookup-remove_entry nat_cmp_total n number es up)
@@ -54,7 +90,8 @@ module _ {X : Type 0} where
       by false (Some x) = refl
       by false None = refl
 
-  each_key : (n : ℕ) (es : List (ℕ × X)) → AllByRecursion (λ x. nat_cmp n x.0 ≡ Less) es → AllByRecursion (λ m. nat_cmp n m ≡ Less) (keys_of es)
+  each_key : (n : ℕ) (es : List (ℕ × X)) → AllByRecursion (λ x. nat_cmp n x.0 ≡ Less) es
+      → AllByRecursion (λ m. nat_cmp n m ≡ Less) (keys_of es)
   each_key n [] up = tt
   each_key n (e ∷ es) up = (up.0, each_key n es up.1)
 
@@ -64,11 +101,14 @@ module _ {X : Type 0} where
   numbers_ascend (e ∷ es) up = (each_key e.0 es up.0, numbers_ascend es up.1)
 
   -- a number that was put is there, so there is one
-  pub any-put : (es : List (ℕ × X)) (number : ℕ) (v : X) → HasNumber (keys_of (insert_entry nat_cmp es number v))
+  pub any-put : (es : List (ℕ × X)) (number : ℕ) (v : X)
+      → HasNumber (keys_of (insert_entry nat_cmp es number v))
   any-put [] number v = tt
   any-put (e ∷ es) number v = by (nat_cmp number e.0)
     where
-      by : (r : Ordering) → HasNumber (keys_of (match_ordering r ((number, v) ∷ e ∷ es) ((e.0, v) ∷ es) (e ∷ insert_entry nat_cmp es number v)))
+      by : (r : Ordering) → HasNumber
+          (keys_of (match_ordering r ((number, v) ∷ e ∷ es) ((e.0, v) ∷ es)
+          (e ∷ insert_entry nat_cmp es number v)))
       by Less = tt
       by Equal = tt
       by Greater = tt
@@ -83,7 +123,9 @@ module _ {X : Type 0} where
 
   -- no number is below 0
   pub from_zero : (es : List (ℕ × X)) → entries_from (nat_cmp 0) es ≡ es
-  from_zero es = filter_all (λ e. is_le (nat_cmp 0 e.0)) es (each_one (λ e. is_le (nat_cmp 0 e.0) ≡ true) (λ e. by e.0 (nat_cmp 0 e.0) (ranks 0 e.0)) es)
+  from_zero es =
+      filter_all (λ e. is_le (nat_cmp 0 e.0)) es
+      (each_one (λ e. is_le (nat_cmp 0 e.0) ≡ true) (λ e. by e.0 (nat_cmp 0 e.0) (ranks 0 e.0)) es)
     where
       by : (n : ℕ) (r : Ordering) → MatchOrdering r (0 < n) (0 ≡ n) (n < 0) → is_le r ≡ true
       by n Less h = refl
@@ -96,5 +138,8 @@ unfolding NumbersAscend
 row_one n = (tt, (tt, tt))
 
 -- a number that comes where none was
-pub put_first : (number : ℕ) (numbers : List ℕ) → numbers ≡ number ∷ [] → IsEdited Put number None (Some numbers)
-put_first number numbers is = subst (λ ns. IsEdited Put number None (Some ns)) (sym is) ((λ n. or-false (nat_eq n number)), row_one number)
+pub put_first : (number : ℕ) (numbers : List ℕ) → numbers ≡ number ∷ []
+    → IsEdited Put number None (Some numbers)
+put_first number numbers is =
+    subst (λ ns. IsEdited Put number None (Some ns)) (sym is)
+    ((λ n. or-false (nat_eq n number)), row_one number)

@@ -1,6 +1,19 @@
--- The entries of an index of attributes: which record carries which value of which name. Values of rel, rev, rt and if are
--- lists (RFC 6690 section 2), and stand in it part by part.
-use Rattle.std.specs.Prelude.{◌≡◌, ℕ, Bool, ◌==◌, ◌&&◌, List, [], ◌∷◌, map, filter, bytes_eq, if◌then◌else◌}
+-- The entries of an index of attributes: which record carries which value of which name. Values of
+-- rel, rev, rt and if are lists (RFC 6690 section 2), and stand in it part by part.
+use Rattle.std.specs.Prelude.{
+  ◌≡◌,
+  ℕ,
+  Bool,
+  ◌==◌,
+  ◌&&◌,
+  List,
+  [],
+  ◌∷◌,
+  map,
+  filter,
+  bytes_eq,
+  if◌then◌else◌,
+}
 use Rattle.std.specs.List.{list_any, flat_map, AllByRecursion}
 use Rattle.std.specs.declared.cmp.Ordering.{Ordering}
 use Rattle.std.specs.declared.cmp.Ordering.TheVariants.{Less}
@@ -16,13 +29,16 @@ pub record Entry : Type 0 where
   pub value : List ℕ
   pub number : ℕ
 
--- the values of a name by which an attribute is found: the parts of its value where values of its name are lists, else its value
+-- the values of a name by which an attribute is found: the parts of its value where values of its
+-- name are lists, else its value
 unfoldable pub values_of : List ℕ → List ℕ → List (List ℕ)
 values_of name value = if is_among list_names name then parts_of value else value ∷ []
 
 -- the entries of an attribute of the record with this number
 unfoldable pub entries_of : Pair → ℕ → List Entry
-entries_of pair number = map (λ value. record { name = pair.name; value = value; number = number }) (values_of pair.name pair.value)
+entries_of pair number =
+    map (λ value. record { name = pair.name; value = value; number = number })
+    (values_of pair.name pair.value)
 
 -- the entries of all attributes of the record with this number
 unfoldable pub entries_of_all : List Pair → ℕ → List Entry
@@ -40,9 +56,12 @@ has_entry index e = list_any (is_same e) index
 abbrev pub has_number : List ℕ → ℕ → Bool
 has_number numbers n = list_any (λ m. n == m) numbers
 
--- entries are ordered by their names, those of one name by their values, and those of one value by their numbers
+-- entries are ordered by their names, those of one name by their values, and those of one value by
+-- their numbers
 abbrev pub entry_cmp : Entry → Entry → Ordering
-entry_cmp x y = ordering_then (slice_cmp nat_cmp x.name y.name) (ordering_then (slice_cmp nat_cmp x.value y.value) (nat_cmp x.number y.number))
+entry_cmp x y =
+    ordering_then (slice_cmp nat_cmp x.name y.name)
+    (ordering_then (slice_cmp nat_cmp x.value y.value) (nat_cmp x.number y.number))
 
 -- each entry stands before all that follow it: so the index is sorted, and no entry is there twice
 unfoldable pub IsAscending : List Entry → Type 0
@@ -53,6 +72,7 @@ IsAscending (x ∷ xs) = AllByRecursion (λ y. entry_cmp x y ≡ Less) xs × IsA
 abbrev pub is_carrier : List ℕ → List ℕ → Entry → Bool
 is_carrier name pattern e = bytes_eq e.name name && matches_value pattern e.value
 
--- the numbers of the entries of this name whose values the pattern matches, in the order of the entries
+-- the numbers of the entries of this name whose values the pattern matches, in the order of the
+-- entries
 unfoldable pub carriers_of : List ℕ → List ℕ → List Entry → List ℕ
 carriers_of name pattern index = map (λ e. e.number) (filter (is_carrier name pattern) index)

@@ -1,5 +1,27 @@
--- How an index is kept: a row for each value of a name, with the numbers of the records that carry it.
-use Rattle.std.specs.Prelude.{◌≡◌, ℕ, Bool, false, not, ◌==◌, ◌||◌, ◌&&◌, IfSome, List, [], ◌∷◌, Option, Some, None, map, filter, nat_eq, bytes_eq, unwrap_or}
+-- How an index is kept: a row for each value of a name, with the numbers of the records that carry
+-- it.
+use Rattle.std.specs.Prelude.{
+  ◌≡◌,
+  ℕ,
+  Bool,
+  false,
+  not,
+  ◌==◌,
+  ◌||◌,
+  ◌&&◌,
+  IfSome,
+  List,
+  [],
+  ◌∷◌,
+  Option,
+  Some,
+  None,
+  map,
+  filter,
+  nat_eq,
+  bytes_eq,
+  unwrap_or,
+}
 use lib.Pointwise.{pointwise}
 use Rattle.std.specs.List.{flat_map, AllByRecursion}
 use Rattle.std.specs.declared.cmp.Ordering.{Ordering}
@@ -63,13 +85,15 @@ entries_in row = map (λ number. record { name = row.0.0; value = row.0.1; numbe
 
 -- the entries of values of a name under a number
 abbrev pub entries_under_name : List ℕ → List (List ℕ) → ℕ → List Entry
-entries_under_name name values number = map (λ value. record { name = name; value = value; number = number }) values
+entries_under_name name values number =
+    map (λ value. record { name = name; value = value; number = number }) values
 
 -- the entries of all rows, row after row
 abbrev pub entries_of_rows : List Row → List Entry
 entries_of_rows rows = flat_map entries_in rows
 
--- where the values begin that a pattern of a name matches: at what stands before its wildcard, or at the pattern
+-- where the values begin that a pattern of a name matches: at what stands before its wildcard, or
+-- at the pattern
 abbrev pub first_wanted : List ℕ → List ℕ → List ℕ × List ℕ
 first_wanted name pattern = (name, unwrap_or (before_wildcard pattern) pattern)
 
@@ -79,12 +103,16 @@ is_wanted name pattern value = bytes_eq value.0 name && matches_value pattern va
 
 -- the numbers of the rows whose values are wanted, row after row
 abbrev pub wanted_numbers : List ℕ → List ℕ → List Row → List ℕ
-wanted_numbers name pattern rows = flat_map (λ row. row.1) (filter (λ row. is_wanted name pattern row.0) rows)
+wanted_numbers name pattern rows =
+    flat_map (λ row. row.1) (filter (λ row. is_wanted name pattern row.0) rows)
 
 -- the wanted rows stand in front: behind one that is not wanted none is
 unfoldable pub WantedFirst : List ℕ → List ℕ → List Row → Type 0
 WantedFirst name pattern [] = Unit {0}
-WantedFirst name pattern (row ∷ rows) = (is_wanted name pattern row.0 ≡ false → AllByRecursion (λ other. is_wanted name pattern other.0 ≡ false) rows) × WantedFirst name pattern rows
+WantedFirst name pattern (row ∷ rows) =
+    (is_wanted name pattern row.0 ≡ false
+    → AllByRecursion (λ other. is_wanted name pattern other.0 ≡ false) rows)
+    × WantedFirst name pattern rows
 
 -- the number is among those of a row, where there is one
 abbrev pub number_in : Option (List ℕ) → ℕ → Bool
@@ -97,11 +125,13 @@ numbers_left left.Nothing = []
 numbers_left (left.One number) = number ∷ []
 numbers_left (left.Many numbers) = keys_of numbers
 
--- whether an entry is there after an edit: where it was there before, or not, and is one of those that come or go, or not
+-- whether an entry is there after an edit: where it was there before, or not, and is one of those
+-- that come or go, or not
 abbrev pub is_after : Edit → Bool → Bool → Bool
 is_after Put before edited = before || edited
 is_after Take before edited = before && not edited
 
 -- what an edit of a number makes of the numbers of a value: with the last one, the value is gone
 abbrev pub IsEdited : Edit → ℕ → Option (List ℕ) → Option (List ℕ) → Type 0
-IsEdited edit number old new = ((n : ℕ) → number_in new n ≡ is_after edit (number_in old n) (n == number)) × IfSome new IsRow
+IsEdited edit number old new =
+    ((n : ℕ) → number_in new n ≡ is_after edit (number_in old n) (n == number)) × IfSome new IsRow

@@ -2,7 +2,13 @@
 ghost use Rattle.std.specs.Prelude.{◌≡◌, ◌+◌, ◌<◌, [], ◌∷◌, ◌++◌, IfSome, IfNone};
 ghost use Rattle.std.specs.Map.{keys_of};
 ghost use Rattle.attribute_index.specs.Rows as spec;
-ghost use Rattle.attribute_index.specs.Rows.{AreRows, HasNumber, WantedFirst, numbers_left, wanted_numbers};
+ghost use Rattle.attribute_index.specs.Rows.{
+  AreRows,
+  HasNumber,
+  WantedFirst,
+  numbers_left,
+  wanted_numbers,
+};
 
 use crate::numbers::{Left, Numbers};
 use crate::values::Value;
@@ -27,7 +33,12 @@ pub struct Carriers<'a> {
 
 impl<'a> Model for Carriers<'a> {
     ghost use Rattle.std.specs.Prelude.{ℕ, List, ◌++◌};
-    ghost use Rattle.attribute_index.specs.Rows.{numbers_left, wanted_numbers, WantedFirst, AreRows};
+    ghost use Rattle.attribute_index.specs.Rows.{
+      numbers_left,
+      wanted_numbers,
+      WantedFirst,
+      AreRows,
+    };
 
     ghost Value = { List ℕ };
 
@@ -58,8 +69,10 @@ fn next_number<L: Ledger>(blank: Blank, numbers: &mut RangeIter<'_, u64, ()>) ->
 
 /// The next number of the value where a cursor stands; None exactly where none is left.
 fn next_in(numbers: &mut Left<'_>) -> Option<u64>
-    ensures next { IfSome result (λ number. numbers_left numbers.old ≡ number ∷ numbers_left numbers.new) }
-    ensures end { IfNone result ((numbers_left numbers.old ≡ []) × (numbers_left numbers.new ≡ [])) }
+    ensures next { IfSome result
+        (λ number. numbers_left numbers.old ≡ number ∷ numbers_left numbers.new) }
+    ensures end { IfNone result
+        ((numbers_left numbers.old ≡ []) × (numbers_left numbers.new ≡ [])) }
 {
     match numbers {
         Left::Nothing => None,
@@ -87,7 +100,8 @@ fn next_row<'a, L: Ledger>(
     rows.step(&mut steps)
 }
 
-/// The numbers of the next row, where its value is wanted; None exactly where no row is left whose value is.
+/// The numbers of the next row, where its value is wanted; None exactly where no row is left whose
+/// value is.
 fn next_wanted<'a>(
     name: &Text,
     pattern: &Text,
@@ -95,9 +109,13 @@ fn next_wanted<'a>(
 ) -> Option<Left<'a>>
     requires first { WantedFirst name.now pattern.now rows.old }
     requires whole { AreRows rows.old }
-    ensures next { IfSome result (λ numbers. wanted_numbers name.now pattern.now rows.old ≡ numbers_left numbers ++ wanted_numbers name.now pattern.now rows.new) }
+    ensures next { IfSome result
+        (λ numbers. wanted_numbers name.now pattern.now rows.old
+        ≡ numbers_left numbers ++ wanted_numbers name.now pattern.now rows.new) }
     ensures any { IfSome result (λ numbers. HasNumber (numbers_left numbers)) }
-    ensures end { IfNone result ((wanted_numbers name.now pattern.now rows.old ≡ []) × (wanted_numbers name.now pattern.now rows.new ≡ [])) }
+    ensures end { IfNone result
+        ((wanted_numbers name.now pattern.now rows.old ≡ [])
+        × (wanted_numbers name.now pattern.now rows.new ≡ [])) }
     ensures first { WantedFirst name.now pattern.now rows.new }
     ensures whole { AreRows rows.new }
 {
@@ -127,8 +145,8 @@ impl<'a> Carriers<'a> {
         }
     }
 
-    /// The number of the next entry; None exactly at the end. Each call counts one step, that at the end too. Takes no
-    /// memory. A number comes once for each of its entries.
+    /// The number of the next entry; None exactly at the end. Each call counts one step, that at
+    /// the end too. Takes no memory. A number comes once for each of its entries.
     pub fn step<L: Ledger>(&mut self, steps: &mut Steps<L>) -> Option<u64>
         ensures next { IfSome result (λ number. self.old ≡ number ∷ self.new) }
         ensures end { IfNone result ((self.old ≡ []) × (self.new ≡ [])) }

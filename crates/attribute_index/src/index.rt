@@ -2,7 +2,13 @@
 ghost use Rattle.std.specs.Prelude.{◌≡◌, ◌||◌, ◌&&◌, not, [], IfOk};
 ghost use Rattle.rd_base.specs.PairRefs.{pair_seen};
 ghost use Rattle.attribute_index.specs.Rows as spec;
-ghost use Rattle.attribute_index.specs.Entries.{Entry, IsAscending, has_entry, entries_of, carriers_of};
+ghost use Rattle.attribute_index.specs.Entries.{
+  Entry,
+  IsAscending,
+  has_entry,
+  entries_of,
+  carriers_of,
+};
 
 use crate::Carriers;
 use crate::rows::{Edit, Rows, edited};
@@ -21,7 +27,8 @@ use std::marker::Model;
 /// number, in ascending order and without doubles.
 #[derive(Drop)]
 pub struct AttributeIndex {
-    /// The numbers of the records that carry a value, by the value: a value that many records carry is kept once.
+    /// The numbers of the records that carry a value, by the value: a value that many records
+    /// carry is kept once.
     rows: Rows,
 }
 
@@ -38,8 +45,8 @@ impl Model for AttributeIndex {
     ghost invariant = { λ a. sorted.IsAscending value_cmp a.rows × AreRows a.rows };
 }
 
-/// Where the values begin that a pattern of a name matches: at what stands before its wildcard, or at the pattern.
-/// `Starved`: out of memory.
+/// Where the values begin that a pattern of a name matches: at what stands before its wildcard, or
+/// at the pattern. `Starved`: out of memory.
 fn first_wanted(alloc: Global, name: &str, pattern: &str) -> Result<Value, Starved>
     ensures { IfOk result (λ value. value ≡ spec.first_wanted name.now pattern.now) }
 {
@@ -69,8 +76,8 @@ impl AttributeIndex {
         })
     }
 
-    /// The index in which the record with this number carries this attribute too: it has the entries of this one, and those
-    /// of the attribute. `Starved`: out of memory.
+    /// The index in which the record with this number carries this attribute too: it has the
+    /// entries of this one, and those of the attribute. `Starved`: out of memory.
     pub fn put(
         &self,
         alloc: Global,
@@ -86,8 +93,9 @@ impl AttributeIndex {
         })
     }
 
-    /// The index without the entries of this attribute of the record with this number. Two attributes of a record can have
-    /// an entry in common, so who takes one of them takes all. `Starved`: out of memory.
+    /// The index without the entries of this attribute of the record with this number. Two
+    /// attributes of a record can have an entry in common, so who takes one of them takes all.
+    /// `Starved`: out of memory.
     pub fn take(
         &self,
         alloc: Global,
@@ -106,15 +114,17 @@ impl AttributeIndex {
 
     /// This index, in which the record with this number carries this attribute too, as
     /// [`AttributeIndex::put`] makes one: what no other index has is changed in place, so that
-    /// several changes of one index copy each part of it once. `Starved`: out of memory; this index
-    /// is gone then, and all others are as before.
+    /// several changes of one index copy each part of it once. `Starved`: out of memory; this
+    /// index is gone then, and all others are as before.
     pub fn with(
         self,
         alloc: Global,
         pair: &PairRef<'_>,
         number: u64,
     ) -> Result<AttributeIndex, Starved>
-        ensures entries { IfOk result (λ index. (e : Entry) → has_entry index e ≡ (has_entry self e || has_entry (entries_of (pair_seen pair.now) number) e)) }
+        ensures entries { IfOk result
+            (λ index. (e : Entry) → has_entry index e
+            ≡ (has_entry self e || has_entry (entries_of (pair_seen pair.now) number) e)) }
         ensures ascends { IfOk result (λ index. IsAscending index) }
     {
         let AttributeIndex { rows } = self;
@@ -132,7 +142,9 @@ impl AttributeIndex {
         pair: &PairRef<'_>,
         number: u64,
     ) -> Result<AttributeIndex, Starved>
-        ensures entries { IfOk result (λ index. (e : Entry) → has_entry index e ≡ (has_entry self e && not (has_entry (entries_of (pair_seen pair.now) number) e))) }
+        ensures entries { IfOk result
+            (λ index. (e : Entry) → has_entry index e
+            ≡ (has_entry self e && not (has_entry (entries_of (pair_seen pair.now) number) e))) }
         ensures ascends { IfOk result (λ index. IsAscending index) }
     {
         let AttributeIndex { rows } = self;
@@ -141,8 +153,8 @@ impl AttributeIndex {
         })
     }
 
-    /// A cursor over the entries of this name whose values the pattern matches (RFC 6690 section 4.1), in order. It begins
-    /// where the first of them stands. `Starved`: out of memory.
+    /// A cursor over the entries of this name whose values the pattern matches (RFC 6690 section
+    /// 4.1), in order. It begins where the first of them stands. `Starved`: out of memory.
     pub fn carriers(
         &self,
         alloc: Global,

@@ -2,6 +2,7 @@
 #![tactic(auto)]
 
 mod carriers;
+mod fronts;
 mod index;
 mod numbers;
 mod rows;

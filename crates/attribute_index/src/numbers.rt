@@ -21,7 +21,8 @@ enum Carried {
     Many(Arc<ChunkMap<u64, ()>>),
 }
 
-/// The numbers of the records that carry a value, in ascending order. Contracts see it as their list.
+/// The numbers of the records that carry a value, in ascending order. Contracts see it as their
+/// list.
 #[derive(Drop)]
 pub struct Numbers {
     /// The numbers.
@@ -52,7 +53,9 @@ pub enum Left<'a> {
 
 /// The numbers of a map, and this one. `Starved`: out of memory.
 fn map_with(alloc: Global, map: &ChunkMap<u64, ()>, number: u64) -> Result<Numbers, Starved>
-    ensures numbers { IfOk result (λ numbers. (n : ℕ) → has_number numbers n ≡ (has_number (keys_of map.now) n || (n == number))) }
+    ensures numbers { IfOk result
+        (λ numbers. (n : ℕ) → has_number numbers n
+        ≡ (has_number (keys_of map.now) n || (n == number))) }
     ensures whole { IfOk result (λ numbers. IsRow numbers) }
 {
     let numbers = Arc::new(alloc, map.put(number, ())?)?;
@@ -63,7 +66,9 @@ fn map_with(alloc: Global, map: &ChunkMap<u64, ()>, number: u64) -> Result<Numbe
 
 /// Two numbers, or one where they are equal. `Starved`: out of memory.
 fn both(alloc: Global, first: u64, second: u64) -> Result<Numbers, Starved>
-    ensures numbers { IfOk result (λ numbers. (n : ℕ) → has_number numbers n ≡ (has_number (first ∷ []) n || (n == second))) }
+    ensures numbers { IfOk result
+        (λ numbers. (n : ℕ) → has_number numbers n
+        ≡ (has_number (first ∷ []) n || (n == second))) }
     ensures whole { IfOk result (λ numbers. IsRow numbers) }
 {
     let none: ChunkMap<u64, ()> = ChunkMap::empty(alloc)?;
@@ -78,7 +83,9 @@ fn map_without(
     number: u64,
 ) -> Result<Option<Numbers>, Starved>
     requires ascends { IsAscending nat_cmp map.now }
-    ensures numbers { IfOk result (λ left. (n : ℕ) → number_in left n ≡ (has_number (keys_of map.now) n && not (n == number))) }
+    ensures numbers { IfOk result
+        (λ left. (n : ℕ) → number_in left n
+        ≡ (has_number (keys_of map.now) n && not (n == number))) }
     ensures whole { IfOk result (λ left. IfSome left IsRow) }
 {
     let left = map.take(&number)?;
@@ -93,7 +100,8 @@ fn map_without(
 
 /// One number without another; None where they are equal.
 fn one_without(one: u64, number: u64) -> Option<Numbers>
-    ensures numbers { (n : ℕ) → number_in result n ≡ (has_number (one ∷ []) n && not (n == number)) }
+    ensures numbers { (n : ℕ) → number_in result n
+        ≡ (has_number (one ∷ []) n && not (n == number)) }
     ensures whole { IfSome result IsRow }
 {
     if one == number {
@@ -114,7 +122,9 @@ impl Numbers {
 
     /// These numbers and this one. `Starved`: out of memory.
     pub(crate) fn with(&self, alloc: Global, number: u64) -> Result<Numbers, Starved>
-        ensures numbers { IfOk result (λ numbers. (n : ℕ) → has_number numbers n ≡ (has_number self.now n || (n == number))) }
+        ensures numbers { IfOk result
+            (λ numbers. (n : ℕ) → has_number numbers n
+            ≡ (has_number self.now n || (n == number))) }
         ensures whole { IfOk result (λ numbers. IsRow numbers) }
     {
         match &self.carried {
@@ -125,7 +135,8 @@ impl Numbers {
 
     /// These numbers without this one; None where none is left. `Starved`: out of memory.
     pub(crate) fn without(&self, alloc: Global, number: u64) -> Result<Option<Numbers>, Starved>
-        ensures numbers { IfOk result (λ left. (n : ℕ) → number_in left n ≡ (has_number self.now n && not (n == number))) }
+        ensures numbers { IfOk result
+            (λ left. (n : ℕ) → number_in left n ≡ (has_number self.now n && not (n == number))) }
         ensures whole { IfOk result (λ left. IfSome left IsRow) }
     {
         match &self.carried {

@@ -4,7 +4,14 @@ ghost use Rattle.chunk_map.specs.Sorted.{IsAscending};
 ghost use Rattle.rd_base.specs.PairRefs.{pair_seen};
 ghost use Rattle.record_model.specs.Matching.{parts_of};
 ghost use Rattle.attribute_index.specs.Entries.{Entry, entries_of, has_entry, is_same};
-ghost use Rattle.attribute_index.specs.Rows.{AreRows, IsEdited, entries_of_rows, entries_under_name, is_after, value_cmp};
+ghost use Rattle.attribute_index.specs.Rows.{
+  AreRows,
+  IsEdited,
+  entries_of_rows,
+  entries_under_name,
+  is_after,
+  value_cmp,
+};
 
 use crate::numbers::Numbers;
 use crate::values::Value;
@@ -68,7 +75,10 @@ fn edited_value(
 ) -> Result<Rows, Starved>
     requires ascends { IsAscending value_cmp rows }
     requires whole { AreRows rows }
-    ensures entries { IfOk result (λ after. (e : Entry) → has_entry (entries_of_rows after) e ≡ is_after edit (has_entry (entries_of_rows rows) e) (is_same e (record { name = value.now.0; value = value.now.1; number = number }))) }
+    ensures entries { IfOk result
+        (λ after. (e : Entry) → has_entry (entries_of_rows after) e
+        ≡ is_after edit (has_entry (entries_of_rows rows) e)
+        (is_same e (record { name = value.now.0; value = value.now.1; number = number }))) }
     ensures ascends { IfOk result (λ after. IsAscending value_cmp after) }
     ensures whole { IfOk result (λ after. AreRows after) }
 {
@@ -82,8 +92,8 @@ fn edited_value(
     )?)
 }
 
-/// These rows, in which the record with this number carries the parts of this value too, or carries
-/// none of them. `Starved`: out of memory.
+/// These rows, in which the record with this number carries the parts of this value too, or
+/// carries none of them. `Starved`: out of memory.
 fn edited_parts(
     alloc: Global,
     rows: Rows,
@@ -94,7 +104,10 @@ fn edited_parts(
 ) -> Result<Rows, Starved>
     requires ascends { IsAscending value_cmp rows }
     requires whole { AreRows rows }
-    ensures entries { IfOk result (λ after. (e : Entry) → has_entry (entries_of_rows after) e ≡ is_after edit (has_entry (entries_of_rows rows) e) (has_entry (entries_under_name name.now (parts_of value.now) number) e)) }
+    ensures entries { IfOk result
+        (λ after. (e : Entry) → has_entry (entries_of_rows after) e
+        ≡ is_after edit (has_entry (entries_of_rows rows) e)
+        (has_entry (entries_under_name name.now (parts_of value.now) number) e)) }
     ensures ascends { IfOk result (λ after. IsAscending value_cmp after) }
     ensures whole { IfOk result (λ after. AreRows after) }
 {
@@ -108,8 +121,8 @@ fn edited_parts(
     Ok(after)
 }
 
-/// These rows, in which the record with this number carries this attribute too, or carries no value
-/// of it. `Starved`: out of memory.
+/// These rows, in which the record with this number carries this attribute too, or carries no
+/// value of it. `Starved`: out of memory.
 #[tactic(auto, unfolding(crate::specs::Entries::entries_of, crate::specs::Entries::values_of))]
 pub(crate) fn edited(
     alloc: Global,
@@ -120,7 +133,10 @@ pub(crate) fn edited(
 ) -> Result<Rows, Starved>
     requires ascends { IsAscending value_cmp rows }
     requires whole { AreRows rows }
-    ensures entries { IfOk result (λ after. (e : Entry) → has_entry (entries_of_rows after) e ≡ is_after edit (has_entry (entries_of_rows rows) e) (has_entry (entries_of (pair_seen pair.now) number) e)) }
+    ensures entries { IfOk result
+        (λ after. (e : Entry) → has_entry (entries_of_rows after) e
+        ≡ is_after edit (has_entry (entries_of_rows rows) e)
+        (has_entry (entries_of (pair_seen pair.now) number) e)) }
     ensures ascends { IfOk result (λ after. IsAscending value_cmp after) }
     ensures whole { IfOk result (λ after. AreRows after) }
 {

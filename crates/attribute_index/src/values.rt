@@ -4,9 +4,17 @@ ghost use Rattle.std.proofs.Common.{rules};
 ghost use Rattle.std.specs.Cmp.{partial_order_from_own_ties};
 ghost use Rattle.std.specs.Cmp.Rules.{comparing};
 ghost use Rattle.std.specs.Ordering.{as_partial_cmp};
-ghost use Rattle.std.proofs.lemmas.Cmp.{nat_list_eq_equiv, nat_list_cmp_total, then_total, on_total, and_equiv, on_equiv};
+ghost use Rattle.std.proofs.lemmas.Cmp.{
+  nat_list_eq_equiv,
+  nat_list_cmp_total,
+  then_total,
+  on_total,
+  and_equiv,
+  on_equiv,
+};
 ghost use Rattle.attribute_index.specs.Rows.{value_cmp, is_same_value};
 
+use crate::fronts::Front;
 use chunk_map::Shared;
 use rd_base::{Pair, Starved, Text};
 use std::alloc::Global;
@@ -14,10 +22,13 @@ use std::cmp::Ordering;
 use std::marker::Model;
 use std::sync::Arc;
 
-/// A name with a value of it, or with one part of the value. Values are ordered by their names, those of one name by their
-/// texts. What is shared of one shares the texts. Contracts see it as the name and the value.
+/// A name with a value of it, or with one part of the value. Values are ordered by their names,
+/// those of one name by their texts. What is shared of one shares the texts. Contracts see it as
+/// the name and the value.
 #[derive(Drop)]
 pub struct Value {
+    /// What orders it among most values without a look at its texts.
+    front: Front,
     /// The name and the value, which no version copies.
     pair: Arc<Pair>,
 }
@@ -25,10 +36,13 @@ pub struct Value {
 impl Model for Value {
     ghost use Rattle.std.specs.Prelude.{ℕ, List};
     ghost use Rattle.std.specs.Arc.{arc_value};
+    ghost use Rattle.attribute_index.specs.Fronts.{IsFront};
 
     ghost Value = { List ℕ × List ℕ };
 
     ghost view = { λ v. ((arc_value v.pair).name, (arc_value v.pair).value) };
+
+    ghost invariant = { λ v. IsFront v.front ((arc_value v.pair).name, (arc_value v.pair).value) };
 }
 
 impl Value {
@@ -36,10 +50,11 @@ impl Value {
     pub(crate) fn of(alloc: Global, name: &str, value: &str) -> Result<Value, Starved>
         ensures { IfOk result (λ v. v ≡ (name.now, value.now)) }
     {
+        let front = Front::of(name.as_bytes(), value.as_bytes());
         let name = Text::copy_of(alloc, name)?;
         let value = Text::copy_of(alloc, value)?;
         let pair = Arc::new(alloc, Pair { name, value })?;
-        Ok(Value { pair })
+        Ok(Value { front, pair })
     }
 
     /// The name.
@@ -57,13 +72,42 @@ impl Value {
         let pair: &Pair = &*self.pair;
         pair.value.as_str()
     }
+
+    /// How it is ordered by its texts.
+    fn order_of_texts(&self, other: &Value) -> Ordering
+        ensures { result ≡ value_cmp self.now other.now }
+    {
+        match self.name().cmp(other.name()) {
+            Ordering::Equal => self.value().cmp(other.value()),
+            order => order,
+        }
+    }
+
+    /// How it is ordered: as its front, and by its texts where the fronts are equal and leave some
+    /// of them out.
+    fn order(&self, other: &Value) -> Ordering
+        ensures { result ≡ value_cmp self.now other.now }
+    {
+        match self.front.cmp(&other.front) {
+            Ordering::Equal => {
+                if self.front.is_whole() {
+                    return Ordering::Equal;
+                }
+                self.order_of_texts(other)
+            }
+            order => order,
+        }
+    }
 }
 
 /// An equal value, which shares the texts.
 impl Shared for Value {
     fn share(&self) -> Result<Value, Starved> {
         let pair = Arc::try_clone(&self.pair)?;
-        Ok(Value { pair })
+        Ok(Value {
+            front: self.front,
+            pair,
+        })
     }
 }
 
@@ -78,30 +122,30 @@ impl PartialEq for Value {
 }
 
 impl Eq for Value {
-    ghost laws = { and_equiv (on_equiv (λ p. p.0) nat_list_eq_equiv) (on_equiv (λ p. p.1) nat_list_eq_equiv) };
+    ghost laws = { and_equiv (on_equiv (λ p. p.0) nat_list_eq_equiv)
+        (on_equiv (λ p. p.1) nat_list_eq_equiv) };
 }
 
 impl Ord for Value {
     ghost cmp = { value_cmp };
 
-    ghost total = { then_total (on_total (λ p. p.0) nat_list_cmp_total) (on_total (λ p. p.1) nat_list_cmp_total) };
+    ghost total = { then_total (on_total (λ p. p.0) nat_list_cmp_total)
+        (on_total (λ p. p.1) nat_list_cmp_total) };
 
     ghost matches_partial_cmp = { Prim.search (comparing, rules) };
 
     ghost matches_eq = { Prim.search (comparing, rules) };
 
     fn cmp(&self, other: &Value) -> Ordering {
-        match self.name().cmp(other.name()) {
-            Ordering::Equal => self.value().cmp(other.value()),
-            order => order,
-        }
+        self.order(other)
     }
 }
 
 impl PartialOrd for Value {
     ghost partial_cmp = { as_partial_cmp value_cmp };
 
-    ghost laws = { partial_order_from_own_ties (Prim.search (comparing, rules)) (Prim.search (comparing, rules)) };
+    ghost laws = { partial_order_from_own_ties (Prim.search (comparing, rules))
+        (Prim.search (comparing, rules)) };
 
     fn partial_cmp(&self, other: &Value) -> Option<Ordering> {
         Some(self.cmp(other))

@@ -34,7 +34,8 @@ empty_value : values_of (codes "ct") [] ≡ [] ∷ []
 unfolding values_of
 empty_value = refl
 
-entries_of_parts : entries_of (record { name = codes "rt"; value = codes "b a" }) 7 ≡ entry (codes "rt") (codes "b") 7 ∷ entry (codes "rt") (codes "a") 7 ∷ []
+entries_of_parts : entries_of (record { name = codes "rt"; value = codes "b a" }) 7
+    ≡ entry (codes "rt") (codes "b") 7 ∷ entry (codes "rt") (codes "a") 7 ∷ []
 unfolding entries_of values_of
 entries_of_parts = refl
 
@@ -43,7 +44,8 @@ entries_of_parts = refl
 -- an index of five entries, in their order
 abbrev some : List Entry
 some =
-    entry (codes "ct") (codes "4") 9 ∷ entry (codes "ct") (codes "40") 2 ∷ entry (codes "ct") (codes "40") 5 ∷ entry (codes "rt") (codes "4") 1
+    entry (codes "ct") (codes "4") 9 ∷ entry (codes "ct") (codes "40") 2 ∷ entry (codes "ct")
+    (codes "40") 5 ∷ entry (codes "rt") (codes "4") 1
     ∷ entry (codes "rt") (codes "light") 2
     ∷ []
 

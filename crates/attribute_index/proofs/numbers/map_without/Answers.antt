@@ -21,6 +21,9 @@ returns-clause-numbers c n =
 pub returns-clause-whole : goal.returns-clause-whole
 returns-clause-whole c =
     let is : c.in_ok-numbers.numbers.value ≡ c.in_ok-left.left = search rules in
-    let any : HasNumber (keys_of c.in_ok-left.left) = any_left c.in_ok-left.left (λ zero. omega (arith, zero, c.len.ensures, c.if-len-eq0.false)) in
-    let row : IsRow (keys_of c.in_ok-left.left) = (any, numbers_ascend c.in_ok-left.left c.in_ok-left.ensures.ascends) in
+    let any : HasNumber (keys_of c.in_ok-left.left) =
+    any_left c.in_ok-left.left
+    (λ zero. omega (arith, zero, c.len.ensures, c.if-len-eq0.false)) in
+    let row : IsRow (keys_of c.in_ok-left.left) =
+    (any, numbers_ascend c.in_ok-left.left c.in_ok-left.ensures.ascends) in
     subst (λ es. IsRow (keys_of es)) (sym is) row

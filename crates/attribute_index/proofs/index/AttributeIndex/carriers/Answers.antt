@@ -11,15 +11,21 @@ pub over-requires-clause-first : goal.over-requires-clause-first
 over-requires-clause-first c =
     let name_is : c.in_ok-name.name ≡ c.args.name.now = search rules in
     let pattern_is : c.in_ok-pattern.pattern ≡ c.args.pattern.now = search rules in
-    let from_is : c.in_ok-from.from ≡ first_wanted c.args.name.now c.args.pattern.now = search rules in
+    let from_is : c.in_ok-from.from ≡ first_wanted c.args.name.now c.args.pattern.now =
+    search rules in
     let rows = c.self.inside.rows in
-    let rows_is : c.range-rows.result ≡ entries_from (value_cmp (first_wanted c.args.name.now c.args.pattern.now)) rows = c.range-rows.ensures ∙ ap (λ from. entries_from (value_cmp from) rows) from_is in
-    rw (name_is, pattern_is, rows_is) (wanted_first c.args.name.now c.args.pattern.now rows c.self.invariant.0)
+    let rows_is : c.range-rows.result
+    ≡ entries_from (value_cmp (first_wanted c.args.name.now c.args.pattern.now)) rows =
+    c.range-rows.ensures ∙ ap (λ from. entries_from (value_cmp from) rows) from_is in
+    rw (name_is, pattern_is, rows_is)
+    (wanted_first c.args.name.now c.args.pattern.now rows c.self.invariant.0)
 
 pub over-requires-clause-whole : goal.over-requires-clause-whole
 over-requires-clause-whole c =
     let rows = c.self.inside.rows in
-    rw c.range-rows.ensures (each_filter (λ row. IsRow row.1) (λ row. is_le (value_cmp c.in_ok-from.from row.0)) rows c.self.invariant.1)
+    rw c.range-rows.ensures
+    (each_filter (λ row. IsRow row.1) (λ row. is_le (value_cmp c.in_ok-from.from row.0)) rows
+    c.self.invariant.1)
 
 pub returns : goal.returns
 returns c =
@@ -29,5 +35,8 @@ returns c =
     let pattern_is : c.in_ok-pattern.pattern ≡ pattern = search rules in
     let from_is : c.in_ok-from.from ≡ first_wanted name pattern = search rules in
     let rows = c.self.inside.rows in
-    let rows_is : c.range-rows.result ≡ entries_from (value_cmp (first_wanted name pattern)) rows = c.range-rows.ensures ∙ ap (λ from. entries_from (value_cmp from) rows) from_is in
-    c.over.ensures ∙ (rw (name_is, pattern_is, rows_is) (wanted_from name pattern rows)) ∙ sym (carried_rows name pattern rows) ∙ ap (λ index. carriers_of name pattern index) c.self.view_is
+    let rows_is : c.range-rows.result ≡ entries_from (value_cmp (first_wanted name pattern)) rows =
+    c.range-rows.ensures ∙ ap (λ from. entries_from (value_cmp from) rows) from_is in
+    c.over.ensures ∙ (rw (name_is, pattern_is, rows_is) (wanted_from name pattern rows))
+    ∙ sym (carried_rows name pattern rows)
+    ∙ ap (λ index. carriers_of name pattern index) c.self.view_is

@@ -1,0 +1,25 @@
+use Rattle.std.proofs.Common.{◌≡◌, ◌<◌, ◌+◌, ◌*◌, suc, arith, subst}
+use Rattle.attribute_index.specs.Fronts.{symbols_of}
+use Rattle.attribute_index.proofs.FrontLaws.{limit, limit_room, spelled_more, spelled_none}
+use Rattle.attribute_index.proofs.fronts.number_at.Goals as goal
+
+pub loop-i-init : goal.loop-i-init
+loop-i-init c = record { spells = spelled_none _; below = omega arith }
+
+pub overflow_mul-number : goal.overflow_mul-number
+overflow_mul-number c = let room = limit_room c.loop-i.i (omega arith) in omega arith
+
+pub overflow_add-number : goal.overflow_add-number
+overflow_add-number c = let room = limit_room c.loop-i.i (omega arith) in omega arith
+
+pub loop-i-preserved : goal.loop-i-preserved
+loop-i-preserved c =
+    let e : suc c.loop-i.i ≡ c.loop-i.i + 1 = omega arith in
+    let here : c.loop-i.number * 512 + c.digit_at.result < limit (suc c.loop-i.i) = omega arith in
+    record {
+      spells =
+          spelled_more c.loop-i.i c.args.from c.loop-i.number c.digit_at.result
+          (symbols_of (c.args.name.now, c.args.value.now)) c.loop-i.invariant.spells
+          c.digit_at.ensures.digit;
+      below = subst (λ n. c.loop-i.number * 512 + c.digit_at.result < limit n) e here;
+    }
