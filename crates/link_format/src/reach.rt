@@ -36,6 +36,13 @@ fn stays(point: Point, tails: &[OctetRange], octet: u8) -> bool
     }
 }
 
+/// Whether an octet is a character of its own, where no octet is due: one of ASCII, as nearly all are.
+fn is_ascii_where_none_due(tails: &[OctetRange], octet: u8) -> bool
+    ensures { IsTrue result → tails_after tails.now octet ≡ Some tails.now }
+{
+    tails.is_empty() && octet.is_ascii()
+}
+
 /// Walks over the octets once, up to the first that no document has there.
 pub fn walk(body: &[u8]) -> Reach
     ensures good_prefix { result.good_prefix ≡ good_prefix body.now }
@@ -52,6 +59,11 @@ pub fn walk(body: &[u8]) -> Reach
         let Some(next_point) = point_after(point, *octet) else {
             return stopped(body, rest);
         };
+        if is_ascii_where_none_due(tails, *octet) {
+            point = next_point;
+            rest = more;
+            continue;
+        }
         let Some(next_tails) = tails_after(tails, *octet) else {
             return stopped(body, rest);
         };

@@ -15,6 +15,11 @@ pub octets-preserved-then-stays : goal.octets-preserved-then-stays
 octets-preserved-then-stays c =
     walked_step c.args.body.now c.octets.rest.now _ _ c.octets.tails.now c.octets.tails.now c.in-Some.octet.now c.in-Some.more.now c.octets.invariant c.in-Some.ensures.cases.0 (c.if-stays.ensures.point refl) (c.if-stays.ensures.tails refl)
 
+pub octets-preserved-then-is_ascii_where_none_due : goal.octets-preserved-then-is_ascii_where_none_due
+octets-preserved-then-is_ascii_where_none_due c =
+    walked_step c.args.body.now c.octets.rest.now _ _ c.octets.tails.now c.octets.tails.now c.in-Some.octet.now c.in-Some.more.now c.octets.invariant c.in-Some.ensures.cases.0
+    (sym c.in-Some-point_after.ensures) (c.is_ascii_where_none_due.ensures c.if-is_ascii_where_none_due.true)
+
 pub returns-in_default-point_after-clause-good_prefix : goal.returns-in_default-point_after-clause-good_prefix
 returns-in_default-point_after-clause-good_prefix c =
     let stops = walked_no_point c.args.body.now c.octets.rest.now _ c.octets.tails.now c.in-Some.octet.now c.in-Some.more.now c.octets.invariant c.in-Some.ensures.cases.0 (sym c.in_default-point_after.ensures) in
