@@ -19,9 +19,13 @@ not_true false e = refl
 
 -- ---- nothing is due
 
-ascii_tails : (b : ℕ) → is_ascii b ≡ true → tails_of b ≡ Some []
+pub ascii_tails : (b : ℕ) → is_ascii b ≡ true → tails_of b ≡ Some []
 unfolding tails_of
 ascii_tails b h = let e : is_in_range 0x00 0x7F b ≡ true = grind (arith, nat_tests) in rw e refl
+
+pub none_due : (tails : List OctetRange) (empty : Bool) → empty ≡ (length tails == 0) → empty ≡ true → tails ≡ []
+none_due [] empty e f = refl
+none_due (r ∷ ranges) empty e f = let g = eqb-true (length (r ∷ ranges)) 0 (sym e ∙ f) in absurd (omega arith)
 
 pub no_tails : (tails : List OctetRange) (b : ℕ) (empty : Bool) → empty ≡ (length tails == 0) → empty ≡ true → is_ascii b ≡ true → tails_after tails b ≡ Some tails
 no_tails [] b empty e f h = ascii_tails b h

@@ -1,13 +1,11 @@
 -- Quoting and its undoing, character by character.
 use Rattle.std.proofs.Common.{◌≡◌, ℕ, ◌+◌, ◌/◌, ◌%◌, ◌<◌, ◌≤◌, Bool, true, false, ◌||◌, List, [], ◌∷◌, ◌++◌, length, flat_map, refl, sym, ap, ◌∙◌, ◌⊎◌, inl, inr, append_assoc, append-nil, arith}
-use Rattle.std.specs.Prelude.{◌==◌, Option, nat_le}
+use Rattle.std.specs.Prelude.{◌==◌, nat_le}
 use Rattle.std.specs.List.{list_all, list_any}
 use Rattle.std.specs.Char.{encode_utf8}
 use Rattle.std.proofs.lemmas.Bool.{and_parts, false≢true, cases_lt, or_parts}
 use Rattle.std.proofs.lemmas.Bool.Decides.{nat_tests}
 use Rattle.link_model.specs.Characters.{quote_mark, backslash}
-use Rattle.link_format.specs.declared.cuts.Quotes.TheVariants.{Unread}
-use Rattle.link_format.specs.Cuts.{cut, onto_before}
 use Rattle.link_model.specs.Quoting.{content_up_to_quote, unquoted, escaped_character, quoted}
 use Rattle.link_model.proofs.Utf8Reading.{encode_one, encode_two, encode_three, encode_four}
 
@@ -68,19 +66,13 @@ content_plain c rest q b = by_size (cases_lt c 128)
     by_size (inl h) = rw (encode_one c h) (rw (q, b) refl)
     by_size (inr h) = content_high (encode_utf8 c) rest (all_high c h)
 
--- what stands before the first quote, where no backslash is in it
-pub content_as_written : (text : List ℕ) → list_any (λ c. c == backslash) (cut quote_mark Unread text).0 ≡ false → (cut quote_mark Unread text).0 ≡ content_up_to_quote false text
-unfolding cut
-content_as_written [] h = refl
-content_as_written (c ∷ cs) h = by_quote (c == quote_mark) refl (content_as_written cs)
-  where
-    by_quote : (quote : Bool) → (c == quote_mark) ≡ quote → (list_any (λ b. b == backslash) (cut quote_mark Unread cs).0 ≡ false → (cut quote_mark Unread cs).0 ≡ content_up_to_quote false cs) → (cut quote_mark Unread (c ∷ cs)).0 ≡ content_up_to_quote false (c ∷ cs)
-    by_quote true q _ = rw q refl
-    by_quote false q rest =
-        let step : cut quote_mark Unread (c ∷ cs) ≡ onto_before c (cut quote_mark Unread cs) = rw q refl in
-        let known : list_any (λ b. b == backslash) (onto_before c (cut quote_mark Unread cs)).0 ≡ false = sym (ap (λ (parts : List ℕ × Option (List ℕ)). list_any (λ b. b == backslash) parts.0) step) ∙ h in
-        let parts = or_parts (c == backslash) (list_any (λ b. b == backslash) (cut quote_mark Unread cs).0) known in
-        rw (q, parts.0) (ap (λ (t : List ℕ). c ∷ t) (rest parts.1))
+-- what stands before a closing quote at the end, where no other quote and no backslash is in it
+pub content_closed : (front : List ℕ) → list_any (λ c. c == quote_mark) front ≡ false → list_any (λ c. c == backslash) front ≡ false → front ≡ content_up_to_quote false (front ++ quote_mark ∷ [])
+content_closed [] q b = refl
+content_closed (c ∷ cs) q b =
+    let quotes = or_parts (c == quote_mark) (list_any (λ c. c == quote_mark) cs) q in
+    let escapes = or_parts (c == backslash) (list_any (λ c. c == backslash) cs) b in
+    rw (quotes.0, escapes.0) (ap (λ (t : List ℕ). c ∷ t) (content_closed cs quotes.1 escapes.1))
 
 -- ---- what a value says
 

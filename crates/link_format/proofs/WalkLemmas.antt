@@ -1,5 +1,5 @@
 -- What one octet changes of how far octets begin a document, and of whether they are one.
-use Rattle.std.proofs.Common.{◌≡◌, ℕ, suc, ◌+◌, ◌-◌, ◌≤◌, min, Bool, true, false, ◌&&◌, List, [], ◌∷◌, length, Option, Some, None, option_map, is_some, refl, sym, ap, ◌∙◌, subst, arith}
+use Rattle.std.proofs.Common.{◌≡◌, ℕ, suc, ◌+◌, ◌-◌, ◌≤◌, min, Bool, true, false, ◌&&◌, List, [], ◌∷◌, ◌++◌, length, Option, Some, None, option_map, is_some, refl, sym, ap, ◌∙◌, subst, append_assoc, arith}
 use Rattle.std.specs.Prelude.{◌==◌, if◌then◌else◌}
 use Rattle.std.proofs.lemmas.Bool.{eqb-true}
 use Rattle.std.specs.Str.{is_utf8}
@@ -12,6 +12,7 @@ use Rattle.link_model.specs.DocumentReading.{Point, at_beginning, point_after, w
 use Rattle.link_model.proofs.Utf8Reading.{is_utf8_after, is_utf8_after-IsUtf8}
 use Rattle.link_model.proofs.Utf8Found.{IsUtf8-is_utf8_after}
 use Rattle.link_format.specs.Ranges.{tails_after}
+use Rattle.link_format.specs.Staying.{AllStay, StaysUpTo}
 
 -- how many octets may stand one after the other, in the grammar and in text
 abbrev pub reach : Point → List OctetRange → List ℕ → ℕ
@@ -134,6 +135,31 @@ walked_step body rest point next tails more c cs w e f g = at_cons (subst (λ (r
   where
     at_cons : Walked body (c ∷ cs) point tails → Walked body cs next more
     at_cons w = let s = reach_step point next tails more c cs f g in let r = w.reached in record { within = let l = w.within in omega arith; reached = omega arith; same = w.same ∙ is_rest-step point next tails more c cs f g }
+
+-- ---- octets that stay
+
+pub none_over : (point : Point) (octets : List ℕ) → StaysUpTo point octets octets
+none_over point octets = record { over = []; spelled = refl; each = tt }
+
+also_stays : (point : Point) (over : List ℕ) (b : ℕ) → AllStay point over → point_after point b ≡ Some point → tails_after [] b ≡ Some [] → AllStay point (over ++ b ∷ [])
+also_stays point [] b h e f = (e, f, tt)
+also_stays point (a ∷ over) b h e f = (h.0, h.1, also_stays point over b h.2 e f)
+
+-- one octet more stays
+pub one_over : (point : Point) (octets rest more : List ℕ) (b : ℕ) → StaysUpTo point octets rest → rest ≡ b ∷ more → point_after point b ≡ Some point → tails_after [] b ≡ Some [] → StaysUpTo point octets more
+one_over point octets rest more b s e f g = record {
+  over = s.over ++ b ∷ [];
+  spelled = s.spelled ∙ ap (λ (r : List ℕ). s.over ++ r) e ∙ sym (append_assoc s.over (b ∷ []) more);
+  each = also_stays point s.over b s.each f g;
+}
+
+over_all : (body rest over octets : List ℕ) (point : Point) → AllStay point over → octets ≡ over ++ rest → Walked body octets point [] → Walked body rest point []
+over_all body rest [] octets point h e w = subst (λ (r : List ℕ). Walked body r point []) e w
+over_all body rest (b ∷ over) octets point h e w = over_all body rest over (over ++ rest) point h.2 refl (walked_step body octets point point [] [] b (over ++ rest) w e h.0 h.1)
+
+-- a step, and then all octets that stay
+pub walked_over : (body octets rest : List ℕ) (point : Point) → StaysUpTo point octets rest → Walked body octets point [] → Walked body rest point []
+walked_over body octets rest point s w = over_all body rest s.over octets point s.each s.spelled w
 
 -- what is said where the walk stops
 abbrev pub Stops : List ℕ → List ℕ → Type 0

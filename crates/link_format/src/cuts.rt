@@ -1,6 +1,6 @@
 //! Quoted strings within a text, and its first octet of a kind outside them (RFC 6690 section 2).
 ghost use Rattle.std.specs.Prelude.{◌≡◌, ℕ, ◌≤◌, ◌<◌, ◌+◌, length, drop, option_map};
-ghost use Rattle.link_format.specs.declared.cuts.Quotes.TheVariants.{Unread, Outside, Inside};
+ghost use Rattle.link_format.specs.declared.cuts.Quotes.TheVariants.{Unread, Leading, Outside, Inside};
 ghost use Rattle.link_format.specs.Cuts as cuts;
 
 /// How a text is read: where it stands to quoted strings.
@@ -82,6 +82,19 @@ fn octets_before_outside(separator: u8, text: &[u8], outside: &[u8]) -> usize
     text.len()
 }
 
+/// How many octets stand before the first separator, where the first octet is none and begins no quoted string. In most
+/// rests of a link no further separator stands, within quoted strings or outside them.
+fn octets_before_leading(separator: u8, text: &[u8]) -> usize
+    ensures value { result ≡ cuts.octets_before separator Leading text.now }
+    ensures within { result ≤ length text.now }
+{
+    let rest = after_octet(text);
+    if !rest.contains(&separator) {
+        return text.len();
+    }
+    octets_before_outside(separator, text, rest)
+}
+
 /// How many octets stand before the first separator, and all where there is none.
 fn octets_before(separator: u8, quotes: Quotes, text: &[u8]) -> usize
     ensures value { result ≡ cuts.octets_before separator quotes text.now }
@@ -90,7 +103,7 @@ fn octets_before(separator: u8, quotes: Quotes, text: &[u8]) -> usize
     match quotes {
         Quotes::Unread => octets_before_unread(separator, text),
         Quotes::Outside => octets_before_outside(separator, text, text),
-        Quotes::Leading => octets_before_outside(separator, text, after_octet(text)),
+        Quotes::Leading => octets_before_leading(separator, text),
         Quotes::Inside => octets_before_outside(separator, text, after_quotes(text)),
         Quotes::Escaped => octets_before_outside(separator, text, after_quotes(after_octet(text))),
     }

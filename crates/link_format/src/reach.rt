@@ -1,9 +1,10 @@
 //! One walk over octets: how far they begin a document, and whether they are one.
-ghost use Rattle.std.specs.Prelude.{◌≡◌, ◌≤◌, ◌-◌, length, false, is_some, Some, IsTrue};
+ghost use Rattle.std.specs.Prelude.{◌≡◌, ◌≤◌, ◌-◌, [], length, false, is_some, Some, IsTrue};
 ghost use Rattle.link_model.specs.DocumentReading.{document, good_prefix};
 ghost use Rattle.link_model.specs.DocumentReading as grammar;
 ghost use Rattle.link_format.specs.Points.{point_in};
 ghost use Rattle.link_format.specs.Ranges.{tails_after};
+ghost use Rattle.link_format.specs.Staying.{StaysUpTo};
 
 use crate::characters::{is_plain_in_quotes, is_target_character};
 use crate::points::{Point, may_end, point_after};
@@ -18,15 +19,12 @@ pub struct Reach {
     pub is_document: bool,
 }
 
-/// Whether an octet is one of those that leave the walk where it is: most characters of targets, names and values do, and
-/// are found with few tests.
-fn stays(point: Point, tails: &[OctetRange], octet: u8) -> bool
+/// Whether an octet is one of those that leave the walk where it is, where no octet is due: most characters of targets,
+/// names and values do, and are found with few tests.
+fn stays(point: Point, octet: u8) -> bool
     ensures point { IsTrue result → grammar.point_after (point_in point) octet ≡ Some (point_in point) }
-    ensures tails { IsTrue result → tails_after tails.now octet ≡ Some tails.now }
+    ensures tails { IsTrue result → tails_after [] octet ≡ Some [] }
 {
-    if !tails.is_empty() {
-        return false;
-    }
     match point {
         Point::Target => is_target_character(octet),
         Point::WithinName => octet.is_ascii_alphanumeric(),
@@ -34,6 +32,28 @@ fn stays(point: Point, tails: &[OctetRange], octet: u8) -> bool
         Point::Quotes => is_plain_in_quotes(octet),
         _ => false,
     }
+}
+
+/// What stands after the octets at the beginning that leave the walk where it is, where no octet is due.
+fn after_staying(point: Point, octets: &[u8]) -> &[u8]
+    ensures { StaysUpTo (point_in point) octets.now result.now }
+{
+    let mut rest = octets;
+    'staying: while let Some((octet, more)) = rest.split_first() {
+        if !stays(point, *octet) {
+            return rest;
+        }
+        rest = more;
+    }
+    rest
+}
+
+/// Whether an octet is a character of its own, where no octet is due: one of ASCII, as nearly all are.
+fn is_ascii_where_none_due(tails: &[OctetRange], octet: u8) -> bool
+    ensures none { IsTrue result → tails.now ≡ [] }
+    ensures tails { IsTrue result → tails_after tails.now octet ≡ Some tails.now }
+{
+    tails.is_empty() && octet.is_ascii()
 }
 
 /// Walks over the octets once, up to the first that no document has there.
@@ -45,13 +65,14 @@ pub fn walk(body: &[u8]) -> Reach
     let mut tails: &'static [OctetRange] = &[];
     let mut rest = body;
     'octets: while let Some((octet, more)) = rest.split_first() {
-        if stays(point, tails, *octet) {
-            rest = more;
-            continue;
-        }
         let Some(next_point) = point_after(point, *octet) else {
             return stopped(body, rest);
         };
+        if is_ascii_where_none_due(tails, *octet) {
+            point = next_point;
+            rest = after_staying(next_point, more);
+            continue;
+        }
         let Some(next_tails) = tails_after(tails, *octet) else {
             return stopped(body, rest);
         };

@@ -8,7 +8,6 @@ ghost use Rattle.link_model.specs.Documents.{is_quoted_string};
 ghost use Rattle.link_model.specs.Quoting as quoting;
 ghost use Rattle.link_format.specs.Views.{parameter_seen, value_seen};
 
-use crate::cuts::{Quotes, cut};
 use crate::parameters::Param;
 use rd_base::{Starved, Text};
 use std::alloc::Global;
@@ -72,12 +71,16 @@ fn unquoted<'a>(alloc: Global, value: &'a str) -> Result<Value<'a>, Starved>
     content(alloc, characters.as_str())
 }
 
-/// The characters up to a closing quote, where no backslash is among them.
+/// The characters up to a closing quote at the end, where neither a quote nor a backslash is among them.
 fn content_as_written(inner: &str) -> Option<&str>
     ensures { IfSome result (λ text. text.now ≡ quoting.content_up_to_quote false inner.now) }
 {
-    let (front, _) = cut(b'"', Quotes::Unread, inner);
-    if front.as_bytes().contains(&b'\\') {
+    let front = inner.strip_suffix('"')?;
+    let octets = front.as_bytes();
+    if octets.contains(&b'"') {
+        return None;
+    }
+    if octets.contains(&b'\\') {
         return None;
     }
     Some(front)
@@ -93,7 +96,7 @@ fn content<'a>(alloc: Global, inner: &'a str) -> Result<Value<'a>, Starved>
     }
 }
 
-/// The same of characters among which a backslash is, one after the other.
+/// The same of any characters, one after the other.
 fn unescaped(alloc: Global, inner: &str) -> Result<Text, Starved>
     ensures { IfOk result (λ text. text ≡ quoting.content_up_to_quote false inner.now) }
 {

@@ -1,8 +1,9 @@
 -- A reference that is a path alone has the components that it shows, and a path without full stops after slashes has no dot segments.
 use Rattle.std.proofs.Common.{◌≡◌, ℕ, Bool, true, false, not, ◌&&◌, List, [], ◌∷◌, ◌++◌, length, drop, Option, None, refl, sym, ap, ◌∙◌, append-nil, append_assoc, arith}
 use Rattle.std.specs.Prelude.{◌==◌, fold}
-use Rattle.std.specs.List.{list_all}
-use Rattle.std.proofs.lemmas.Bool.{and_parts, not-true, false≢true}
+use Rattle.std.specs.List.{list_all, list_any}
+use Rattle.std.proofs.lemmas.Bool.{and_parts, or_parts, not-true, false≢true}
+use Rattle.std.proofs.Math.Bool.{and-false}
 use Rattle.std.proofs.lemmas.Bool.Decides.{nat_tests}
 use Rattle.link_model.specs.Characters.{number_sign, percent_sign, full_stop, slash, question_mark, is_path_character}
 use Rattle.reference_model.specs.References.{Components, before, after, begins_with, from_first, has_octet, components, without_fragment, without_query, scheme_in, authority_in, path_in, after_scheme, is_text_of}
@@ -178,6 +179,18 @@ unfolding has_no_dot_after_slash
 no_dot_yet path rest more c e d s =
     let here : has_no_dot_after_slash (c ∷ more) ≡ has_no_dot_after_slash more = rw d refl in
     sym (ap has_no_dot_after_slash e ∙ here) ∙ s
+
+-- nor does one where there is no full stop
+not_begun : (mark : ℕ) (text : List ℕ) → list_any (λ b. b == mark) text ≡ false → begins_with mark text ≡ false
+not_begun mark [] h = refl
+not_begun mark (c ∷ cs) h = (or_parts (c == mark) (list_any (λ b. b == mark) cs) h).0
+
+pub no_full_stop : (path : List ℕ) → list_any (λ b. b == full_stop) path ≡ false → has_no_dot_after_slash path ≡ true
+unfolding has_no_dot_after_slash
+no_full_stop [] h = refl
+no_full_stop (c ∷ cs) h =
+    let parts = or_parts (c == full_stop) (list_any (λ b. b == full_stop) cs) h in
+    rw (not_begun full_stop cs parts.1, and-false (c == slash)) (no_full_stop cs parts.1)
 
 pub none_left : (path rest : List ℕ) → length rest ≡ 0 → has_no_dot_after_slash rest ≡ has_no_dot_after_slash path → true ≡ has_no_dot_after_slash path
 unfolding has_no_dot_after_slash

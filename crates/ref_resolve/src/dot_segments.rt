@@ -141,10 +141,13 @@ fn is_slash_before_dot(octet: u8, rest: &[u8]) -> bool
     octet == b'/' && rest.starts_with(b".")
 }
 
-/// Whether no slash stands before a full stop.
+/// Whether no slash stands before a full stop. Most paths have no full stop at all.
 fn has_no_dot_after_slash(path: &[u8]) -> bool
     ensures { result ≡ has_no_dot_after_slash path.now }
 {
+    if !path.contains(&b'.') {
+        return true;
+    }
     let mut rest = path;
     'octets: while let Some((octet, more)) = rest.split_first() {
         if is_slash_before_dot(*octet, more) {

@@ -118,13 +118,13 @@ fn read_link(
         return Err(DraftFault::Reference(start + 1));
     };
     let gathered = gather(alloc, link, start + link.target.len() + 2, builder)?;
-    let anchor = refer_anchor(alloc, base, &gathered.anchor, &mut referred.anchor)?;
-    let is_limited = is_limited(has_scheme, anchor);
     let Gathered {
         builder,
         anchor: submitted,
         end,
     } = gathered;
+    let anchor = refer_anchor(alloc, base, &submitted, &mut referred.anchor)?;
+    let is_limited = is_limited(has_scheme, anchor);
     let builder = with_referred(builder, link.target, &submitted, anchor, referred)?;
     Ok(Read {
         builder,

@@ -1,6 +1,7 @@
 -- Where the walk stops is the end of the longest prefix that begins a document.
-use Rattle.std.proofs.Common.{refl, sym, ap, ◌∙◌}
-use Rattle.link_format.proofs.WalkLemmas.{walked_start, walked_step, walked_no_point, walked_no_tails, walked_whole, walked_end, walked_short}
+use Rattle.std.proofs.Common.{sym, ap, ◌∙◌, subst}
+use Rattle.link_format.specs.Points.{point_in}
+use Rattle.link_format.proofs.WalkLemmas.{Walked, walked_start, walked_step, walked_over, walked_no_point, walked_no_tails, walked_whole, walked_end, walked_short}
 use Rattle.link_format.proofs.reach.walk.Goals as goal
 
 pub octets-init : goal.octets-init
@@ -11,9 +12,14 @@ octets-preserved c =
     walked_step c.args.body.now c.octets.rest.now _ _ c.octets.tails.now c.in-Some-tails_after.next_tails.now c.in-Some.octet.now c.in-Some.more.now c.octets.invariant c.in-Some.ensures.cases.0
     (sym c.in-Some-point_after.ensures) (sym c.in-Some-tails_after.ensures)
 
-pub octets-preserved-then-stays : goal.octets-preserved-then-stays
-octets-preserved-then-stays c =
-    walked_step c.args.body.now c.octets.rest.now _ _ c.octets.tails.now c.octets.tails.now c.in-Some.octet.now c.in-Some.more.now c.octets.invariant c.in-Some.ensures.cases.0 (c.if-stays.ensures.point refl) (c.if-stays.ensures.tails refl)
+pub octets-preserved-then-is_ascii_where_none_due : goal.octets-preserved-then-is_ascii_where_none_due
+octets-preserved-then-is_ascii_where_none_due c =
+    let none = c.is_ascii_where_none_due.ensures.none c.if-is_ascii_where_none_due.true in
+    let stepped = walked_step c.args.body.now c.octets.rest.now _ _ c.octets.tails.now c.octets.tails.now c.in-Some.octet.now c.in-Some.more.now c.octets.invariant c.in-Some.ensures.cases.0
+    (sym c.in-Some-point_after.ensures) (c.is_ascii_where_none_due.ensures.tails c.if-is_ascii_where_none_due.true) in
+    let point = point_in c.in-Some-point_after.next_point in
+    subst (Walked c.args.body.now c.after_staying-rest.result.now point) (sym none)
+    (walked_over c.args.body.now c.in-Some.more.now c.after_staying-rest.result.now point c.after_staying-rest.ensures (subst (Walked c.args.body.now c.in-Some.more.now point) none stepped))
 
 pub returns-in_default-point_after-clause-good_prefix : goal.returns-in_default-point_after-clause-good_prefix
 returns-in_default-point_after-clause-good_prefix c =
