@@ -19,9 +19,9 @@ meets (Some r) criteria item = list_all (λ criterion. link_matches criterion it
 meets None criteria item = list_all (λ criterion. link_matches criterion item) criteria
 
 -- what the first criterion seeks that the endpoint does not meet by itself, the criteria after it, and answers for the first of these
-pub record IsSifted (criteria : List Criterion) (r : Record) (first : Option Sought) (rest : List Criterion) (left : List Bool) : Type 0 where
-  pub judged : AreJudged r left rest
-  pub listed : (item : Item) → (is_found_if_any first item && meets (Some r) rest item) ≡ meets (Some r) criteria item
+pub record IsSifted (criteria : List Criterion) (answers : List Bool) (first : Option Sought) (rest : List Criterion) (left : List Bool) : Type 0 where
+  pub judged : (r : Record) → AreJudged r answers criteria → AreJudged r left rest
+  pub listed : (r : Record) → AreJudged r answers criteria → (item : Item) → (is_found_if_any first item && meets (Some r) rest item) ≡ meets (Some r) criteria item
 
 -- the link passes through the sieve
 abbrev pub sifts : Sieve → Item → Bool

@@ -92,10 +92,9 @@ fn append_sifted(
     Ok((0, items.len() as u64))
 }
 
-/// The same as `append_links`, for a query of several criteria, which are judged once for all
-/// links.
-#[inline(never)]
-fn append_judged(
+/// Appends the lines of the links that are listed, after the first `skip` and at most `most`, and
+/// answers how many it skipped and wrote. Out of memory, the octets are as before.
+pub fn append_links(
     query: &Query,
     owner: Option<&Record>,
     items: &Items,
@@ -113,33 +112,6 @@ fn append_judged(
 {
     let judged = judge(query, owner);
     let sieve = Sieve::of(query, owner, &judged);
-    append_sifted(&sieve, items, skip, most, into)
-}
-
-/// Appends the lines of the links that are listed, after the first `skip` and at most `most`, and
-/// answers how many it skipped and wrote. Out of memory, the octets are as before. One criterion
-/// alone is judged as the sieve is made, so that no answers have to be kept.
-#[tactic(auto, using(crate::proofs::SieveLaws::none_judged))]
-pub fn append_links(
-    query: &Query,
-    owner: Option<&Record>,
-    items: &Items,
-    skip: u64,
-    most: u64,
-    into: &mut Bytes,
-) -> Result<(u64, u64), Starved>
-    ensures text { OnOk result (into.new ≡ appended into.old
-        (shown_lines skip most (listed_lines query.now (option_copied owner.entry) items.now))) }
-    ensures skipped { IfOk result (λ counts. counts.0 ≡ min skip
-        (length (listed_lines query.now (option_copied owner.entry) items.now))) }
-    ensures written { IfOk result (λ counts. counts.1 ≡ length
-        (shown_lines skip most (listed_lines query.now (option_copied owner.entry) items.now))) }
-    ensures starved { OnErr result (into.new ≡ into.old) }
-{
-    if query.criteria.as_slice().len() > 1 {
-        return append_judged(query, owner, items, skip, most, into);
-    }
-    let sieve = Sieve::of(query, owner, &[]);
     append_sifted(&sieve, items, skip, most, into)
 }
 

@@ -1,12 +1,11 @@
 //! Which links of one registration a query lists, told once for all of them (RFC 9176 section 6.2).
-ghost use Rattle.std.specs.Prelude.{◌≡◌, ◌||◌, ◌∷◌, List, true, IsTrue};
+ghost use Rattle.std.specs.Prelude.{◌≡◌, ◌||◌, true, IsTrue};
 ghost use Rattle.std.specs.List.{list_all};
 ghost use Rattle.std.specs.Option.{option_copied};
 ghost use Rattle.rd_base.specs.declared.records.Item.{Item};
 ghost use Rattle.record_model.specs.Matching as model;
 ghost use Rattle.listing.specs.JudgedEndpoints.{AreJudged, AreJudgedOf};
-ghost use Rattle.listing.specs.Sieves.{IsJudged, IsSieve, IsSifted, meets, sifts};
-ghost use Rattle.listing.specs.SoughtLinks.{is_found_if_any};
+ghost use Rattle.listing.specs.Sieves.{IsJudged, IsSieve, IsSifted, sifts};
 
 use crate::criteria::{endpoint_matches, link_matches};
 use crate::sought::Sought;
@@ -25,39 +24,21 @@ pub(crate) struct Sieve<'a> {
     judged: &'a [bool],
 }
 
-/// Whether the criterion matches the endpoint by itself, by the first of the answers where one is
-/// left, and the answers after that.
-fn split_answer<'a>(
-    criterion: &Criterion,
-    judged: &'a [bool],
-    record_of: &Record,
-) -> (bool, &'a [bool])
-    ensures { (more : List Criterion)
-        → AreJudged record_of.now judged.now (criterion.now ∷ more)
-        → (result.0 ≡ model.endpoint_matches criterion.now record_of.now)
-        × AreJudged record_of.now result.1.now more }
-{
-    match judged.split_first() {
-        Some((answer, further)) => (*answer, further),
-        None => (endpoint_matches(criterion, record_of), judged),
-    }
-}
-
 /// What the first criterion seeks that does not match the endpoint by itself, the criteria after
 /// it, and the answers for the first of these.
 fn sift<'a>(
     criteria: &'a [Criterion],
     judged: &'a [bool],
-    record_of: &Record,
 ) -> (Option<Sought<'a>>, &'a [Criterion], &'a [bool])
-    requires { AreJudged record_of.now judged.now criteria.now }
-    ensures { IsSifted criteria.now record_of.now result.0 result.1.now result.2.now }
+    ensures { IsSifted criteria.now judged.now result.0 result.1.now result.2.now }
 {
     let mut rest = criteria;
     let mut left = judged;
     'criteria: while let Some((criterion, more)) = rest.split_first() {
-        let (by_endpoint, further) = split_answer(criterion, left, record_of);
-        if !by_endpoint {
+        let Some((answer, further)) = left.split_first() else {
+            return (None, rest, left);
+        };
+        if !*answer {
             return (Some(Sought::of(criterion)), more, further);
         }
         rest = more;
@@ -68,6 +49,7 @@ fn sift<'a>(
 
 /// Whether each criterion matches the link by itself or its endpoint by itself, where the first
 /// answers tell of the endpoint.
+#[inline(never)]
 fn link_listed_by(
     criteria: &[Criterion],
     judged: &[bool],
@@ -81,19 +63,25 @@ fn link_listed_by(
     let mut rest = criteria;
     let mut left = judged;
     'criteria: while let Some((criterion, more)) = rest.split_first() {
-        let (by_endpoint, further) = split_answer(criterion, left, record_of);
+        let by_endpoint = match left.split_first() {
+            Some((answer, further)) => {
+                left = further;
+                *answer
+            }
+            None => endpoint_matches(criterion, record_of),
+        };
         if !by_endpoint {
             if !link_matches(criterion, link) {
                 return false;
             }
         }
         rest = more;
-        left = further;
     }
     true
 }
 
 /// Whether each criterion matches the link by itself.
+#[inline(never)]
 fn own_link_listed(criteria: &[Criterion], link: &Link<'_>) -> bool
     ensures { result ≡ list_all (λ criterion. model.link_matches criterion link.now) criteria.now }
 {
@@ -110,7 +98,7 @@ impl<'a> Sieve<'a> {
         ensures { IsSieve query.now (option_copied owner.entry) result }
     {
         let criteria = query.criteria.as_slice();
-        let Some(record_of) = owner else {
+        let Some(_) = owner else {
             return Sieve {
                 owner,
                 first: None,
@@ -118,7 +106,7 @@ impl<'a> Sieve<'a> {
                 judged,
             };
         };
-        let (first, rest, judged) = sift(criteria, judged, record_of);
+        let (first, rest, judged) = sift(criteria, judged);
         Sieve {
             owner,
             first,
@@ -127,41 +115,20 @@ impl<'a> Sieve<'a> {
         }
     }
 
-    /// Whether the link has what the first criterion seeks, where it seeks something.
-    fn has_first(&self, link: &Link<'_>) -> bool
-        ensures { result ≡ is_found_if_any self.now.first link.now }
-    {
-        match &self.first {
-            Some(sought) => sought.is_in(link),
-            None => true,
-        }
-    }
-
-    /// Whether the criteria after that list the link.
-    #[inline(never)]
-    fn rest_lists(&self, link: &Link<'_>) -> bool
-        requires { IsJudged self.now }
-        ensures { result ≡ meets (option_copied self.now.owner) self.now.rest.now link.now }
-    {
-        match self.owner {
-            Some(record_of) => link_listed_by(self.rest, self.judged, record_of, link),
-            None => own_link_listed(self.rest, link),
-        }
-    }
-
     /// Whether the query lists the link.
-    #[tactic(auto, using(crate::proofs::SieveLaws::none_to_meet))]
     pub(crate) fn lists(&self, link: &Link<'_>) -> bool
         requires { IsJudged self.now }
         ensures { result ≡ sifts self.now link.now }
     {
-        if !self.has_first(link) {
-            return false;
+        if let Some(sought) = &self.first {
+            if !sought.is_in(link) {
+                return false;
+            }
         }
-        if self.rest.is_empty() {
-            return true;
+        match self.owner {
+            Some(record_of) => link_listed_by(self.rest, self.judged, record_of, link),
+            None => own_link_listed(self.rest, link),
         }
-        self.rest_lists(link)
     }
 
     /// Whether the query lists all links, whatever they are: where each criterion matches the
