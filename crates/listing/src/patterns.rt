@@ -1,5 +1,5 @@
 //! Patterns against values (RFC 6690 section 4.1).
-ghost use Rattle.std.specs.Prelude.{◌≡◌, ◌==◌, ◌&&◌, ◌≤◌, ℕ, List, None, false, length};
+ghost use Rattle.std.specs.Prelude.{◌≡◌, ◌==◌, ◌&&◌, ◌≤◌, ℕ, List, None, true, false, length};
 ghost use Rattle.std.specs.Prelude.{bytes_eq, not};
 ghost use Rattle.link_model.specs.Characters.{is_empty};
 ghost use Rattle.std.specs.Option.{option_copied};
@@ -29,6 +29,27 @@ pub fn before_wildcard(pattern: &str) -> Option<&str>
     pattern.strip_suffix('*')
 }
 
+/// Whether the last octets of both texts are the same.
+fn end_alike(text: &str, other: &str) -> bool
+    ensures { text.now ≡ other.now → result ≡ true }
+{
+    text.as_bytes().last() == other.as_bytes().last()
+}
+
+/// Whether both texts are the same. Values that differ mostly have another length or another last
+/// octet, which is found before all octets are compared.
+fn same_text(text: &str, other: &str) -> bool
+    ensures { result ≡ bytes_eq text.now other.now }
+{
+    if text.len() != other.len() {
+        return false;
+    }
+    if !end_alike(text, other) {
+        return false;
+    }
+    text == other
+}
+
 /// A pattern that is cut once for all values.
 #[derive(Clone, Copy)]
 pub(crate) enum Pattern<'a> {
@@ -55,7 +76,7 @@ impl<'a> Pattern<'a> {
     {
         match self {
             Pattern::Front(front) => value.starts_with(*front),
-            Pattern::Whole(text) => value == *text,
+            Pattern::Whole(text) => same_text(value, text),
         }
     }
 
@@ -157,7 +178,7 @@ fn is_short_part(text: &str, value: &str) -> bool
     requires { length value.now ≤ length text.now }
     ensures { result ≡ list_any (λ part. bytes_eq part text.now) (model.parts_of value.now) }
 {
-    value == text && is_one_part(value)
+    same_text(value, text) && is_one_part(value)
 }
 
 /// Whether the pattern matches a value of the name: one part of it where the name's values are
