@@ -1,6 +1,6 @@
 -- Fronts: where those of two names and values differ, they are ordered as these are.
 use Rattle.std.proofs.Common.{◌≡◌, ℕ, zero, suc, ◌+◌, ◌*◌, ◌%◌, ◌<◌, ◌≤◌, ◌-◌, arith, drop, length, get_or, List, [], ◌∷◌, map, nat_cmp, refl, sym, ap, ◌∙◌, subst}
-use Rattle.std.proofs.Math.Seq.{drop-drop}
+use Rattle.std.proofs.Math.Seq.{drop-drop, drop-nil}
 use Rattle.std.specs.declared.cmp.Ordering.{Ordering}
 use Rattle.std.specs.declared.cmp.Ordering.TheVariants.{Less, Equal, Greater}
 use Rattle.std.specs.Ordering.{ordering_then, MatchOrdering}
@@ -358,3 +358,31 @@ value_digit (suc n) k [] value e h =
     subst (λ (m : ℕ). digit_of (drop m (map (λ octet. octet + 1) value)) ≡ get_or value k 0 + 2)
     (sym same) (text_digit k value h)
 value_digit (suc n) k (octet ∷ name) value e h = value_digit n k name value (omega arith) h
+
+-- past the last symbol
+no_symbols : (n : ℕ) (name value : List ℕ) → length name + length value < n
+    → drop n (symbols_of (name, value)) ≡ []
+no_symbols zero name value h = absurd (omega arith)
+no_symbols (suc n) [] value h = none n value (omega arith)
+  where
+    none : (m : ℕ) (text : List ℕ) → length text ≤ m
+        → drop m (map (λ octet. octet + 1) text) ≡ []
+    none zero [] h = refl
+    none (suc m) [] h = refl
+    none zero (octet ∷ text) h = absurd (omega arith)
+    none (suc m) (octet ∷ text) h = none m text (omega arith)
+no_symbols (suc n) (octet ∷ name) value h = no_symbols n name value (omega arith)
+
+spelled_nothing : (n : ℕ) → 0 ≡ spelled n []
+unfolding spelled
+spelled_nothing zero = refl
+spelled_nothing (suc n) =
+    let none : digit_of (drop n []) ≡ 0 = ap digit_of (drop-nil n) in
+    let rest : 0 ≡ spelled n [] = spelled_nothing n in
+    omega arith
+
+pub spelled_past : (n from : ℕ) (name value : List ℕ) → length name + length value < from
+    → 0 ≡ spelled n (drop from (symbols_of (name, value)))
+spelled_past n from name value h =
+    spelled_nothing n
+    ∙ ap (λ (ss : List ℕ). spelled n ss) (sym (no_symbols from name value h))

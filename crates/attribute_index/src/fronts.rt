@@ -43,6 +43,9 @@ fn number_at(name: &[u8], value: &[u8], from: usize) -> u64
     requires { from ≤ 14 }
     ensures { result ≡ spelled 7 (drop from (symbols_of (name.now, value.now))) }
 {
+    if name.len() + value.len() < from {
+        return 0;
+    }
     let mut number = 0;
     for i in 0..SYMBOLS {
         number = number * BASE + digit_at(name, value, from + i);

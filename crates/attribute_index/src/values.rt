@@ -12,6 +12,7 @@ ghost use Rattle.std.proofs.lemmas.Cmp.{
   and_equiv,
   on_equiv,
 };
+ghost use Rattle.attribute_index.specs.Fronts.{IsFront};
 ghost use Rattle.attribute_index.specs.Rows.{value_cmp, is_same_value};
 
 use crate::fronts::Front;
@@ -22,15 +23,22 @@ use std::cmp::Ordering;
 use std::marker::Model;
 use std::sync::Arc;
 
+/// A name and a value, with what orders them among most others without a look at their texts.
+#[derive(Drop)]
+struct Fronted {
+    /// The front of the two.
+    front: Front,
+    /// The name and the value.
+    pair: Pair,
+}
+
 /// A name with a value of it, or with one part of the value. Values are ordered by their names,
 /// those of one name by their texts. What is shared of one shares the texts. Contracts see it as
 /// the name and the value.
 #[derive(Drop)]
 pub struct Value {
-    /// What orders it among most values without a look at its texts.
-    front: Front,
     /// The name and the value, which no version copies.
-    pair: Arc<Pair>,
+    fronted: Arc<Fronted>,
 }
 
 impl Model for Value {
@@ -40,9 +48,10 @@ impl Model for Value {
 
     ghost Value = { List ℕ × List ℕ };
 
-    ghost view = { λ v. ((arc_value v.pair).name, (arc_value v.pair).value) };
+    ghost view = { λ v. ((arc_value v.fronted).pair.name, (arc_value v.fronted).pair.value) };
 
-    ghost invariant = { λ v. IsFront v.front ((arc_value v.pair).name, (arc_value v.pair).value) };
+    ghost invariant = { λ v. IsFront (arc_value v.fronted).front
+        ((arc_value v.fronted).pair.name, (arc_value v.fronted).pair.value) };
 }
 
 impl Value {
@@ -53,24 +62,33 @@ impl Value {
         let front = Front::of(name.as_bytes(), value.as_bytes());
         let name = Text::copy_of(alloc, name)?;
         let value = Text::copy_of(alloc, value)?;
-        let pair = Arc::new(alloc, Pair { name, value })?;
-        Ok(Value { front, pair })
+        let pair = Pair { name, value };
+        let fronted = Arc::new(alloc, Fronted { front, pair })?;
+        Ok(Value { fronted })
     }
 
     /// The name.
     pub(crate) fn name(&self) -> &str
         ensures { result.now ≡ self.now.0 }
     {
-        let pair: &Pair = &*self.pair;
-        pair.name.as_str()
+        let fronted: &Fronted = &*self.fronted;
+        fronted.pair.name.as_str()
     }
 
     /// The value without its name.
     pub(crate) fn value(&self) -> &str
         ensures { result.now ≡ self.now.1 }
     {
-        let pair: &Pair = &*self.pair;
-        pair.value.as_str()
+        let fronted: &Fronted = &*self.fronted;
+        fronted.pair.value.as_str()
+    }
+
+    /// The front of its name and its value.
+    fn front(&self) -> &Front
+        ensures { IsFront result.now self.now }
+    {
+        let fronted: &Fronted = &*self.fronted;
+        &fronted.front
     }
 
     /// How it is ordered by its texts.
@@ -88,9 +106,10 @@ impl Value {
     fn order(&self, other: &Value) -> Ordering
         ensures { result ≡ value_cmp self.now other.now }
     {
-        match self.front.cmp(&other.front) {
+        let front = self.front();
+        match front.cmp(other.front()) {
             Ordering::Equal => {
-                if self.front.is_whole() {
+                if front.is_whole() {
                     return Ordering::Equal;
                 }
                 self.order_of_texts(other)
@@ -103,11 +122,8 @@ impl Value {
 /// An equal value, which shares the texts.
 impl Shared for Value {
     fn share(&self) -> Result<Value, Starved> {
-        let pair = Arc::try_clone(&self.pair)?;
-        Ok(Value {
-            front: self.front,
-            pair,
-        })
+        let fronted = Arc::try_clone(&self.fronted)?;
+        Ok(Value { fronted })
     }
 }
 

@@ -36,8 +36,8 @@ fn borrowed(pair: &Pair) -> PairRef<'_>
     }
 }
 
-/// The attributes that each endpoint has: its base, its name, its sector where it has one, and its type (RFC 9176 section
-/// 6.4). `Starved`: out of memory.
+/// The attributes that each endpoint has: its base, its name, its sector where it has one, and its
+/// type (RFC 9176 section 6.4). `Starved`: out of memory.
 fn own_attributes(alloc: Global, record_of: &Record) -> Result<Vec<Pair>, Starved>
     ensures { IfOk result (λ pairs. pairs.items ≡ own_pairs record_of.now) }
 {
@@ -60,7 +60,9 @@ fn with_pairs(
     number: u64,
 ) -> Result<AttributeIndex, Starved>
     requires { IsAscending index }
-    ensures entries { IfOk result (λ after. (e : Entry) → has_entry after e ≡ (has_entry index e || has_entry (entries_of_all pairs.now number) e)) }
+    ensures entries { IfOk result
+        (λ after. (e : Entry) → has_entry after e
+        ≡ (has_entry index e || has_entry (entries_of_all pairs.now number) e)) }
     ensures ascends { IfOk result (λ after. IsAscending after) }
 {
     let mut after = index;
@@ -80,7 +82,9 @@ fn without_pairs(
     number: u64,
 ) -> Result<AttributeIndex, Starved>
     requires { IsAscending index }
-    ensures entries { IfOk result (λ after. (e : Entry) → has_entry after e ≡ (has_entry index e && not (has_entry (entries_of_all pairs.now number) e))) }
+    ensures entries { IfOk result
+        (λ after. (e : Entry) → has_entry after e
+        ≡ (has_entry index e && not (has_entry (entries_of_all pairs.now number) e))) }
     ensures ascends { IfOk result (λ after. IsAscending after) }
 {
     let mut after = index;
@@ -113,7 +117,8 @@ fn with_link_pairs(
     Ok(after)
 }
 
-/// The index with the attributes of these links of the record of this number. `Starved`: out of memory.
+/// The index with the attributes of these links of the record of this number. `Starved`: out of
+/// memory.
 fn with_links(
     alloc: Global,
     index: AttributeIndex,
@@ -154,7 +159,8 @@ fn without_link_pairs(
     Ok(after)
 }
 
-/// The index without the attributes of these links of the record of this number. `Starved`: out of memory.
+/// The index without the attributes of these links of the record of this number. `Starved`: out of
+/// memory.
 fn without_links(
     alloc: Global,
     index: AttributeIndex,
@@ -182,7 +188,9 @@ fn with_record(
     record_of: &Record,
 ) -> Result<AttributeIndex, Starved>
     requires { IsAscending index }
-    ensures entries { IfOk result (λ after. (e : Entry) → has_entry after e ≡ (has_entry index e || has_entry (record_entries record_of.now) e)) }
+    ensures entries { IfOk result
+        (λ after. (e : Entry) → has_entry after e
+        ≡ (has_entry index e || has_entry (record_entries record_of.now) e)) }
     ensures ascends { IfOk result (λ after. IsAscending after) }
 {
     let own = own_attributes(alloc, record_of)?;
@@ -200,12 +208,33 @@ pub(crate) fn index_with(
     index: &AttributeIndex,
     record_of: &Record,
 ) -> Result<AttributeIndex, Starved>
-    ensures entries { IfOk result (λ after. (e : Entry) → has_entry after e ≡ (has_entry index.now e || has_entry (record_entries record_of.now) e)) }
+    ensures entries { IfOk result
+        (λ after. (e : Entry) → has_entry after e
+        ≡ (has_entry index.now e || has_entry (record_entries record_of.now) e)) }
     ensures ascends { IfOk result (λ after. IsAscending after) }
 {
     let shared = index.share(alloc)?;
     let after = with_record(alloc, shared, record_of)?;
     Ok(after)
+}
+
+/// This index without a record. `Starved`: out of memory.
+pub(crate) fn without_record(
+    alloc: Global,
+    index: AttributeIndex,
+    record_of: &Record,
+) -> Result<AttributeIndex, Starved>
+    requires { IsAscending index }
+    ensures entries { IfOk result (λ after. (e : Entry) → has_entry after e
+        ≡ (has_entry index e && not (has_entry (record_entries record_of.now) e))) }
+    ensures ascends { IfOk result (λ after. IsAscending after) }
+{
+    let own = own_attributes(alloc, record_of)?;
+    let number = record_of.number;
+    let index = without_pairs(alloc, index, own.as_slice(), number)?;
+    let index = without_pairs(alloc, index, record_of.attrs.as_slice(), number)?;
+    let index = without_links(alloc, index, record_of.items.links(), number)?;
+    Ok(index)
 }
 
 /// The index without a record. `Starved`: out of memory.
@@ -214,15 +243,13 @@ pub(crate) fn index_without(
     index: &AttributeIndex,
     record_of: &Record,
 ) -> Result<AttributeIndex, Starved>
-    ensures entries { IfOk result (λ after. (e : Entry) → has_entry after e ≡ (has_entry index.now e && not (has_entry (record_entries record_of.now) e))) }
+    ensures entries { IfOk result (λ after. (e : Entry) → has_entry after e
+        ≡ (has_entry index.now e && not (has_entry (record_entries record_of.now) e))) }
     ensures ascends { IfOk result (λ after. IsAscending after) }
 {
-    let own = own_attributes(alloc, record_of)?;
-    let number = record_of.number;
-    let index = without_pairs(alloc, index.share(alloc)?, own.as_slice(), number)?;
-    let index = without_pairs(alloc, index, record_of.attrs.as_slice(), number)?;
-    let index = without_links(alloc, index, record_of.items.links(), number)?;
-    Ok(index)
+    let shared = index.share(alloc)?;
+    let after = without_record(alloc, shared, record_of)?;
+    Ok(after)
 }
 
 /// Whether two links carry the same attributes.
@@ -250,11 +277,12 @@ fn carry_alike(links: Links<'_>, others: Links<'_>) -> bool
     right.is_empty()
 }
 
-/// Whether the links of two records carry the same attributes. Links that were kept do, and are not
-/// compared.
+/// Whether the links of two records carry the same attributes. Links that were kept do, and are
+/// not compared.
 fn links_carry_alike(old: &Record, new: &Record, links: LinksAfter) -> bool
     requires { AreAfter links old.now.items new.now.items }
-    ensures { IsTrue result ↔ (map (λ item. item.pairs) old.now.items ≡ map (λ item. item.pairs) new.now.items) }
+    ensures { IsTrue result
+        ↔ (map (λ item. item.pairs) old.now.items ≡ map (λ item. item.pairs) new.now.items) }
 {
     match links {
         LinksAfter::Kept => true,
@@ -262,7 +290,8 @@ fn links_carry_alike(old: &Record, new: &Record, links: LinksAfter) -> bool
     }
 }
 
-/// Whether two records of one number and one name carry the same attributes, so that they have the same entries.
+/// Whether two records of one number and one name carry the same attributes, so that they have the
+/// same entries.
 fn is_indexed_alike(old: &Record, new: &Record, links: LinksAfter) -> bool
     requires numbered { new.now.number ≡ old.now.number }
     requires named { new.now.name ≡ old.now.name }
@@ -272,8 +301,9 @@ fn is_indexed_alike(old: &Record, new: &Record, links: LinksAfter) -> bool
     old.base == new.base && old.attrs == new.attrs && links_carry_alike(old, new, links)
 }
 
-/// The index with a record in place of one of its number and its name. Where both carry the same attributes, as where only a
-/// lease begins anew, that is the index as it is. `Starved`: out of memory.
+/// The index with a record in place of one of its number and its name. Where both carry the same
+/// attributes, as where only a lease begins anew, that is the index as it is. `Starved`: out of
+/// memory.
 pub(crate) fn index_renewed(
     alloc: Global,
     index: &AttributeIndex,
@@ -284,7 +314,9 @@ pub(crate) fn index_renewed(
     requires numbered { new.now.number ≡ old.now.number }
     requires named { new.now.name ≡ old.now.name }
     requires links { AreAfter links old.now.items new.now.items }
-    ensures { (records : List Record) → PairsByRecursion IsBelow records → numbered old.now.number records ≡ Some old.now → AreEntriesOf records index.now → IfOk result (AreEntriesOf (renewed new.now records)) }
+    ensures { (records : List Record) → PairsByRecursion IsBelow records
+        → numbered old.now.number records ≡ Some old.now → AreEntriesOf records index.now
+        → IfOk result (AreEntriesOf (renewed new.now records)) }
 {
     if is_indexed_alike(old, new, links) {
         return index.share(alloc);

@@ -11,7 +11,7 @@ ghost use Rattle.directory_core.specs.NameSlots.{slots_of};
 ghost use Rattle.directory_core.specs.Swept.{without_all};
 
 use crate::Directory;
-use crate::index::index_without;
+use crate::index::without_record;
 use crate::names::Names;
 use crate::records::Records;
 use attribute_index::AttributeIndex;
@@ -32,20 +32,20 @@ fn names_without(records: &Records, names: &Names, number: u64) -> Result<Names,
     }
 }
 
-/// The index of records without that of this number.
+/// This index of records without that of this number.
 fn index_without_number(
     alloc: Global,
     records: &Records,
-    index: &AttributeIndex,
+    index: AttributeIndex,
     number: u64,
 ) -> Result<AttributeIndex, Starved>
     requires rising { PairsByRecursion IsBelow records.now }
-    requires entries { AreEntriesOf records.now index.now }
+    requires entries { AreEntriesOf records.now index }
     ensures { IfOk result (AreEntriesOf (without number records.now)) }
 {
     match records.get(number) {
-        Some(kept) => index_without(alloc, index, kept.as_record()),
-        None => index.share(alloc),
+        Some(kept) => without_record(alloc, index, kept.as_record()),
+        None => Ok(index),
     }
 }
 
@@ -71,7 +71,7 @@ fn without_numbers(
     let mut left = numbers;
     'numbers: while let Some((number, more)) = left.split_first() {
         names = names_without(&records, &names, *number)?;
-        index = index_without_number(alloc, &records, &index, *number)?;
+        index = index_without_number(alloc, &records, index, *number)?;
         records = records.take(*number)?;
         left = more;
     }
@@ -79,18 +79,24 @@ fn without_numbers(
 }
 
 impl Directory {
-    /// The version without the records that have lapsed at this moment, which is not before the last entry and not before
-    /// the last sweep. From this moment on it has the same live registrations, and the same entity tags: it stands for the
-    /// same history. It counts a step for each lease that has lapsed and was kept, and at most one more. This version is as
+    /// The version without the records that have lapsed at this moment, which is not before the
+    /// last entry and not before the last sweep. From this moment on it has the same live
+    /// registrations, and the same entity tags: it stands for the same history. It counts a step
+    /// for each lease that has lapsed and was kept, and at most one more. This version is as
     /// before. `Starved`: out of memory.
     pub fn sweep<L: Ledger>(&self, now: Moment, steps: &mut Steps<L>) -> Result<Directory, Starved>
         requires after_at { self.now.at ≤ now.0 }
         requires after_sweep { self.now.swept ≤ now.0 }
-        ensures stands { (first : ℕ) (history : List Entry) → VersionStandsFor first history self.now → IfOk result (VersionStandsFor first history) }
-        ensures live { IfOk result (λ version. (moment : ℕ) → now.0 ≤ moment → live_among moment version.records ≡ live_among moment self.now.records) }
+        ensures stands { (first : ℕ) (history : List Entry)
+            → VersionStandsFor first history self.now
+            → IfOk result (VersionStandsFor first history) }
+        ensures live { IfOk result
+            (λ version. (moment : ℕ) → now.0 ≤ moment → live_among moment version.records
+            ≡ live_among moment self.now.records) }
         ensures at { IfOk result (λ version. version.at ≡ self.now.at) }
         ensures swept { IfOk result (λ version. version.swept ≡ now.0) }
-        ensures counted { steps.new ≤ steps.old + (length (filter (λ r. nat_le (lapse r) now.0) self.now.records) + 1) }
+        ensures counted { steps.new ≤ steps.old
+            + (length (filter (λ r. nat_le (lapse r) now.0) self.now.records) + 1) }
     {
         let swept = self.leases.sweep(now, steps);
         let Ok(Swept { queue, numbers }) = swept else {

@@ -1,6 +1,6 @@
 use Rattle.std.proofs.Common.{◌≡◌, ◌<◌, ◌+◌, ◌*◌, suc, arith, subst}
 use Rattle.attribute_index.specs.Fronts.{symbols_of}
-use Rattle.attribute_index.proofs.FrontLaws.{limit, limit_room, spelled_more, spelled_none}
+use Rattle.attribute_index.proofs.FrontLaws.{limit, limit_room, spelled_more, spelled_none, spelled_past}
 use Rattle.attribute_index.proofs.fronts.number_at.Goals as goal
 
 pub loop-i-init : goal.loop-i-init
@@ -23,3 +23,7 @@ loop-i-preserved c =
           c.digit_at.ensures.digit;
       below = subst (λ n. c.loop-i.number * 512 + c.digit_at.result < limit n) e here;
     }
+
+pub returns-then-name-value : goal.returns-then-name-value
+returns-then-name-value c =
+    spelled_past 7 c.args.from c.args.name.now c.args.value.now (omega arith)

@@ -5,7 +5,9 @@ use Rattle.directory_core.proofs.index.carry_alike.Given as goal
 
 abbrev pub invariant-links : goal.invariant-links
 invariant-links l =
-    ◌≡◌ {A = List (List Pair)} (map (λ item. item.pairs) l.left) (map (λ item. item.pairs) l.right) ↔ ◌≡◌ {A = List (List Pair)} (map (λ item. item.pairs) l.fn.links) (map (λ item. item.pairs) l.fn.others)
+    ◌≡◌ {A = List (List Pair)} (map (λ item. item.pairs) l.left) (map (λ item. item.pairs) l.right)
+    ↔ ◌≡◌ {A = List (List Pair)} (map (λ item. item.pairs) l.fn.links)
+    (map (λ item. item.pairs) l.fn.others)
 
 abbrev pub decreases-links : goal.decreases-links
 decreases-links l = length l.left

@@ -9,13 +9,18 @@ returns-then-is_indexed_alike c records up found are =
     let old = c.args.old.now in
     let new = c.args.new.now in
     let index = c.args.index.now in
-    let there : numbered new.number records ≡ Some old = ap (λ n. numbered n records) c.requires.numbered ∙ found in
+    let there : numbered new.number records ≡ Some old =
+    ap (λ n. numbered n records) c.requires.numbered ∙ found in
     let alike = c.is_indexed_alike.ensures c.if-is_indexed_alike.true in
-    ok_shared c.share.result (renewed new records) (renewed new records) index refl (entries_kept records new old index up there alike are) c.share.ensures.same
+    ok_shared c.share.result (renewed new records) (renewed new records) index refl
+    (entries_kept records new old index up there alike are) c.share.ensures.same
 
 pub returns : goal.returns
 returns c records up found are =
     let old = c.args.old.now in
     let new = c.args.new.now in
-    let there : numbered new.number records ≡ Some old = ap (λ n. numbered n records) c.requires.numbered ∙ found in
-    ok_renewed c.with_record.result records new old c.args.index.now c.in_ok-left.left up there are c.in_ok-left.ensures.entries c.in_ok-left.ensures.ascends c.with_record.ensures.entries c.with_record.ensures.ascends
+    let there : numbered new.number records ≡ Some old =
+    ap (λ n. numbered n records) c.requires.numbered ∙ found in
+    ok_renewed c.with_record.result records new old c.args.index.now c.in_ok-left.left up there are
+    c.in_ok-left.ensures.entries c.in_ok-left.ensures.ascends c.with_record.ensures.entries
+    c.with_record.ensures.ascends

@@ -4,4 +4,7 @@ use Rattle.directory_core.specs.Bounds.{record_entries}
 use Rattle.directory_core.proofs.index.index_with.Goals as goal
 
 pub returns-clause-entries : goal.returns-clause-entries
-returns-clause-entries c e = c.in_ok-after.ensures.entries e ∙ ap (λ index. has_entry index e || has_entry (record_entries c.args.record_of.now) e) c.in_ok-shared.ensures.same
+returns-clause-entries c e =
+    c.in_ok-after.ensures.entries e
+    ∙ ap (λ index. has_entry index e || has_entry (record_entries c.args.record_of.now) e)
+    c.in_ok-shared.ensures.same

@@ -11,8 +11,12 @@ returns-then-eq-2 c same =
     let new = c.args.new.now in
     elim c.if-eq.branch [
       | then-eq w ↦
-          let base : old.base ≡ new.base = (bytes_eq-Decides old.base new.base).0 (sym c.eq.ensures ∙ w.if-eq.true) in
-          let attrs : old.attrs ≡ new.attrs = (pairs_decided old.attrs new.attrs w.eq-then-eq.result w.eq-then-eq.ensures).0 (sym w.value-is ∙ c.if-eq-2.true) in
-          entries_alike old new c.requires.numbered c.requires.named base attrs (c.links_carry_alike.ensures.0 same)
+          let base : old.base ≡ new.base =
+          (bytes_eq-Decides old.base new.base).0 (sym c.eq.ensures ∙ w.if-eq.true) in
+          let attrs : old.attrs ≡ new.attrs =
+          (pairs_decided old.attrs new.attrs w.eq-then-eq.result w.eq-then-eq.ensures).0
+          (sym w.value-is ∙ c.if-eq-2.true) in
+          entries_alike old new c.requires.numbered c.requires.named base attrs
+          (c.links_carry_alike.ensures.0 same)
       | else-eq w ↦ absurd (true≢false (sym c.if-eq-2.true ∙ w.value-is ∙ w.if-eq.false))
     ]

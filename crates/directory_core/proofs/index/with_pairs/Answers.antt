@@ -13,8 +13,13 @@ pairs-preserved c =
     let split : c.pairs.left.now ≡ pair ∷ more = search rules in
     record {
       entries = λ e.
-          with_step (has_entry c.pairs.after e) (has_entry c.in_ok-after.after e) (has_entry (entries_of pair number) e) (has_entry (entries_of_all more number) e) (has_entry (entries_of_all c.pairs.left.now number) e)
-          (c.in_ok-after.ensures.entries e ∙ ap (λ p. has_entry c.pairs.after e || has_entry (entries_of p number) e) c.borrowed.ensures) (ap (λ ps. has_entry (entries_of_all ps number) e) split ∙ has_entry-all pair more number e) ∙ c.pairs.invariant.entries e;
+          with_step (has_entry c.pairs.after e) (has_entry c.in_ok-after.after e)
+          (has_entry (entries_of pair number) e) (has_entry (entries_of_all more number) e)
+          (has_entry (entries_of_all c.pairs.left.now number) e)
+          (c.in_ok-after.ensures.entries e
+          ∙ ap (λ p. has_entry c.pairs.after e || has_entry (entries_of p number) e)
+          c.borrowed.ensures) (ap (λ ps. has_entry (entries_of_all ps number) e) split
+          ∙ has_entry-all pair more number e) ∙ c.pairs.invariant.entries e;
       ascends = c.in_ok-after.ensures.ascends;
     }
 
@@ -22,4 +27,7 @@ pub returns-clause-entries : goal.returns-clause-entries
 returns-clause-entries c e =
     let number = c.args.number in
     let none : c.pairs.left.now ≡ [] = nil_from_length _ c.in_default.ensures.cases in
-    sym (or_nothing (has_entry c.pairs.after e) (has_entry (entries_of_all c.pairs.left.now number) e) (ap (λ ps. has_entry (entries_of_all ps number) e) none ∙ no_pairs number e)) ∙ c.pairs.invariant.entries e
+    sym (or_nothing (has_entry c.pairs.after e)
+    (has_entry (entries_of_all c.pairs.left.now number) e)
+    (ap (λ ps. has_entry (entries_of_all ps number) e) none ∙ no_pairs number e))
+    ∙ c.pairs.invariant.entries e

@@ -13,8 +13,16 @@ links-preserved c =
     let split : c.links.left ≡ item ∷ more = c.in-Some.ensures.steps in
     record {
       entries = λ e.
-          without_step (has_entry c.links.after e) (has_entry c.in_ok-after.after e) (has_entry (entries_of_all item.pairs number) e) (has_entry (entries_of_all (item_pairs more) number) e) (has_entry (entries_of_all (item_pairs c.links.left) number) e)
-          (c.in_ok-after.ensures.entries e ∙ ap (λ ps. has_entry c.links.after e && not (has_entry (entries_of_all ps number) e)) c.pairs.ensures) (ap (λ is. has_entry (entries_of_all (item_pairs is) number) e) split ∙ has_entry-all_append item.pairs (item_pairs more) number e) ∙ c.links.invariant.entries e;
+          without_step (has_entry c.links.after e) (has_entry c.in_ok-after.after e)
+          (has_entry (entries_of_all item.pairs number) e)
+          (has_entry (entries_of_all (item_pairs more) number) e)
+          (has_entry (entries_of_all (item_pairs c.links.left) number) e)
+          (c.in_ok-after.ensures.entries e
+          ∙ ap (λ ps. has_entry c.links.after e
+          && not (has_entry (entries_of_all ps number) e)) c.pairs.ensures)
+          (ap (λ is. has_entry (entries_of_all (item_pairs is) number) e) split
+          ∙ has_entry-all_append item.pairs (item_pairs more) number e)
+          ∙ c.links.invariant.entries e;
       ascends = c.in_ok-after.ensures.ascends;
     }
 
@@ -22,4 +30,7 @@ pub returns-clause-entries : goal.returns-clause-entries
 returns-clause-entries c e =
     let number = c.args.number in
     let none : c.links.left ≡ [] = c.in_default.ensures.steps.0 in
-    sym (and_nothing (has_entry c.links.after e) (has_entry (entries_of_all (item_pairs c.links.left) number) e) (ap (λ is. has_entry (entries_of_all (item_pairs is) number) e) none ∙ no_pairs number e)) ∙ c.links.invariant.entries e
+    sym (and_nothing (has_entry c.links.after e)
+    (has_entry (entries_of_all (item_pairs c.links.left) number) e)
+    (ap (λ is. has_entry (entries_of_all (item_pairs is) number) e) none ∙ no_pairs number e))
+    ∙ c.links.invariant.entries e

@@ -8,11 +8,17 @@ pub returns-in-Some : goal.returns-in-Some
 returns-in-Some c =
     let rs = c.args.records.now in
     let number = c.args.number in
-    ok_so c.take.result (λ left. left ≡ slots_of (without number rs)) (without_slot (record { hash = hash_of c.as_record.result.now.name; number = number }) c.args.names.now) c.take.ensures
-    (ap (without_slot (record { hash = hash_of c.as_record.result.now.name; number = number })) c.requires.named
-    ∙ slots_without rs number c.in-Some.kept.now c.requires.rising (sym c.in-Some.ensures) c.as_record.result.now c.as_record.ensures)
+    ok_so c.take.result (λ left. left ≡ slots_of (without number rs))
+    (without_slot (record { hash = hash_of c.as_record.result.now.name; number = number })
+    c.args.names.now) c.take.ensures
+    (ap (without_slot (record { hash = hash_of c.as_record.result.now.name; number = number }))
+    c.requires.named
+    ∙ slots_without rs number c.in-Some.kept.now c.requires.rising (sym c.in-Some.ensures)
+    c.as_record.result.now c.as_record.ensures)
 
 pub returns-in-None : goal.returns-in-None
 returns-in-None c =
     let rs = c.args.records.now in
-    ok_so c.share.result (λ left. left ≡ slots_of (without c.args.number rs)) c.args.names.now c.share.ensures (c.requires.named ∙ ap slots_of (sym (without_none rs c.args.number (sym c.in-None.ensures))))
+    ok_so c.share.result (λ left. left ≡ slots_of (without c.args.number rs)) c.args.names.now
+    c.share.ensures (c.requires.named
+    ∙ ap slots_of (sym (without_none rs c.args.number (sym c.in-None.ensures))))

@@ -10,13 +10,19 @@ pub numbers-preserved : goal.numbers-preserved
 numbers-preserved c =
     let split : c.numbers.left.now ≡ c.in-Some.number.now ∷ c.in-Some.more.now = search rules in
     record {
-      left = ap (without_all c.in-Some.more.now) c.in_ok-records-2.ensures.records ∙ sym (all_first c.in-Some.number.now c.in-Some.more.now c.numbers.records) ∙ ap (λ ns. without_all ns c.numbers.records) (sym split) ∙ c.numbers.invariant.left;
+      left =
+          ap (without_all c.in-Some.more.now) c.in_ok-records-2.ensures.records
+          ∙ sym (all_first c.in-Some.number.now c.in-Some.more.now c.numbers.records)
+          ∙ ap (λ ns. without_all ns c.numbers.records) (sym split) ∙ c.numbers.invariant.left;
       rising = c.in_ok-records-2.ensures.rising;
       named = c.in_ok-names-2.ensures ∙ ap slots_of (sym c.in_ok-records-2.ensures.records);
-      entries = subst (λ rs. AreEntriesOf rs c.in_ok-index-2.index) (sym c.in_ok-records-2.ensures.records) c.in_ok-index-2.ensures;
+      entries =
+          subst (λ rs. AreEntriesOf rs c.in_ok-index-2.index)
+          (sym c.in_ok-records-2.ensures.records) c.in_ok-index-2.ensures;
     }
 
 pub returns-clause-records : goal.returns-clause-records
 returns-clause-records c =
     let none : c.numbers.left.now ≡ [] = nil_from_length _ c.in_default.ensures.cases in
-    sym (all_end c.numbers.records) ∙ ap (λ ns. without_all ns c.numbers.records) (sym none) ∙ c.numbers.invariant.left
+    sym (all_end c.numbers.records) ∙ ap (λ ns. without_all ns c.numbers.records) (sym none)
+    ∙ c.numbers.invariant.left
