@@ -4,7 +4,8 @@ ghost use Rattle.std.specs.Char.{is_ascii};
 ghost use Rattle.std.specs.List.{list_any};
 ghost use Rattle.link_model.specs.Characters as class;
 
-/// Whether the octet is one of these.
+/// Whether the octet is one of these. A call of its own, which letters and digits do without.
+#[inline(never)]
 fn is_one_of(octets: &[u8], octet: u8) -> bool
     ensures { result ≡ list_any (λ d. octet == d) octets.now }
 {

@@ -1,6 +1,7 @@
 //! Quoted strings within a text, and its first octet of a kind outside them (RFC 6690 section 2).
 ghost use Rattle.std.specs.Prelude.{◌≡◌, ℕ, ◌≤◌, ◌<◌, ◌+◌, length, drop, option_map};
-ghost use Rattle.link_format.specs.declared.cuts.Quotes.TheVariants.{Unread, Leading, Outside, Inside};
+ghost use Rattle.link_format.specs.declared.cuts.Quotes.TheVariants.{Unread, Leading};
+ghost use Rattle.link_format.specs.declared.cuts.Quotes.TheVariants.{Outside, Inside};
 ghost use Rattle.link_format.specs.Cuts as cuts;
 
 /// How a text is read: where it stands to quoted strings.
@@ -82,8 +83,8 @@ fn octets_before_outside(separator: u8, text: &[u8], outside: &[u8]) -> usize
     text.len()
 }
 
-/// How many octets stand before the first separator, where the first octet is none and begins no quoted string. In most
-/// rests of a link no further separator stands, within quoted strings or outside them.
+/// How many octets stand before the first separator, where the first octet is none and begins no
+/// quoted string. The last part of a link has no further one, within quoted strings or outside.
 fn octets_before_leading(separator: u8, text: &[u8]) -> usize
     ensures value { result ≡ cuts.octets_before separator Leading text.now }
     ensures within { result ≤ length text.now }

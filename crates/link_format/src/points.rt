@@ -79,6 +79,9 @@ fn point_in_target(octet: u8) -> Option<Point>
 fn point_within_name(octet: u8) -> Option<Point>
     ensures { option_map point_in result ≡ grammar.point_after grammar.within_name octet }
 {
+    if octet == b'=' {
+        return Some(Value);
+    }
     if is_name_character(octet) {
         return Some(WithinName);
     }

@@ -19,8 +19,8 @@ pub struct Reach {
     pub is_document: bool,
 }
 
-/// Whether an octet is one of those that leave the walk where it is, where no octet is due: most characters of targets,
-/// names and values do, and are found with few tests.
+/// Whether an octet is one of those that leave the walk where it is, where no octet is due: most
+/// characters of targets, names and values do, and are found with few tests.
 fn stays(point: Point, octet: u8) -> bool
     ensures point { IsTrue result → grammar.point_after (point_in point) octet ≡ Some (point_in point) }
     ensures tails { IsTrue result → tails_after [] octet ≡ Some [] }
@@ -34,7 +34,8 @@ fn stays(point: Point, octet: u8) -> bool
     }
 }
 
-/// What stands after the octets at the beginning that leave the walk where it is, where no octet is due.
+/// What stands after the octets at the beginning that leave the walk where it is, where no octet is
+/// due.
 fn after_staying(point: Point, octets: &[u8]) -> &[u8]
     ensures { StaysUpTo (point_in point) octets.now result.now }
 {
@@ -48,7 +49,8 @@ fn after_staying(point: Point, octets: &[u8]) -> &[u8]
     rest
 }
 
-/// Whether an octet is a character of its own, where no octet is due: one of ASCII, as nearly all are.
+/// Whether an octet is a character of its own, where no octet is due: one of ASCII, as nearly all
+/// are.
 fn is_ascii_where_none_due(tails: &[OctetRange], octet: u8) -> bool
     ensures none { IsTrue result → tails.now ≡ [] }
     ensures tails { IsTrue result → tails_after tails.now octet ≡ Some tails.now }

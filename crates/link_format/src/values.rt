@@ -71,7 +71,8 @@ fn unquoted<'a>(alloc: Global, value: &'a str) -> Result<Value<'a>, Starved>
     content(alloc, characters.as_str())
 }
 
-/// The characters up to a closing quote at the end, where neither a quote nor a backslash is among them.
+/// The characters up to a closing quote at the end, where neither a quote nor a backslash is among
+/// them.
 fn content_as_written(inner: &str) -> Option<&str>
     ensures { IfSome result (λ text. text.now ≡ quoting.content_up_to_quote false inner.now) }
 {
