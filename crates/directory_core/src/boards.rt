@@ -1,5 +1,6 @@
 //! Where a version is laid before it is published.
-ghost use Rattle.std.specs.Prelude.{◌≡◌, ◌≤◌, ℕ, Bool, false, Option, Some, None, List, IfSome, OnOk, OnErr};
+ghost use Rattle.std.specs.Prelude.{◌≡◌, ◌≤◌, ℕ, Bool, false, Option, Some, None, List, IfSome};
+ghost use Rattle.std.specs.Prelude.{OnOk, OnErr};
 ghost use Rattle.std.specs.Arc.{arc_value};
 ghost use Rattle.history_model.specs.declared.entries.Entry.{Entry};
 ghost use Rattle.history_model.specs.Versions.{Version};
@@ -23,15 +24,16 @@ pub trait Board {
     /// The version that is staged or that there is none, where it is told.
     ghost staged: { Self → Option (Option Version) };
 
-    /// Takes the version that is to be published next. Waits for nobody. `Starved`: out of memory, and the board is as
-    /// before.
+    /// Takes the version that is to be published next. Waits for nobody. `Starved`: out of memory,
+    /// and the board is as before.
     fn stage(&mut self, version: Arc<Directory>) -> Result<(), Starved>
         requires free { has_staged self.old ≡ false }
         requires swept { (arc_value version).swept ≤ (arc_value version).at }
         requires next { IfSome (told self.old) (λ history. HasOneMore history (arc_value version)) }
         ensures name { name self.new ≡ name self.old }
         ensures told { told self.new ≡ told self.old }
-        ensures staged { OnOk result (IfSome (staged self.old) (λ before. staged self.new ≡ Some (Some (arc_value version)))) }
+        ensures staged { OnOk result (IfSome (staged self.old)
+            (λ before. staged self.new ≡ Some (Some (arc_value version)))) }
         ensures untold { staged self.old ≡ None → staged self.new ≡ None }
         ensures same { OnErr result (staged self.new ≡ staged self.old) }
         ensures free { OnErr result (has_staged self.new ≡ false) };

@@ -18,7 +18,8 @@ pub struct Counts {
     pub text: u64,
 }
 
-/// The counts without a record, where it is there and lapses after this moment: else it was not counted.
+/// The counts without a record, where it is there and lapses after this moment: else it was not
+/// counted.
 fn counts_without(counts: Counts, kept: Option<&Kept>, from: Moment) -> Counts
     ensures { result ≡ without_lapse from.0 counts (option_copied kept.entry) }
 {

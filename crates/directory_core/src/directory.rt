@@ -10,10 +10,11 @@ use rd_base::{Moment, Starved};
 use std::alloc::Global;
 use std::marker::Model;
 
-/// A version of the directory. It stands for the history of the changes that made it, and answers every lookup as replaying
-/// that history would (RFC 9176 sections 5 and 6). A version never changes: a change makes another one, which shares all
-/// that did not change. Contracts see it as what a version shows: its records, how many entries it has, the moment of the
-/// last one, and what was dropped of it.
+/// A version of the directory. It stands for the history of the changes that made it, and answers
+/// every lookup as replaying that history would (RFC 9176 sections 5 and 6). A version never
+/// changes: a change makes another one, which shares all that did not change. Contracts see it as
+/// what a version shows: its records, how many entries it has, the moment of the last one, and what
+/// was dropped of it.
 #[derive(Drop)]
 pub struct Directory {
     /// The records that no sweep dropped, in ascending number.
@@ -24,7 +25,8 @@ pub struct Directory {
     pub(crate) leases: LeaseQueue,
     /// Which values of which attributes they carry, with their links.
     pub(crate) index: AttributeIndex,
-    /// How many of them were live at the moment of the last entry, or at that of the last sweep where that is later.
+    /// How many of them were live at the moment of the last entry, or at that of the last sweep
+    /// where that is later.
     pub(crate) live: u64,
     /// What those weighed together, in octets.
     pub(crate) text: u64,
@@ -49,13 +51,30 @@ impl Model for Directory {
 
     ghost Value = { Version };
 
-    ghost view = { λ d. record { records = d.records; entries = d.entries; at = d.at.0; last_number = d.last_number; swept_live = d.swept_live; swept = d.swept.0 } };
+    ghost view = { λ d. record {
+      records = d.records;
+      entries = d.entries;
+      at = d.at.0;
+      last_number = d.last_number;
+      swept_live = d.swept_live;
+      swept = d.swept.0;
+    } };
 
-    ghost invariant = { λ d. (IsKept (record { records = d.records; entries = d.entries; at = d.at.0; last_number = d.last_number; swept_live = d.swept_live; swept = d.swept.0 }) d.names d.leases d.live d.text) × AreEntriesOf d.records d.index };
+    ghost invariant = { λ d. (IsKept (record {
+      records = d.records;
+      entries = d.entries;
+      at = d.at.0;
+      last_number = d.last_number;
+      swept_live = d.swept_live;
+      swept = d.swept.0;
+    }) d.names
+        d.leases d.live d.text)
+        × AreEntriesOf d.records d.index };
 }
 
 impl Directory {
-    /// The version without a record. Its entries count from `first`. It keeps `alloc` for the versions that are made of it.
+    /// The version without a record. Its entries count from `first`. It keeps `alloc` for the
+    /// versions that are made of it.
     pub fn empty(alloc: Global, first: u64) -> Result<Directory, Starved>
         requires { first < 2 ^ 48 }
         ensures stands { IfOk result (λ version. VersionStandsFor first [] version) }

@@ -28,7 +28,8 @@ impl Model for Kept {
 
     ghost view = { λ k. arc_value k.shared };
 
-    ghost invariant = { λ k. (k.octets ≡ weight (arc_value k.shared)) × ((arc_value k.shared).granted.0 ≤ 10 ^ 15) };
+    ghost invariant = { λ k. (k.octets ≡ weight (arc_value k.shared))
+        × ((arc_value k.shared).granted.0 ≤ 10 ^ 15) };
 }
 
 impl Kept {

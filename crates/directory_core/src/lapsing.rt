@@ -14,8 +14,8 @@ use rd_base::{Moment, Record, Steps};
 use std::marker::{Brand, Model};
 use std::sync::ledger::{Blank, Ledger};
 
-/// Registrations that lapse: contracts see those that are left, in the order in which they lapse, those of one moment in
-/// ascending number.
+/// Registrations that lapse: contracts see those that are left, in the order in which they lapse,
+/// those of one moment in ascending number.
 #[derive(Drop)]
 pub struct LapsingIter<'a> {
     /// The records of the version.
@@ -46,8 +46,10 @@ fn next_lapsing<'a, L: Ledger>(
     requires name { blank.name ≡ L.name }
     requires parts { blank.parts ≡ L.parts }
     requires some { 0 < L.parts }
-    ensures next { IfSome result (λ r. lapsing_left from.0 records.now left.old ≡ r.now ∷ lapsing_left from.0 records.now left.new) }
-    ensures end { IfNone result ((lapsing_left from.0 records.now left.old ≡ []) × (lapsing_left from.0 records.now left.new ≡ [])) }
+    ensures next { IfSome result (λ r. lapsing_left from.0 records.now left.old ≡ r.now ∷
+        lapsing_left from.0 records.now left.new) }
+    ensures end { IfNone result ((lapsing_left from.0 records.now left.old ≡ []) ×
+        (lapsing_left from.0 records.now left.new ≡ [])) }
 {
     let mut steps = Steps::<L>::new(blank);
     'numbers: while let Some(number) = left.step(&mut steps) {
@@ -71,11 +73,14 @@ impl<'a> LapsingIter<'a> {
 }
 
 impl Directory {
-    /// The registrations that lapse after the first of these moments and not after the second, in the order in which they
-    /// lapse, those of one moment in ascending number. The first moment is not before the last sweep. Takes no memory.
+    /// The registrations that lapse after the first of these moments and not after the second, in
+    /// the order in which they lapse, those of one moment in ascending number. The first moment is
+    /// not before the last sweep. Takes no memory.
     pub fn lapsing(&self, from: Moment, to: Moment) -> LapsingIter<'_>
         requires { self.now.swept ≤ from.0 }
-        ensures { (first : ℕ) (history : List Entry) → VersionStandsFor first history self.now → result ≡ in_order_of_lapse (lapsing_among from.0 to.0 (replay history).records) }
+        ensures { (first : ℕ) (history : List Entry)
+            → VersionStandsFor first history self.now
+            → result ≡ in_order_of_lapse (lapsing_among from.0 to.0 (replay history).records) }
     {
         LapsingIter {
             records: &self.records,

@@ -1,4 +1,5 @@
-//! Versions of the directory: each stands for a history of changes, and never changes (RFC 9176 sections 5 and 6).
+//! Versions of the directory: each stands for a history of changes, and never changes (RFC 9176
+//! sections 5 and 6).
 #![tactic(auto)]
 
 mod boards;

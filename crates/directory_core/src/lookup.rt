@@ -15,8 +15,9 @@ use rd_base::{Bytes, Moment, Query, Starved, Steps};
 use std::sync::ledger::Ledger;
 
 impl Directory {
-    /// Gives a page the lines of the records that are live at this moment, in ascending number: it goes over the carriers of
-    /// the criterion that has fewest, and over all records where no criterion has carriers. `Starved`: out of memory.
+    /// Gives a page the lines of the records that are live at this moment, in ascending number: it
+    /// goes over the carriers of the criterion that has fewest, and over all records where no
+    /// criterion has carriers. `Starved`: out of memory.
     fn fill<L: Ledger>(
         &self,
         page: &mut Page,
@@ -24,8 +25,14 @@ impl Directory {
         now: Moment,
         steps: &mut Steps<L>,
     ) -> Result<(), Starved>
-        ensures lines { OnOk result (finished page.new [] ≡ finished page.old (live_lines query.now now.0 self.now.records)) }
-        ensures counted { (entries : List index.Entry) (criterion : Criterion) → AreEntriesOf self.now.records entries → Contains (attribute_criteria query.now.criteria) criterion → steps.new ≤ steps.old + length (attribute_criteria query.now.criteria) * (length (index.carriers_of criterion.name criterion.pattern entries) + 1) }
+        ensures lines { OnOk result (finished page.new [] ≡ finished page.old
+            (live_lines query.now now.0 self.now.records)) }
+        ensures counted { (entries : List index.Entry) (criterion : Criterion)
+            → AreEntriesOf self.now.records entries
+            → Contains (attribute_criteria query.now.criteria) criterion
+            → steps.new
+            ≤ steps.old + length (attribute_criteria query.now.criteria) *
+            (length (index.carriers_of criterion.name criterion.pattern entries) + 1) }
     {
         match fewest_carriers(self.alloc, &self.index, query.criteria.as_slice(), steps)? {
             Some(numbers) => {
@@ -35,11 +42,12 @@ impl Directory {
         }
     }
 
-    /// The listing of a lookup at this moment, which is not before the last entry and not before the last sweep. Where the
-    /// query has criteria about attributes, and not about targets or anchors alone, it counts at most so many steps: for
-    /// each of these criteria one, and one for each of the fewest carriers that any of them has. A carrier is a record with
-    /// a value that the criterion matches, once for each such value; of the attributes `rel`, `rev`, `rt` and `if` the
-    /// parts are values. `Starved`: out of memory.
+    /// The listing of a lookup at this moment, which is not before the last entry and not before
+    /// the last sweep. Where the query has criteria about attributes, and not about targets or
+    /// anchors alone, it counts at most so many steps: for each of these criteria one, and one for
+    /// each of the fewest carriers that any of them has. A carrier is a record with a value that
+    /// the criterion matches, once for each such value; of the attributes `rel`, `rev`, `rt` and
+    /// `if` the parts are values. `Starved`: out of memory.
     pub fn lookup<L: Ledger>(
         &self,
         query: &Query,
@@ -48,8 +56,15 @@ impl Directory {
     ) -> Result<Bytes, Starved>
         requires after_at { self.now.at ≤ now.0 }
         requires after_sweep { self.now.swept ≤ now.0 }
-        ensures listing { (first : ℕ) (history : List Entry) → VersionStandsFor first history self.now → IfOk result (λ octets. octets ≡ listing query.now history now.0) }
-        ensures counted { (entries : List index.Entry) (criterion : Criterion) → AreEntriesOf self.now.records entries → Contains (attribute_criteria query.now.criteria) criterion → steps.new ≤ steps.old + length (attribute_criteria query.now.criteria) * (length (index.carriers_of criterion.name criterion.pattern entries) + 1) }
+        ensures listing { (first : ℕ) (history : List Entry)
+            → VersionStandsFor first history self.now
+            → IfOk result (λ octets. octets ≡ listing query.now history now.0) }
+        ensures counted { (entries : List index.Entry) (criterion : Criterion)
+            → AreEntriesOf self.now.records entries
+            → Contains (attribute_criteria query.now.criteria) criterion
+            → steps.new
+            ≤ steps.old + length (attribute_criteria query.now.criteria) *
+            (length (index.carriers_of criterion.name criterion.pattern entries) + 1) }
     {
         let mut page = Page::of(self.alloc, query);
         self.fill(&mut page, query, now, steps)?;

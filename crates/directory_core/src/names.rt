@@ -64,7 +64,8 @@ fn hash_of(name: &Name) -> u64
     }
 }
 
-/// The numbers of records, each under the hash of its name. Contracts see them as the list of their slots.
+/// The numbers of records, each under the hash of its name. Contracts see them as the list of their
+/// slots.
 #[derive(Drop)]
 pub struct Names {
     /// The slots as keys, so that versions share those that did not change.
@@ -81,7 +82,8 @@ impl Model for Names {
     ghost view = { λ n. keys_of n.slots };
 }
 
-/// A cursor over the numbers under one hash: contracts see it as the numbers that are left, in ascending order.
+/// A cursor over the numbers under one hash: contracts see it as the numbers that are left, in
+/// ascending order.
 #[derive(Drop)]
 pub struct NumbersUnder<'a> {
     /// The slots that are left, those of later hashes too.
@@ -121,7 +123,8 @@ impl Names {
 
     /// The names with this number more, under this name. `Starved`: out of memory.
     pub(crate) fn put(&self, name: &Name, number: u64) -> Result<Names, Starved>
-        ensures { IfOk result (λ names. names ≡ hashes.with_slot (record { hash = hashes.hash_of name.now; number = number }) self.now) }
+        ensures { IfOk result (λ names. names ≡ hashes.with_slot
+            (record { hash = hashes.hash_of name.now; number = number }) self.now) }
     {
         let slot = NameSlot {
             hash: hash_of(name),
@@ -134,7 +137,8 @@ impl Names {
 
     /// The names without this number, which stands under this name. `Starved`: out of memory.
     pub(crate) fn take(&self, name: &Name, number: u64) -> Result<Names, Starved>
-        ensures { IfOk result (λ names. names ≡ hashes.without_slot (record { hash = hashes.hash_of name.now; number = number }) self.now) }
+        ensures { IfOk result (λ names. names ≡ hashes.without_slot
+            (record { hash = hashes.hash_of name.now; number = number }) self.now) }
     {
         let slot = NameSlot {
             hash: hash_of(name),
@@ -145,7 +149,8 @@ impl Names {
         })
     }
 
-    /// A cursor over the numbers under the hash of this name, which are those of all records of the name and of few others.
+    /// A cursor over the numbers under the hash of this name, which are those of all records of the
+    /// name and of few others.
     pub(crate) fn under(&self, name: &Name) -> NumbersUnder<'_>
         ensures { result ≡ hashes.numbers_of_hash (hashes.hash_of name.now) self.now }
     {

@@ -1,4 +1,5 @@
-//! Pages of listings, to which registrations give their lines one after another (RFC 9176 section 6).
+//! Pages of listings, to which registrations give their lines one after another (RFC 9176 section
+//! 6).
 ghost use Rattle.std.specs.Prelude.{◌≡◌, ◌<◌, ◌^◌, ◌++◌, [], ℕ, List, length, OnOk};
 ghost use Rattle.rd_base.proofs.lemmas.Pairs.{PairsByRecursion};
 ghost use Rattle.record_model.specs.ListingLines.{shown};
@@ -25,7 +26,9 @@ pub struct Page {
 impl Page {
     /// The page that a query asks for, before any line.
     pub(crate) fn of(alloc: Global, query: &Query) -> Page
-        ensures { (lines : List (List ℕ)) → length lines < 2 ^ 64 → finished result lines ≡ shown query.now lines }
+        ensures { (lines : List (List ℕ))
+            → length lines < 2 ^ 64
+            → finished result lines ≡ shown query.now lines }
     {
         let (skip, most) = page_bounds(query);
         Page {
@@ -35,9 +38,12 @@ impl Page {
         }
     }
 
-    /// Adds the lines that the record gives to the query where it is live at this moment. `Starved`: out of memory.
+    /// Adds the lines that the record gives to the query where it is live at this moment.
+    /// `Starved`: out of memory.
     fn add(&mut self, alloc: Global, query: &Query, kept: &Kept, now: Moment) -> Result<(), Starved>
-        ensures { OnOk result ((more : List (List ℕ)) → finished self.new more ≡ finished self.old (live_part query.now now.0 kept.now ++ more)) }
+        ensures { OnOk result ((more : List (List ℕ))
+            → finished self.new more
+            ≡ finished self.old (live_part query.now now.0 kept.now ++ more)) }
     {
         if !kept.is_live_at(now) {
             return Ok(());
@@ -55,8 +61,8 @@ impl Page {
         Ok(())
     }
 
-    /// Adds the lines of all records that are live at this moment, in ascending number; it goes no further once the page is
-    /// full. `Starved`: out of memory.
+    /// Adds the lines of all records that are live at this moment, in ascending number; it goes no
+    /// further once the page is full. `Starved`: out of memory.
     pub(crate) fn add_all<L: Ledger>(
         &mut self,
         alloc: Global,
@@ -65,7 +71,8 @@ impl Page {
         now: Moment,
         steps: &mut Steps<L>,
     ) -> Result<(), Starved>
-        ensures { OnOk result (finished self.new [] ≡ finished self.old (live_lines query.now now.0 records.now)) }
+        ensures { OnOk result (finished self.new [] ≡ finished self.old
+            (live_lines query.now now.0 records.now)) }
     {
         let mut left = records.all();
         'records: while let Some((_, kept)) = left.step(steps) {
@@ -89,7 +96,8 @@ impl Page {
         now: Moment,
     ) -> Result<(), Starved>
         requires rising { PairsByRecursion (λ m n. m < n) numbers.now }
-        ensures { OnOk result (finished self.new [] ≡ finished self.old (numbered_lines query.now now.0 records.now numbers.now)) }
+        ensures { OnOk result (finished self.new [] ≡ finished self.old
+            (numbered_lines query.now now.0 records.now numbers.now)) }
     {
         let mut seeker = records.seeker();
         let mut left = numbers;

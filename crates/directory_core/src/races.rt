@@ -1,5 +1,7 @@
-//! Which records can give a line to a query: cursors over the carriers of its criteria go on by turns until one of them ends.
-ghost use Rattle.std.specs.Prelude.{◌≡◌, ◌+◌, ◌*◌, ◌<◌, ◌≤◌, ℕ, length, map, Contains, IfOk, OnOk, IfSome, IfNone, vec_len, []};
+//! Which records can give a line to a query: cursors over the carriers of its criteria go on by
+//! turns until one of them ends.
+ghost use Rattle.std.specs.Prelude.{◌≡◌, ◌+◌, ◌*◌, ◌<◌, ◌≤◌, ℕ, length, map, Contains, IfOk};
+ghost use Rattle.std.specs.Prelude.{OnOk, IfSome, IfNone, vec_len, []};
 ghost use Rattle.std.specs.List.{AllByRecursion, HoldsAt};
 ghost use Rattle.rd_base.specs.declared.queries.Criterion.{Criterion};
 ghost use Rattle.rd_base.proofs.lemmas.Pairs.{PairsByRecursion};
@@ -54,7 +56,8 @@ fn is_of_attributes(criterion: &Criterion) -> bool
         && criterion.name.as_bytes() != b"anchor".as_slice()
 }
 
-/// A cursor at the first carrier of each criterion that is about attributes, in their order. `Starved`: out of memory.
+/// A cursor at the first carrier of each criterion that is about attributes, in their order.
+/// `Starved`: out of memory.
 fn racers_of<'a>(
     alloc: Global,
     index: &'a AttributeIndex,
@@ -78,13 +81,15 @@ fn racers_of<'a>(
     Ok(racers)
 }
 
-/// Lets the cursors go on by turns until one of them ends, and answers where that one stands. `Starved`: out of memory.
+/// Lets the cursors go on by turns until one of them ends, and answers where that one stands.
+/// `Starved`: out of memory.
 fn race<L: Ledger>(racers: &mut [Racer<'_>], steps: &mut Steps<L>) -> Result<usize, Starved>
     requires { 0 < length racers.old }
     ensures within { IfOk result (λ at. at < length racers.new) }
     ensures ended { IfOk result (λ at. HoldsAt (λ run. whole run ≡ run.given) racers.new at) }
     ensures same { OnOk result (map whole racers.new ≡ map whole racers.old) }
-    ensures counted { AllByRecursion (λ numbers. steps.new ≤ steps.old + length racers.old * (length numbers + 1)) (map whole racers.old) }
+    ensures counted { AllByRecursion (λ numbers. steps.new ≤ steps.old + length racers.old *
+        (length numbers + 1)) (map whole racers.old) }
 {
     let mut at = 0;
     'turns: while racers[at].advance(steps)? {
@@ -100,7 +105,8 @@ fn race<L: Ledger>(racers: &mut [Racer<'_>], steps: &mut Steps<L>) -> Result<usi
 fn fewest<L: Ledger>(mut racers: Vec<Racer<'_>>, steps: &mut Steps<L>) -> Result<Vec<u64>, Starved>
     requires { 0 < vec_len racers }
     ensures found { IfOk result (λ numbers. Contains (map whole racers.entry.items) numbers.items) }
-    ensures counted { AllByRecursion (λ numbers. steps.new ≤ steps.old + vec_len racers.entry * (length numbers + 1)) (map whole racers.entry.items) }
+    ensures counted { AllByRecursion (λ numbers. steps.new ≤ steps.old + vec_len racers.entry *
+        (length numbers + 1)) (map whole racers.entry.items) }
 {
     let at = race(racers.as_mut_slice(), steps)?;
     Ok(racers.swap_remove(at).numbers)
@@ -116,9 +122,9 @@ fn sorted(mut numbers: Vec<u64>) -> Vec<u64>
     numbers
 }
 
-/// The numbers, in ascending order and each once, of the carriers of a criterion that is about attributes; None where no
-/// criterion is. It counts at most so many steps: for each such criterion one, and one for each of the fewest carriers
-/// that any of them has. `Starved`: out of memory.
+/// The numbers, in ascending order and each once, of the carriers of a criterion that is about
+/// attributes; None where no criterion is. It counts at most so many steps: for each such criterion
+/// one, and one for each of the fewest carriers that any of them has. `Starved`: out of memory.
 pub(crate) fn fewest_carriers<L: Ledger>(
     alloc: Global,
     index: &AttributeIndex,
@@ -126,9 +132,15 @@ pub(crate) fn fewest_carriers<L: Ledger>(
     steps: &mut Steps<L>,
 ) -> Result<Option<Vec<u64>>, Starved>
     ensures none { IfOk result (λ found. IfNone found (attribute_criteria criteria.now ≡ [])) }
-    ensures rising { IfOk result (λ found. IfSome found (λ numbers. PairsByRecursion (λ m n. m < n) numbers.items)) }
-    ensures carriers { IfOk result (λ found. IfSome found (λ numbers. AreNumbersOf index.now criteria.now numbers.items)) }
-    ensures counted { (criterion : Criterion) → Contains (attribute_criteria criteria.now) criterion → steps.new ≤ steps.old + length (attribute_criteria criteria.now) * (length (carriers_of criterion.name criterion.pattern index.now) + 1) }
+    ensures rising { IfOk result (λ found. IfSome found
+        (λ numbers. PairsByRecursion (λ m n. m < n) numbers.items)) }
+    ensures carriers { IfOk result (λ found. IfSome found
+        (λ numbers. AreNumbersOf index.now criteria.now numbers.items)) }
+    ensures counted { (criterion : Criterion)
+        → Contains (attribute_criteria criteria.now) criterion
+        → steps.new
+        ≤ steps.old + length (attribute_criteria criteria.now) *
+        (length (carriers_of criterion.name criterion.pattern index.now) + 1) }
 {
     let racers = racers_of(alloc, index, criteria)?;
     if racers.is_empty() {

@@ -1,5 +1,7 @@
-//! What a version answers of single registrations, of how many are live, and its entity tag (RFC 9176 sections 5 and 6).
-ghost use Rattle.std.specs.Prelude.{◌≡◌, ◌+◌, ◌<◌, ◌≤◌, ◌^◌, true, ℕ, List, length, find, Some, IfSome};
+//! What a version answers of single registrations, of how many are live, and its entity tag (RFC
+//! 9176 sections 5 and 6).
+ghost use Rattle.std.specs.Prelude.{◌≡◌, ◌+◌, ◌<◌, ◌≤◌, ◌^◌, true, ℕ, List, length, find, Some};
+ghost use Rattle.std.specs.Prelude.{IfSome};
 ghost use Rattle.std.specs.Option.{option_copied};
 ghost use Rattle.history_model.specs.declared.entries.Entry.{Entry};
 ghost use Rattle.history_model.specs.Leases.{is_live_at, live_among, lapsed_between};
@@ -68,7 +70,8 @@ fn tag_of(entries: u64, lapsed: u64) -> Tag
 }
 
 impl Directory {
-    /// The moment at which the live records were counted: that of the last entry or of the last sweep, the later one.
+    /// The moment at which the live records were counted: that of the last entry or of the last
+    /// sweep, the later one.
     pub(crate) fn counted_at(&self) -> Moment
         ensures { result.0 ≡ shown.counted_at self.now }
     {
@@ -78,7 +81,8 @@ impl Directory {
         self.at
     }
 
-    /// How many records are live at this moment, and what they weigh together. It goes through those that have lapsed.
+    /// How many records are live at this moment, and what they weigh together. It goes through
+    /// those that have lapsed.
     pub(crate) fn counts_at(&self, now: Moment) -> Counts
         requires after_at { self.now.at ≤ now.0 }
         requires after_sweep { self.now.swept ≤ now.0 }
@@ -102,7 +106,8 @@ impl Directory {
     pub(crate) fn live_numbered(&self, number: u64, now: Moment) -> Option<&Kept>
         ensures value { option_copied result ≡ numbered number (live_among now.0 self.now.records) }
         ensures there { IfSome result (λ kept. numbered number self.now.records ≡ Some kept.now) }
-        ensures stored { IfSome result (λ kept. numbered kept.now.number self.now.records ≡ Some kept.now) }
+        ensures stored { IfSome result (λ kept. numbered kept.now.number self.now.records ≡ Some
+            kept.now) }
         ensures live { IfSome result (λ kept. is_live_at now.0 kept.now ≡ true) }
         ensures sound { IfSome result (λ kept. shown.IsStored self.now kept.now) }
     {
@@ -115,8 +120,10 @@ impl Directory {
 
     /// The live record of this name.
     pub(crate) fn live_named(&self, name: &Name, now: Moment) -> Option<&Kept>
-        ensures value { option_copied result ≡ find (is_live_named name.now now.0) self.now.records }
-        ensures stored { IfSome result (λ kept. numbered kept.now.number self.now.records ≡ Some kept.now) }
+        ensures value { option_copied result
+            ≡ find (is_live_named name.now now.0) self.now.records }
+        ensures stored { IfSome result (λ kept. numbered kept.now.number self.now.records ≡ Some
+            kept.now) }
         ensures live { IfSome result (λ kept. is_live_at now.0 kept.now ≡ true) }
         ensures named { IfSome result (λ kept. kept.now.name ≡ name.now) }
     {
@@ -129,12 +136,14 @@ impl Directory {
         )
     }
 
-    /// The registration of this number; None exactly where none of this number is live at this moment, which is not before
-    /// the last entry and not before the last sweep.
+    /// The registration of this number; None exactly where none of this number is live at this
+    /// moment, which is not before the last entry and not before the last sweep.
     pub fn record_of(&self, number: u64, now: Moment) -> Option<&Record>
         requires after_at { self.now.at ≤ now.0 }
         requires after_sweep { self.now.swept ≤ now.0 }
-        ensures { (first : ℕ) (history : List Entry) → VersionStandsFor first history self.now → option_copied result ≡ numbered number (live history now.0) }
+        ensures { (first : ℕ) (history : List Entry)
+            → VersionStandsFor first history self.now
+            → option_copied result ≡ numbered number (live history now.0) }
     {
         match self.live_numbered(number, now) {
             Some(kept) => Some(kept.as_record()),
@@ -142,12 +151,14 @@ impl Directory {
         }
     }
 
-    /// The number of the registration of this name; None exactly where none of this name is live at this moment, which is
-    /// not before the last entry and not before the last sweep.
+    /// The number of the registration of this name; None exactly where none of this name is live at
+    /// this moment, which is not before the last entry and not before the last sweep.
     pub fn by_name(&self, name: &Name, now: Moment) -> Option<u64>
         requires after_at { self.now.at ≤ now.0 }
         requires after_sweep { self.now.swept ≤ now.0 }
-        ensures { (first : ℕ) (history : List Entry) → VersionStandsFor first history self.now → result ≡ number_named name.now now.0 (live history now.0) }
+        ensures { (first : ℕ) (history : List Entry)
+            → VersionStandsFor first history self.now
+            → result ≡ number_named name.now now.0 (live history now.0) }
     {
         match self.live_named(name, now) {
             Some(kept) => Some(kept.as_record().number),
@@ -155,23 +166,27 @@ impl Directory {
         }
     }
 
-    /// How many registrations are live at this moment, which is not before the last entry and not before the last sweep. It
-    /// goes through those that have lapsed and were not swept.
+    /// How many registrations are live at this moment, which is not before the last entry and not
+    /// before the last sweep. It goes through those that have lapsed and were not swept.
     pub fn live_count(&self, now: Moment) -> u64
         requires after_at { self.now.at ≤ now.0 }
         requires after_sweep { self.now.swept ≤ now.0 }
-        ensures { (first : ℕ) (history : List Entry) → VersionStandsFor first history self.now → result ≡ length (live history now.0) }
+        ensures { (first : ℕ) (history : List Entry)
+            → VersionStandsFor first history self.now
+            → result ≡ length (live history now.0) }
     {
         self.counts_at(now).live
     }
 
-    /// The entity tag of every lookup at this moment (RFC 7252 section 5.10.6), which is not before the last entry and not
-    /// before the last sweep: how many entries there are, and how many registrations that were live after the last one have
-    /// lapsed.
+    /// The entity tag of every lookup at this moment (RFC 7252 section 5.10.6), which is not before
+    /// the last entry and not before the last sweep: how many entries there are, and how many
+    /// registrations that were live after the last one have lapsed.
     pub fn tag(&self, now: Moment) -> Tag
         requires after_at { self.now.at ≤ now.0 }
         requires after_sweep { self.now.swept ≤ now.0 }
-        ensures { (first : ℕ) (history : List Entry) → VersionStandsFor first history self.now → result.0 ≡ tag_from first history now.0 }
+        ensures { (first : ℕ) (history : List Entry)
+            → VersionStandsFor first history self.now
+            → result.0 ≡ tag_from first history now.0 }
     {
         let lapsed = self.live - self.counts_at(now).live;
         tag_of(self.entries, self.swept_live + lapsed)

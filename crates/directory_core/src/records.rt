@@ -35,7 +35,8 @@ impl Model for Records {
 
     ghost view = { λ r. values_of r.pairs };
 
-    ghost invariant = { λ r. AreUnderNumbers r.pairs × PairsByRecursion IsBelow (values_of r.pairs) };
+    ghost invariant = { λ r. AreUnderNumbers r.pairs
+        × PairsByRecursion IsBelow (values_of r.pairs) };
 }
 
 impl Records {
@@ -80,7 +81,8 @@ impl Records {
         self.pairs.range(&0)
     }
 
-    /// The records with one more, in place of that of its number where there is one. `Starved`: out of memory.
+    /// The records with one more, in place of that of its number where there is one. `Starved`: out
+    /// of memory.
     pub(crate) fn put(&self, kept: Kept) -> Result<Records, Starved>
         ensures records { IfOk result (λ records. records ≡ with_record kept self.now) }
         ensures rising { IfOk result (λ records. PairsByRecursion IsBelow records) }
@@ -93,7 +95,8 @@ impl Records {
 
     /// The records without that of this number. `Starved`: out of memory.
     pub(crate) fn take(&self, number: u64) -> Result<Records, Starved>
-        ensures records { IfOk result (λ records. records ≡ filter (λ r. not (is_numbered number r)) self.now) }
+        ensures records { IfOk result (λ records. records ≡ filter (λ r. not (is_numbered number r))
+            self.now) }
         ensures rising { IfOk result (λ records. PairsByRecursion IsBelow records) }
     {
         Ok(Records {

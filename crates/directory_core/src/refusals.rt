@@ -2,15 +2,16 @@
 
 use rd_base::Starved;
 
-/// Why a change is refused. What comes first in this order is answered; running out of memory may come instead of each.
+/// Why a change is refused. What comes first in this order is answered; running out of memory may
+/// come instead of each.
 #[derive(Clone, Copy, Debug, PartialEq, Eq)]
 pub enum Refusal {
     /// No live registration has this number.
     Gone(u64),
     /// A new name came while so many registrations were live, 4,096.
     FullCount(u64),
-    /// The live registrations would weigh so much, in octets, which is more than 1,048,576; the greatest number of 64 bits
-    /// where they would weigh more than that.
+    /// The live registrations would weigh so much, in octets, which is more than 1,048,576; the
+    /// greatest number of 64 bits where they would weigh more than that.
     FullText(u64),
     /// As many entries as are counted, 2^48 - 1.
     FullEntries,

@@ -1,5 +1,6 @@
 //! Registrations (RFC 9176 section 5).
-ghost use Rattle.std.specs.Prelude.{◌≡◌, ◌≤◌, ◌^◌, ◌++◌, ◌∷◌, [], true, ℕ, List, None, Some, find, IfOk, IfErr, OnOk};
+ghost use Rattle.std.specs.Prelude.{◌≡◌, ◌≤◌, ◌^◌, ◌++◌, ◌∷◌, [], true, ℕ, List, None, Some};
+ghost use Rattle.std.specs.Prelude.{find, IfOk, IfErr, OnOk};
 ghost use Rattle.history_model.specs.declared.entries.Entry.{Entry};
 ghost use Rattle.history_model.specs.Refusals.{change_refusal};
 ghost use Rattle.history_model.specs.Leases.{is_live_at, live_among};
@@ -41,7 +42,10 @@ impl Directory {
         requires counts { counts ≡ counts_of (live_among now.0 self.now.records) }
         requires name { find (is_live_named draft.name now.0) self.now.records ≡ None }
         requires draft { IsDraft draft }
-        ensures answers { (first : ℕ) (history : List Entry) (entry : Entry) → VersionStandsFor first history self.now → IsRegistrationOf now draft entry → answers.AnswersEntry first history entry self.now.swept result }
+        ensures answers { (first : ℕ) (history : List Entry) (entry : Entry)
+            → VersionStandsFor first history self.now
+            → IsRegistrationOf now draft entry
+            → answers.AnswersEntry first history entry self.now.swept result }
         ensures kept { IfOk result (λ version. version.swept ≡ self.now.swept) }
         ensures at { IfOk result (λ version. version.at ≡ now.0) }
     {
@@ -69,7 +73,10 @@ impl Directory {
         requires live { is_live_at now.0 old.now ≡ true }
         requires named { old.now.name ≡ draft.name }
         requires draft { IsDraft draft }
-        ensures answers { (first : ℕ) (history : List Entry) (entry : Entry) → VersionStandsFor first history self.now → IsRegistrationOf now draft entry → answers.AnswersEntry first history entry self.now.swept result }
+        ensures answers { (first : ℕ) (history : List Entry) (entry : Entry)
+            → VersionStandsFor first history self.now
+            → IsRegistrationOf now draft entry
+            → answers.AnswersEntry first history entry self.now.swept result }
         ensures kept { IfOk result (λ version. version.swept ≡ self.now.swept) }
         ensures at { IfOk result (λ version. version.at ≡ now.0) }
     {
@@ -77,24 +84,37 @@ impl Directory {
         self.renewed(now, counts, old, draft, LinksAfter::Replaced)
     }
 
-    /// The version with this registration, and its number: that of the live registration of the name, whose all else is
-    /// replaced, and else the next one (RFC 9176 section 5). The moment is not before the last entry, and not before the
-    /// last sweep, which is that of the new version too. This version is as before.
+    /// The version with this registration, and its number: that of the live registration of the
+    /// name, whose all else is replaced, and else the next one (RFC 9176 section 5). The moment is
+    /// not before the last entry, and not before the last sweep, which is that of the new version
+    /// too. This version is as before.
     ///
     /// # Errors
     ///
-    /// `FullCount` exactly where the name is new and 4,096 registrations are live; else `FullText` exactly where the live
-    /// ones would weigh more than 1,048,576 with this one as it is to be; else `FullEntries` exactly where 2^48 - 1 entries
-    /// are counted. `Starved` may come instead of each.
+    /// `FullCount` exactly where the name is new and 4,096 registrations are live; else `FullText`
+    /// exactly where the live ones would weigh more than 1,048,576 with this one as it is to be;
+    /// else `FullEntries` exactly where 2^48 - 1 entries are counted. `Starved` may come instead of
+    /// each.
     pub fn register(&self, now: Moment, draft: Draft) -> Result<(Directory, u64), Refusal>
         requires after_at { self.now.at ≤ now.0 }
         requires after_sweep { self.now.swept ≤ now.0 }
         requires moment { now.0 ≤ 10 ^ 15 }
         requires draft { IsDraft draft }
-        ensures stands { (first : ℕ) (history : List Entry) (entry : Entry) → VersionStandsFor first history self.now → IsRegistrationOf now draft entry → IfOk result (λ made. VersionStandsFor first (history ++ entry ∷ []) made.0) }
-        ensures number { (first : ℕ) (history : List Entry) → VersionStandsFor first history self.now → IfOk result (λ made. made.1 ≡ number_for draft.name now.0 (replay history)) }
-        ensures accepted { (first : ℕ) (history : List Entry) (entry : Entry) → VersionStandsFor first history self.now → IsRegistrationOf now draft entry → OnOk result (change_refusal first history entry ≡ None) }
-        ensures refused { (first : ℕ) (history : List Entry) (entry : Entry) → VersionStandsFor first history self.now → IsRegistrationOf now draft entry → IfErr result (IsRefusalOf first history entry) }
+        ensures stands { (first : ℕ) (history : List Entry) (entry : Entry)
+            → VersionStandsFor first history self.now
+            → IsRegistrationOf now draft entry
+            → IfOk result (λ made. VersionStandsFor first (history ++ entry ∷ []) made.0) }
+        ensures number { (first : ℕ) (history : List Entry)
+            → VersionStandsFor first history self.now
+            → IfOk result (λ made. made.1 ≡ number_for draft.name now.0 (replay history)) }
+        ensures accepted { (first : ℕ) (history : List Entry) (entry : Entry)
+            → VersionStandsFor first history self.now
+            → IsRegistrationOf now draft entry
+            → OnOk result (change_refusal first history entry ≡ None) }
+        ensures refused { (first : ℕ) (history : List Entry) (entry : Entry)
+            → VersionStandsFor first history self.now
+            → IsRegistrationOf now draft entry
+            → IfErr result (IsRefusalOf first history entry) }
         ensures swept { IfOk result (λ made. made.0.swept ≡ self.now.swept) }
         ensures at { IfOk result (λ made. made.0.at ≡ now.0) }
     {

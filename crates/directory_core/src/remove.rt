@@ -10,20 +10,30 @@ use crate::{Directory, Refusal};
 use rd_base::Moment;
 
 impl Directory {
-    /// The version without the registration of this number (RFC 9176 section 5.3.2). The moment is not before the last
-    /// entry, and not before the last sweep, which is that of the new version too. This version is as before.
+    /// The version without the registration of this number (RFC 9176 section 5.3.2). The moment is
+    /// not before the last entry, and not before the last sweep, which is that of the new version
+    /// too. This version is as before.
     ///
     /// # Errors
     ///
-    /// `Gone` exactly where no registration of this number is live; else `FullEntries` exactly where 2^48 - 1 entries are
-    /// counted. `Starved` may come instead of each.
+    /// `Gone` exactly where no registration of this number is live; else `FullEntries` exactly
+    /// where 2^48 - 1 entries are counted. `Starved` may come instead of each.
     pub fn remove(&self, now: Moment, number: u64) -> Result<Directory, Refusal>
         requires after_at { self.now.at ≤ now.0 }
         requires after_sweep { self.now.swept ≤ now.0 }
         requires moment { now.0 ≤ 10 ^ 15 }
-        ensures stands { (first : ℕ) (history : List Entry) (entry : Entry) → VersionStandsFor first history self.now → IsRemovalOf now number entry → IfOk result (VersionStandsFor first (history ++ entry ∷ [])) }
-        ensures accepted { (first : ℕ) (history : List Entry) (entry : Entry) → VersionStandsFor first history self.now → IsRemovalOf now number entry → OnOk result (change_refusal first history entry ≡ None) }
-        ensures refused { (first : ℕ) (history : List Entry) (entry : Entry) → VersionStandsFor first history self.now → IsRemovalOf now number entry → IfErr result (IsRefusalOf first history entry) }
+        ensures stands { (first : ℕ) (history : List Entry) (entry : Entry)
+            → VersionStandsFor first history self.now
+            → IsRemovalOf now number entry
+            → IfOk result (VersionStandsFor first (history ++ entry ∷ [])) }
+        ensures accepted { (first : ℕ) (history : List Entry) (entry : Entry)
+            → VersionStandsFor first history self.now
+            → IsRemovalOf now number entry
+            → OnOk result (change_refusal first history entry ≡ None) }
+        ensures refused { (first : ℕ) (history : List Entry) (entry : Entry)
+            → VersionStandsFor first history self.now
+            → IsRemovalOf now number entry
+            → IfErr result (IsRefusalOf first history entry) }
         ensures swept { IfOk result (λ version. version.swept ≡ self.now.swept) }
         ensures at { IfOk result (λ version. version.at ≡ now.0) }
     {

@@ -4,7 +4,8 @@ ghost use Rattle.history_model.specs.Leases.{is_live_at, live_among};
 ghost use Rattle.history_model.specs.Refusals.{max_registrations, text_of};
 ghost use Rattle.history_model.specs.Replay.{numbered};
 ghost use Rattle.registration.specs.Drafts.{recorded};
-ghost use Rattle.directory_core.specs.AfterEntries.{renewed, without, after_entry, IsSound, IsMadeWithRoom};
+ghost use Rattle.directory_core.specs.AfterEntries.{renewed, without, after_entry, IsSound};
+ghost use Rattle.directory_core.specs.AfterEntries.{IsMadeWithRoom};
 ghost use Rattle.directory_core.specs.LinksAgainst.{AreAfter};
 ghost use Rattle.directory_core.specs.LiveCounts.{counts_of};
 
@@ -18,8 +19,8 @@ use rd_base::Moment;
 use registration::{Draft, weight};
 
 impl Directory {
-    /// The version in which a live record is made anew by a draft, under its number and its name, where
-    /// there is room. What became of the links of the record is handed in too.
+    /// The version in which a live record is made anew by a draft, under its number and its name,
+    /// where there is room. What became of the links of the record is handed in too.
     pub(crate) fn renewed(
         &self,
         now: Moment,
@@ -37,7 +38,10 @@ impl Directory {
         requires named { draft.name ≡ old.now.name }
         requires sound { IsSound draft }
         requires links { AreAfter links old.now.items draft.items }
-        ensures { IsMadeWithRoom (text_of (renewed (recorded old.now.number now draft) (live_among now.0 self.now.records))) self.now.entries (after_entry self.now now.0 (renewed (recorded old.now.number now draft) self.now.records) self.now.last_number) result }
+        ensures { IsMadeWithRoom (text_of (renewed (recorded old.now.number now draft)
+            (live_among now.0 self.now.records))) self.now.entries
+            (after_entry self.now now.0 (renewed (recorded old.now.number now draft)
+            self.now.records) self.now.last_number) result }
     {
         let entries = self.entries;
         let number = old.as_record().number;
@@ -74,7 +78,8 @@ impl Directory {
         })
     }
 
-    /// The version with one record more, made by a draft under the next number, where there is room for its text.
+    /// The version with one record more, made by a draft under the next number, where there is room
+    /// for its text.
     pub(crate) fn appended(
         &self,
         now: Moment,
@@ -87,7 +92,11 @@ impl Directory {
         requires counts { counts ≡ counts_of (live_among now.0 self.now.records) }
         requires few { length (live_among now.0 self.now.records) < max_registrations }
         requires sound { IsSound draft }
-        ensures { IsMadeWithRoom (text_of (live_among now.0 self.now.records ++ recorded (self.now.last_number + 1) now draft ∷ [])) self.now.entries (after_entry self.now now.0 (self.now.records ++ recorded (self.now.last_number + 1) now draft ∷ []) (self.now.last_number + 1)) result }
+        ensures { IsMadeWithRoom (text_of (live_among now.0 self.now.records ++ recorded
+            (self.now.last_number + 1) now draft ∷ [])) self.now.entries
+            (after_entry self.now now.0 (self.now.records
+            ++ recorded (self.now.last_number + 1) now draft ∷ []) (self.now.last_number + 1))
+            result }
     {
         let number = self.last_number + 1;
         let octets = weight(&draft, number);
@@ -129,7 +138,9 @@ impl Directory {
         requires counts { counts ≡ counts_of (live_among now.0 self.now.records) }
         requires stored { numbered old.now.number self.now.records ≡ Some old.now }
         requires live { is_live_at now.0 old.now ≡ true }
-        ensures { IsMadeWithRoom 0 self.now.entries (after_entry self.now now.0 (without old.now.number self.now.records) self.now.last_number) result }
+        ensures { IsMadeWithRoom 0 self.now.entries
+            (after_entry self.now now.0 (without old.now.number self.now.records)
+            self.now.last_number) result }
     {
         room_for_entry(self.entries)?;
         let number = old.as_record().number;

@@ -1,5 +1,6 @@
 //! What an update makes of a registration (RFC 9176 section 5.3.1).
-ghost use Rattle.std.specs.Prelude.{◌≡◌, ◌<◌, ◌^◌, [], true, false, not, filter, map, None, IfOk, IfSome};
+ghost use Rattle.std.specs.Prelude.{◌≡◌, ◌<◌, ◌^◌, [], true, false, not, filter, map, None, IfOk};
+ghost use Rattle.std.specs.Prelude.{IfSome};
 ghost use Rattle.std.specs.List.{list_all};
 ghost use Rattle.rd_base.specs.Peers.{IsHost};
 ghost use Rattle.rd_base.specs.declared.moments.Moment.{Moment};
@@ -27,11 +28,13 @@ fn base_of_peer(alloc: Global, peer: Peer) -> Result<Text, Starved>
     base_of(alloc, &peer)
 }
 
-/// The base after an update: the one that is given; else one that was given stays, and another becomes that of the peer.
+/// The base after an update: the one that is given; else one that was given stays, and another
+/// becomes that of the peer.
 fn base_after(alloc: Global, given: Option<Text>, old: &Record, peer: Peer) -> Result<Text, Starved>
     requires given { IfSome given (λ base. is_base base ≡ true) }
     requires old { is_base old.now.base ≡ true }
-    ensures value { IfOk result (λ base. base ≡ bases.updated_base given old.now.base_given old.now.base peer) }
+    ensures value { IfOk result (λ base. base ≡ bases.updated_base given old.now.base_given
+        old.now.base peer) }
     ensures base { IfOk result (λ base. is_base base ≡ true) }
 {
     match given {
@@ -56,7 +59,8 @@ fn is_replaced(given: &[Pair], pair: &Pair) -> bool
 
 /// Copies of the attributes that are not replaced.
 fn left_of(alloc: Global, given: &[Pair], old: &[Pair]) -> Result<Vec<Pair>, Starved>
-    ensures { IfOk result (λ left. left.items ≡ filter (λ pair. not (records.is_replaced given.now pair)) old.now) }
+    ensures { IfOk result (λ left. left.items ≡ filter
+        (λ pair. not (records.is_replaced given.now pair)) old.now) }
 {
     let mut left = Vec::new(alloc);
     'pairs: for pair in old {
@@ -67,7 +71,8 @@ fn left_of(alloc: Global, given: &[Pair], old: &[Pair]) -> Result<Vec<Pair>, Sta
     Ok(left)
 }
 
-/// The extra attributes after an update: those of a name that it gives are dropped, and its own are appended.
+/// The extra attributes after an update: those of a name that it gives are dropped, and its own are
+/// appended.
 #[tactic(auto, unfolding(record_model::specs::Records::updated_attributes))]
 fn attributes_after(alloc: Global, given: Pairs, old: &Pairs) -> Result<Pairs, Starved>
     ensures { IfOk result (λ pairs. pairs ≡ records.updated_attributes given old.now) }
@@ -78,8 +83,8 @@ fn attributes_after(alloc: Global, given: Pairs, old: &Pairs) -> Result<Pairs, S
     Ok(Pairs::of(pairs))
 }
 
-/// The links of a record against a base, and what became of them: where it is the base of the record,
-/// they are shared as they are, and else each is resolved anew (RFC 9176 section 5.3.1).
+/// The links of a record against a base, and what became of them: where it is the base of the
+/// record, they are shared as they are, and else each is resolved anew (RFC 9176 section 5.3.1).
 fn items_against(alloc: Global, old: &Record, base: &Text) -> Result<(Items, LinksAfter), Starved>
     requires references { list_all has_references old.now.items ≡ true }
     requires against { AreAgainst old.now.base old.now.items }
@@ -112,7 +117,8 @@ pub(crate) fn updated_draft(
     requires references { list_all has_references old.now.items ≡ true }
     requires against { AreAgainst old.now.base old.now.items }
     requires base { is_base old.now.base ≡ true }
-    ensures made { IfOk result (λ made. (now : Moment) → recorded old.now.number now made.0 ≡ records.updated now peer change old.now) }
+    ensures made { IfOk result (λ made. (now : Moment)
+        → recorded old.now.number now made.0 ≡ records.updated now peer change old.now) }
     ensures named { IfOk result (λ made. made.0.name ≡ old.now.name) }
     ensures sound { IfOk result (λ made. IsSound made.0) }
     ensures links { IfOk result (λ made. AreAfter made.1 old.now.items made.0.items) }

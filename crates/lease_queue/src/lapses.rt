@@ -40,7 +40,8 @@ impl<'a> LapsedIter<'a> {
         LapsedIter { left, now }
     }
 
-    /// The next number; None exactly at the end. Each call counts one step, that at the end too. Takes no memory.
+    /// The next number; None exactly at the end. Each call counts one step, that at the end too.
+    /// Takes no memory.
     pub fn step<L: Ledger>(&mut self, steps: &mut Steps<L>) -> Option<u64>
         ensures next { IfSome result (λ number. self.old ≡ number ∷ self.new) }
         ensures end { IfNone result ((self.old ≡ []) × (self.new ≡ [])) }

@@ -5,8 +5,8 @@ ghost use Rattle.lease_queue.specs.Leases as order;
 use chunk_map::Shared;
 use rd_base::{Moment, Starved};
 
-/// A lease: the moment at which it lapses, and the number of its registration. Leases are ordered by their lapse,
-/// those of one lapse by their number.
+/// A lease: the moment at which it lapses, and the number of its registration. Leases are ordered
+/// by their lapse, those of one lapse by their number.
 #[derive(Clone, Copy, Debug, PartialEq, Eq, PartialOrd, Ord)]
 pub struct Lease {
     /// The moment from which on it has lapsed.

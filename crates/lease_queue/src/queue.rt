@@ -2,7 +2,8 @@
 ghost use Rattle.std.specs.Prelude.{◌≡◌, ◌≢◌, ◌↔◌, ◌+◌, ◌<◌, ◌≤◌, [], length, Some, IfOk, Contains};
 ghost use Rattle.std.specs.Map.{keys_of};
 ghost use Rattle.lease_queue.specs.declared.leases.Lease.{Lease};
-ghost use Rattle.lease_queue.specs.Leases.{IsAscending, with_lease, without_lease, lapsed_at, unlapsed_at};
+ghost use Rattle.lease_queue.specs.Leases.{IsAscending, with_lease, without_lease, lapsed_at};
+ghost use Rattle.lease_queue.specs.Leases.{unlapsed_at};
 
 use crate::leases::has_lapsed;
 use crate::{LapsedIter, Lease};
@@ -12,8 +13,9 @@ use std::alloc::Global;
 use std::marker::{Brand, Model};
 use std::sync::ledger::{Blank, Ledger};
 
-/// A set of leases in the order in which they lapse, those of one lapse by their number. A queue never changes:
-/// [`LeaseQueue::put`] and [`LeaseQueue::take`] make another one. Contracts see it as the list of its leases.
+/// A set of leases in the order in which they lapse, those of one lapse by their number. A queue
+/// never changes: [`LeaseQueue::put`] and [`LeaseQueue::take`] make another one. Contracts see it
+/// as the list of its leases.
 #[derive(Drop)]
 pub struct LeaseQueue {
     /// The leases as keys, so that versions share those that did not change.
@@ -38,8 +40,8 @@ impl Change<()> for Comes {
     }
 }
 
-/// These leases as keys, with one more; what no other map has is changed in place. `Starved`: out of
-/// memory.
+/// These leases as keys, with one more; what no other map has is changed in place. `Starved`: out
+/// of memory.
 fn with_key(leases: ChunkMap<Lease, ()>, lease: Lease) -> Result<ChunkMap<Lease, ()>, Starved>
     requires { IsAscending (keys_of leases) }
     ensures { IfOk result (λ map. keys_of map ≡ with_lease (keys_of leases) lease) }
@@ -93,11 +95,17 @@ impl LeaseQueue {
 
     /// The queue with this lease more; an equal one where it is there already.
     pub fn put(&self, lapse: Moment, number: u64) -> Result<LeaseQueue, Starved>
-        ensures queue { IfOk result (λ queue. queue ≡ with_lease self.now (record { lapse = lapse; number = number })) }
+        ensures queue { IfOk result (λ queue. queue ≡ with_lease self.now
+            (record { lapse = lapse; number = number })) }
         ensures ascends { IfOk result (λ queue. IsAscending queue) }
-        ensures same { IfOk result (λ queue. Contains self.now (record { lapse = lapse; number = number }) → queue ≡ self.now) }
-        ensures there { IfOk result (λ queue. Contains queue (record { lapse = lapse; number = number })) }
-        ensures others { IfOk result (λ queue. (other : Lease) → other ≢ record { lapse = lapse; number = number } → Contains queue other ↔ Contains self.now other) }
+        ensures same { IfOk result (λ queue. Contains self.now
+            (record { lapse = lapse; number = number })
+            → queue ≡ self.now) }
+        ensures there { IfOk result (λ queue. Contains queue
+            (record { lapse = lapse; number = number })) }
+        ensures others { IfOk result (λ queue. (other : Lease)
+            → other ≢ record { lapse = lapse; number = number }
+            → Contains queue other ↔ Contains self.now other) }
     {
         let lease = Lease { lapse, number };
         Ok(LeaseQueue {
@@ -106,9 +114,9 @@ impl LeaseQueue {
         })
     }
 
-    /// This queue with this lease more, as [`LeaseQueue::put`] makes one: what no other queue has is
-    /// changed in place. `Starved`: out of memory; this queue is gone then, and all others are as
-    /// before.
+    /// This queue with this lease more, as [`LeaseQueue::put`] makes one: what no other queue has
+    /// is changed in place. `Starved`: out of memory; this queue is gone then, and all others are
+    /// as before.
     pub fn with(self, lapse: Moment, number: u64) -> Result<LeaseQueue, Starved>
         ensures queue { IfOk result (λ queue. queue
             ≡ with_lease self (record { lapse = lapse; number = number })) }
@@ -121,11 +129,19 @@ impl LeaseQueue {
 
     /// The queue without this lease; an equal one where it is not there.
     pub fn take(&self, lapse: Moment, number: u64) -> Result<LeaseQueue, Starved>
-        ensures queue { IfOk result (λ queue. queue ≡ without_lease self.now (record { lapse = lapse; number = number })) }
+        ensures queue { IfOk result (λ queue. queue ≡ without_lease self.now
+            (record { lapse = lapse; number = number })) }
         ensures ascends { IfOk result (λ queue. IsAscending queue) }
-        ensures same { IfOk result (λ queue. (Contains self.now (record { lapse = lapse; number = number }) → ⊥) → queue ≡ self.now) }
-        ensures gone { IfOk result (λ queue. Contains queue (record { lapse = lapse; number = number }) → ⊥) }
-        ensures others { IfOk result (λ queue. (other : Lease) → other ≢ record { lapse = lapse; number = number } → Contains queue other ↔ Contains self.now other) }
+        ensures same { IfOk result (λ queue. (Contains self.now
+            (record { lapse = lapse; number = number })
+            → ⊥)
+            → queue ≡ self.now) }
+        ensures gone { IfOk result (λ queue. Contains queue
+            (record { lapse = lapse; number = number })
+            → ⊥) }
+        ensures others { IfOk result (λ queue. (other : Lease)
+            → other ≢ record { lapse = lapse; number = number }
+            → Contains queue other ↔ Contains self.now other) }
     {
         let lease = Lease { lapse, number };
         Ok(LeaseQueue {
@@ -160,8 +176,8 @@ impl LeaseQueue {
         self.lapsed(now).count::<Brand>(most, Blank::new(1))
     }
 
-    /// Takes all leases that have lapsed at this moment, in one pass. It counts a step for each of them, and at most one
-    /// more.
+    /// Takes all leases that have lapsed at this moment, in one pass. It counts a step for each of
+    /// them, and at most one more.
     pub fn sweep<L: Ledger>(&self, now: Moment, steps: &mut Steps<L>) -> Result<Swept, Starved>
         ensures queue { IfOk result (λ swept. swept.queue ≡ unlapsed_at now.0 self.now) }
         ensures ascends { IfOk result (λ swept. IsAscending swept.queue) }

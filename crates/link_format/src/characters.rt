@@ -42,7 +42,9 @@ pub fn is_target_character(octet: u8) -> bool
 
 /// Whether the octet is a character of ASCII that stands for itself in a quoted string.
 pub fn is_plain_in_quotes(octet: u8) -> bool
-    ensures { result ≡ (is_ascii octet && class.is_not_control octet && not (octet == class.quote_mark) && not (octet == class.backslash)) }
+    ensures { result
+        ≡ (is_ascii octet && class.is_not_control octet && not (octet == class.quote_mark) && not
+        (octet == class.backslash)) }
 {
     octet.is_ascii() && is_not_control(octet) && octet != b'"' && octet != b'\\'
 }

@@ -29,10 +29,13 @@ fn after_octet(text: &[u8]) -> &[u8]
     }
 }
 
-/// What stands after a quoted string in which the text begins, and nothing where no quote closes it.
+/// What stands after a quoted string in which the text begins, and nothing where no quote closes
+/// it.
 fn after_quotes(text: &[u8]) -> &[u8]
     ensures within { length result.now ≤ length text.now }
-    ensures counted { (separator : ℕ) → cuts.octets_before separator Inside text.now + length result.now ≡ length text.now + cuts.octets_before separator Outside result.now }
+    ensures counted { (separator : ℕ)
+        → cuts.octets_before separator Inside text.now + length result.now
+        ≡ length text.now + cuts.octets_before separator Outside result.now }
 {
     let mut rest = text;
     'octets: while let Some((octet, more)) = rest.split_first() {
@@ -63,10 +66,12 @@ fn octets_before_unread(separator: u8, text: &[u8]) -> usize
     text.len()
 }
 
-/// How many octets of a text stand before the first separator in a rest of it, which begins outside quoted strings.
+/// How many octets of a text stand before the first separator in a rest of it, which begins outside
+/// quoted strings.
 fn octets_before_outside(separator: u8, text: &[u8], outside: &[u8]) -> usize
     requires { length outside.now ≤ length text.now }
-    ensures value { result + length outside.now ≡ length text.now + cuts.octets_before separator Outside outside.now }
+    ensures value { result + length outside.now
+        ≡ length text.now + cuts.octets_before separator Outside outside.now }
     ensures within { result ≤ length text.now }
 {
     let mut rest = outside;
@@ -114,7 +119,8 @@ fn octets_before(separator: u8, quotes: Quotes, text: &[u8]) -> usize
 pub fn cut(separator: u8, quotes: Quotes, text: &str) -> (&str, Option<&str>)
     requires { separator < 128 }
     ensures before { result.0.now ≡ (cuts.cut separator quotes text.now).0 }
-    ensures after { option_map (λ after. after.now) result.1 ≡ (cuts.cut separator quotes text.now).1 }
+    ensures after { option_map (λ after. after.now) result.1
+        ≡ (cuts.cut separator quotes text.now).1 }
 {
     let at = octets_before(separator, quotes, text.as_bytes());
     if at == text.len() {
@@ -127,7 +133,8 @@ pub fn cut(separator: u8, quotes: Quotes, text: &str) -> (&str, Option<&str>)
 pub fn split(separator: u8, quotes: Quotes, text: &str) -> (&str, &str)
     requires { separator < 128 }
     ensures before { result.0.now ≡ (cuts.cut separator quotes text.now).0 }
-    ensures rest { result.1.now ≡ cuts.from_separator separator (cuts.cut separator quotes text.now).1 }
+    ensures rest { result.1.now
+        ≡ cuts.from_separator separator (cuts.cut separator quotes text.now).1 }
 {
     let at = octets_before(separator, quotes, text.as_bytes());
     text.split_at(at)

@@ -1,4 +1,5 @@
-//! Link documents: checked, walked link by link and parameter by parameter, and their values (RFC 6690).
+//! Link documents: checked, walked link by link and parameter by parameter, and their values (RFC
+//! 6690).
 #![tactic(auto)]
 
 mod characters;

@@ -6,7 +6,8 @@ use crate::parameters::{Params, params_of_text};
 use crate::parts::link_parts;
 use std::marker::Model;
 
-/// A link of a document: its target, and the text of its parameters after it (RFC 6690 section 2, link-value).
+/// A link of a document: its target, and the text of its parameters after it (RFC 6690 section 2,
+/// link-value).
 #[derive(Clone, Copy, Debug)]
 pub struct LinkRef<'a> {
     /// What stands between `<` and `>`.
@@ -16,7 +17,8 @@ pub struct LinkRef<'a> {
     ghost readable: { is_some (parameters_of params.now) ≡ true },
 }
 
-/// The links that are left of a document that [`check`](crate::check) read, in order. A contract sees them as their list.
+/// The links that are left of a document that [`check`](crate::check) read, in order. A contract
+/// sees them as their list.
 #[derive(Clone, Debug, Drop)]
 pub struct Links<'a> {
     rest: &'a str,

@@ -18,7 +18,8 @@ pub struct Param<'a> {
     ghost spelled: { raw.now ≡ parameter_text (record { name = name.now; value = option_map (λ text. text.now) value }) },
 }
 
-/// The parameters that are left of a link, in order, as [`params`](crate::params) begins them. A contract sees them as their list.
+/// The parameters that are left of a link, in order, as [`params`](crate::params) begins them. A
+/// contract sees them as their list.
 #[derive(Clone, Debug, Drop)]
 pub struct Params<'a> {
     rest: &'a str,

@@ -22,7 +22,8 @@ pub struct Reach {
 /// Whether an octet is one of those that leave the walk where it is, where no octet is due: most
 /// characters of targets, names and values do, and are found with few tests.
 fn stays(point: Point, octet: u8) -> bool
-    ensures point { IsTrue result → grammar.point_after (point_in point) octet ≡ Some (point_in point) }
+    ensures point { IsTrue result
+        → grammar.point_after (point_in point) octet ≡ Some (point_in point) }
     ensures tails { IsTrue result → tails_after [] octet ≡ Some [] }
 {
     match point {
@@ -91,7 +92,8 @@ pub fn walk(body: &[u8]) -> Reach
 /// A walk that stops before the rest of a body.
 fn stopped(body: &[u8], rest: &[u8]) -> Reach
     requires { length rest.now ≤ length body.now }
-    ensures { result ≡ record { good_prefix = length body.now - length rest.now; is_document = false } }
+    ensures { result
+        ≡ record { good_prefix = length body.now - length rest.now; is_document = false } }
 {
     Reach {
         good_prefix: body.len() - rest.len(),

@@ -122,13 +122,16 @@ fn unescaped(alloc: Global, inner: &str) -> Result<Text, Starved>
     Ok(text)
 }
 
-/// The text in quotes, a backslash before each quote and backslash in it. An error says that memory ran out.
+/// The text in quotes, a backslash before each quote and backslash in it. An error says that memory
+/// ran out.
 ///
-/// What it writes is a quoted string of the grammar where the text has no control character, and [`value_of`] reads it back.
+/// What it writes is a quoted string of the grammar where the text has no control character, and
+/// [`value_of`] reads it back.
 pub fn quoted(alloc: Global, value: &str) -> Result<Text, Starved>
     ensures spelled { IfOk result (λ text. text ≡ quoting.quoted value.now) }
     ensures reads_back { IfOk result (λ text. quoting.unquoted text ≡ value.now) }
-    ensures grammar { list_all is_not_control value.now ≡ true → IfOk result (λ text. is_quoted_string text ≡ true) }
+    ensures grammar { list_all is_not_control value.now ≡ true
+        → IfOk result (λ text. is_quoted_string text ≡ true) }
 {
     let mut text = String::new(alloc);
     text.push('"')?;
@@ -149,7 +152,8 @@ fn is_mark(character: char) -> bool
 
 /// Appends a character, with a backslash before a quote and a backslash.
 fn push_escaped(text: &mut String, character: char) -> Result<(), Starved>
-    ensures { IfOk result (λ _. string_bytes text.new ≡ string_bytes text.old ++ flat_map quoting.escaped_character (encode_utf8 character)) }
+    ensures { IfOk result (λ _. string_bytes text.new ≡ string_bytes text.old ++ flat_map
+        quoting.escaped_character (encode_utf8 character)) }
 {
     if is_mark(character) {
         text.push('\\')?;

@@ -32,7 +32,8 @@ fn first_number(kept: Option<u32>, value: &str) -> Option<u32>
 
 /// The criterion of this name and pattern.
 fn criterion_of(alloc: Global, named: &Named<'_>) -> Result<Criterion, Starved>
-    ensures { IfOk result (λ criterion. criterion ≡ record { name = named.now.name.now; pattern = named.now.value.now }) }
+    ensures { IfOk result (λ criterion. criterion ≡ record
+        { name = named.now.name.now; pattern = named.now.value.now }) }
 {
     let name = Text::copy_of(alloc, named.name)?;
     let pattern = Text::copy_of(alloc, named.value)?;
@@ -54,7 +55,8 @@ impl Asked {
     /// Keeps an option after these. Of a page and a count the first counts.
     #[tactic(auto, unfolding(crate::specs::AskedOptions::wanted_with))]
     pub fn keep(&mut self, alloc: Global, named: &Named<'_>) -> Result<(), Starved>
-        ensures { OnOk result (wanted_in self.new ≡ wanted_with (wanted_in self.old) named.now.name.now named.now.value.now) }
+        ensures { OnOk result (wanted_in self.new ≡ wanted_with (wanted_in self.old)
+            named.now.name.now named.now.value.now) }
     {
         let name = named.name;
         if name == "page" {

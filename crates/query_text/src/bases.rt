@@ -1,5 +1,6 @@
 //! What a base is: a URI with a host, and no link-local one (RFC 9176 section 5, base).
-ghost use Rattle.std.specs.Prelude.{◌≡◌, ◌<◌, ◌∷◌, [], not, true, false, Some, option_map, MatchOption};
+ghost use Rattle.std.specs.Prelude.{◌≡◌, ◌<◌, ◌∷◌, [], not, true, false, Some, option_map};
+ghost use Rattle.std.specs.Prelude.{MatchOption};
 ghost use Rattle.std.specs.List.{list_all};
 ghost use Rattle.std.specs.Char.{is_ascii_hexdigit};
 ghost use Rattle.link_model.specs.Characters.{left_bracket};
@@ -25,7 +26,8 @@ fn before(text: &str, mark: char) -> &str
 
 /// What stands after an opening bracket, where the text begins with it.
 fn after_bracket(text: &str) -> Option<&str>
-    ensures { MatchOption result (references.begins_with left_bracket text.now ≡ false) (λ rest. text.now ≡ left_bracket ∷ rest.now) }
+    ensures { MatchOption result (references.begins_with left_bracket text.now ≡ false)
+        (λ rest. text.now ≡ left_bracket ∷ rest.now) }
 {
     text.strip_prefix('[')
 }

@@ -45,9 +45,10 @@ impl From<(usize, Why)> for QueryBad {
     }
 }
 
-/// The first fault of query options, with its index from 0, by what they are read as: that of [`reg_params`](crate::reg_params),
-/// [`update_params`](crate::update_params) and [`lookup_query`](crate::lookup_query). What is missing after the last option
-/// has the number of options as its index (RFC 9176 sections 5, 5.1, 5.3.1 and 6.2). Takes no memory.
+/// The first fault of query options, with its index from 0, by what they are read as: that of
+/// [`reg_params`](crate::reg_params), [`update_params`](crate::update_params) and
+/// [`lookup_query`](crate::lookup_query). What is missing after the last option has the number of
+/// options as its index (RFC 9176 sections 5, 5.1, 5.3.1 and 6.2). Takes no memory.
 pub fn fault<'a, Q: Pieces<'a> + Drop>(kind: Reading, mut queries: Q) -> Option<(usize, Why)>
     ensures { result ≡ fault_of kind (Q.left queries) }
 {

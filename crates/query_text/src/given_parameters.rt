@@ -38,7 +38,8 @@ fn keep_first(alloc: Global, kept: &mut Option<Text>, value: &str) -> Result<(),
 
 /// The attribute of this name and value.
 fn pair_of(alloc: Global, named: &Named<'_>) -> Result<Pair, Starved>
-    ensures { IfOk result (λ pair. pair ≡ record { name = named.now.name.now; value = named.now.value.now }) }
+    ensures { IfOk result (λ pair. pair ≡ record
+        { name = named.now.name.now; value = named.now.value.now }) }
 {
     let name = Text::copy_of(alloc, named.name)?;
     let value = Text::copy_of(alloc, named.value)?;
@@ -59,10 +60,12 @@ impl Given {
         }
     }
 
-    /// Keeps a parameter after these. Of the names with a meaning of their own the first value counts.
+    /// Keeps a parameter after these. Of the names with a meaning of their own the first value
+    /// counts.
     #[tactic(auto, unfolding(crate::specs::GivenParameters::given_with))]
     pub fn keep(&mut self, alloc: Global, named: &Named<'_>) -> Result<(), Starved>
-        ensures { OnOk result (values_in self.new ≡ given_with (values_in self.old) named.now.name.now named.now.value.now) }
+        ensures { OnOk result (values_in self.new ≡ given_with (values_in self.old)
+            named.now.name.now named.now.value.now) }
     {
         let name = named.name;
         if name == "ep" {

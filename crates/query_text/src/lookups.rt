@@ -34,13 +34,13 @@ fn query_of(kind: Kind, asked: Asked) -> Query
     }
 }
 
-/// What a lookup of that kind asks for: its criteria in their order, and which part of the listing (RFC 9176 section 6.2).
-/// An option without an equals sign has the empty pattern.
+/// What a lookup of that kind asks for: its criteria in their order, and which part of the listing
+/// (RFC 9176 section 6.2). An option without an equals sign has the empty pattern.
 ///
 /// # Errors
 ///
-/// `At` exactly with the first fault, that of [`fault`](crate::fault): `Starved` may come in its place. A page without a
-/// count is found after the last option.
+/// `At` exactly with the first fault, that of [`fault`](crate::fault): `Starved` may come in its
+/// place. A page without a count is found after the last option.
 pub fn lookup_query<'a, Q: Pieces<'a> + Drop>(
     alloc: Global,
     kind: Kind,

@@ -1,7 +1,8 @@
 //! The parameters of registrations and updates (RFC 9176 sections 5, 5.1 and 5.3.1).
 ghost use Rattle.std.specs.Prelude.{◌≡◌, false, IfOk};
 ghost use Rattle.record_model.specs.AllowedParameters.{AreAllowed, IsAllowedChange};
-ghost use Rattle.record_model.specs.Parameters.{registration_parameters, update_parameters, is_update};
+ghost use Rattle.record_model.specs.Parameters.{registration_parameters, update_parameters};
+ghost use Rattle.record_model.specs.Parameters.{is_update};
 ghost use Rattle.query_text.specs.Outcomes.{Answers, registering};
 ghost use Rattle.query_text.specs.GivenParameters.{values_in, registration_of, update_of};
 ghost use Rattle.query_text.specs.Rules.{is_lookup};
@@ -60,13 +61,15 @@ fn update_of(given: Given) -> UpdateParams
     }
 }
 
-/// The parameters of a registration (RFC 9176 section 5), or of a simple one (RFC 9176 section 5.1).
+/// The parameters of a registration (RFC 9176 section 5), or of a simple one (RFC 9176 section
+/// 5.1).
 ///
 /// # Errors
 ///
-/// `At` exactly with the first fault, that of [`fault`](crate::fault): `Starved` may come in its place. Of one parameter
-/// what is no UTF-8 comes first, then a control character in its value, then the rules of its name. An endpoint that is
-/// not named is found after the last parameter. What is answered with Ok is allowed to a registration.
+/// `At` exactly with the first fault, that of [`fault`](crate::fault): `Starved` may come in its
+/// place. Of one parameter what is no UTF-8 comes first, then a control character in its value,
+/// then the rules of its name. An endpoint that is not named is found after the last parameter.
+/// What is answered with Ok is allowed to a registration.
 pub fn reg_params<'a, Q: Pieces<'a> + Drop>(
     alloc: Global,
     queries: Q,
@@ -83,8 +86,9 @@ pub fn reg_params<'a, Q: Pieces<'a> + Drop>(
 ///
 /// # Errors
 ///
-/// `At` exactly with the first fault, that of [`fault`](crate::fault): `Starved` may come in its place. An update names no
-/// endpoint and no sector. What is answered with Ok is allowed to an update.
+/// `At` exactly with the first fault, that of [`fault`](crate::fault): `Starved` may come in its
+/// place. An update names no endpoint and no sector. What is answered with Ok is allowed to an
+/// update.
 pub fn update_params<'a, Q: Pieces<'a> + Drop>(
     alloc: Global,
     queries: Q,

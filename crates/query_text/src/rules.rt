@@ -187,8 +187,10 @@ pub(crate) fn judged<'a>(
     occurred: &Occurred,
     option: &'a [u8],
 ) -> Result<Named<'a>, Why>
-    ensures fault { MatchResult result (λ _. rules.fault_after kind occurred.now option.now ≡ None) (λ why. rules.fault_after kind occurred.now option.now ≡ Some why) }
-    ensures parts { MatchResult result (λ named. (named.name.now ≡ options.option_name option.now) × (named.value.now ≡ options.option_value option.now)) (λ _. Unit {0}) }
+    ensures fault { MatchResult result (λ _. rules.fault_after kind occurred.now option.now ≡ None)
+        (λ why. rules.fault_after kind occurred.now option.now ≡ Some why) }
+    ensures parts { MatchResult result (λ named. (named.name.now ≡ options.option_name option.now) ×
+        (named.value.now ≡ options.option_value option.now)) (λ _. Unit {0}) }
 {
     let Ok(text) = str::from_utf8(option) else {
         return Err(Why::Utf8);

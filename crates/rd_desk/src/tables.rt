@@ -48,13 +48,11 @@ impl Model for Tables {
     ghost view = { λ t. record {
       moment = t.moment.0;
       version = arc_value t.version;
-      exchanges =
-          t.exchanges;
+      exchanges = t.exchanges;
       transfers = t.transfers;
       watching = t.watching;
       fetches = t.fetches;
-      observed =
-          t.observed;
+      observed = t.observed;
     } };
 
     ghost invariant = { λ t. (t.moment.0 ≤ 10 ^ 15)

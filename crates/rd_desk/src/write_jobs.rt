@@ -35,8 +35,7 @@ impl Model for WriteJob {
     ghost view = { λ job. record {
       peer = job.peer;
       datagram = job.datagram;
-      admitted =
-          job.admitted.0;
+      admitted = job.admitted.0;
     } };
 
     ghost invariant = { λ job. is_write_datagram job.datagram ≡ true };

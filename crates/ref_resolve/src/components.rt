@@ -42,7 +42,8 @@ fn scheme_of(text: &str) -> (Option<&str>, &str)
 
 /// What stands between two slashes at the beginning and the next slash, and what is left.
 fn authority_of(text: &str) -> (Option<&str>, &str)
-    ensures authority { option_map (λ authority. authority.now) result.0 ≡ references.authority_in text.now }
+    ensures authority { option_map (λ authority. authority.now) result.0
+        ≡ references.authority_in text.now }
     ensures path { result.1.now ≡ references.path_in text.now }
 {
     match after_two_slashes(text) {

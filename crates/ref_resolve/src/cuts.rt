@@ -2,12 +2,14 @@
 ghost use Rattle.std.specs.Prelude.{◌≡◌, ◌<◌, ◌+◌, ◌∷◌, length, option_map, MatchOption, false};
 ghost use Rattle.reference_model.specs.References as references;
 
-/// What stands before the first of these marks, or the whole text, and what stands after it, if there is one.
+/// What stands before the first of these marks, or the whole text, and what stands after it, if
+/// there is one.
 pub(crate) fn around(text: &str, mark: char) -> (&str, Option<&str>)
     requires { mark < 128 }
     ensures before { result.0.now ≡ references.before mark text.now }
     ensures after { option_map (λ rest. rest.now) result.1 ≡ references.after mark text.now }
-    ensures lengths { MatchOption result.1 (length result.0.now ≡ length text.now) (λ rest. length result.0.now + 1 + length rest.now ≡ length text.now) }
+    ensures lengths { MatchOption result.1 (length result.0.now ≡ length text.now)
+        (λ rest. length result.0.now + 1 + length rest.now ≡ length text.now) }
 {
     match text.split_once(mark) {
         Some((front, back)) => (front, Some(back)),
@@ -42,7 +44,8 @@ pub(crate) fn through(text: &str, mark: char) -> &str
 /// What stands after the mark, where the text begins with it.
 pub(crate) fn after_first(text: &str, mark: char) -> Option<&str>
     requires { mark < 128 }
-    ensures { MatchOption result (references.begins_with mark text.now ≡ false) (λ rest. text.now ≡ mark ∷ rest.now) }
+    ensures { MatchOption result (references.begins_with mark text.now ≡ false)
+        (λ rest. text.now ≡ mark ∷ rest.now) }
 {
     text.strip_prefix(mark)
 }

@@ -1,5 +1,7 @@
 //! Removing the dot segments of a path (RFC 3986 section 5.2.4).
-ghost use Rattle.std.specs.Prelude.{◌≡◌, ◌<◌, ◌≤◌, [], ◌∷◌, ◌++◌, ◌||◌, ◌&&◌, ◌==◌, true, false, fold, length, take, drop, slice_index, MatchOption, IfSome, OnOk};
+ghost use Rattle.std.specs.Prelude.{◌≡◌, ◌<◌, ◌≤◌, [], ◌∷◌, ◌++◌, ◌||◌, ◌&&◌, ◌==◌, true, false};
+ghost use Rattle.std.specs.Prelude.{fold, length, take, drop, slice_index, MatchOption, IfSome};
+ghost use Rattle.std.specs.Prelude.{OnOk};
 ghost use Rattle.std.specs.String.{string_bytes};
 ghost use Rattle.std.specs.Str.{IsUtf8};
 ghost use Rattle.link_model.specs.Characters.{full_stop, slash, is_empty};
@@ -34,7 +36,9 @@ fn is_dot_segment(segment: &str) -> bool
 
 /// A path without the dot segments at its beginning that no slash stands before.
 fn without_leading_dots(path: &str) -> &str
-    ensures same { resolution.without_leading_dots (resolution.with_closing_slash (resolution.segments_of path.now)) ≡ resolution.with_closing_slash (resolution.segments_of result.now) }
+    ensures same { resolution.without_leading_dots (resolution.with_closing_slash
+        (resolution.segments_of path.now))
+        ≡ resolution.with_closing_slash (resolution.segments_of result.now) }
     ensures first { resolution.is_dot_segment (references.before slash result.now) ≡ false }
 {
     let mut rest = path;
@@ -52,8 +56,10 @@ fn without_leading_dots(path: &str) -> &str
 
 /// The offset of the last slash.
 fn last_slash(text: &[u8]) -> Option<usize>
-    ensures before { MatchOption result (before_last slash text.now ≡ []) (λ offset. before_last slash text.now ≡ take offset text.now) }
-    ensures offset { IfSome result (λ offset. (offset < length text.now) × (slice_index text.now offset ≡ slash)) }
+    ensures before { MatchOption result (before_last slash text.now ≡ [])
+        (λ offset. before_last slash text.now ≡ take offset text.now) }
+    ensures offset { IfSome result (λ offset. (offset < length text.now) ×
+        (slice_index text.now offset ≡ slash)) }
 {
     let mut rest = text;
     'octets: while let Some((octet, front)) = rest.split_last() {
@@ -70,7 +76,8 @@ fn drop_last_segment(text: &mut String, start: usize)
     requires within { start ≤ length (string_bytes text.old) }
     requires utf8 { IsUtf8 (take start (string_bytes text.old)) }
     ensures front { take start (string_bytes text.new) ≡ take start (string_bytes text.old) }
-    ensures path { drop start (string_bytes text.new) ≡ before_last slash (drop start (string_bytes text.old)) }
+    ensures path { drop start (string_bytes text.new)
+        ≡ before_last slash (drop start (string_bytes text.old)) }
     ensures within { start ≤ length (string_bytes text.new) }
 {
     match last_slash(&text.as_bytes()[start..]) {
@@ -79,12 +86,15 @@ fn drop_last_segment(text: &mut String, start: usize)
     }
 }
 
-/// Appends a segment to the path that begins at `start`: two dots take the last segment away, and one dot is left out.
+/// Appends a segment to the path that begins at `start`: two dots take the last segment away, and
+/// one dot is left out.
 fn append_segment(text: &mut String, start: usize, segment: &str) -> Result<(), Starved>
     requires within { start ≤ length (string_bytes text.old) }
     requires utf8 { IsUtf8 (take start (string_bytes text.old)) }
-    ensures front { OnOk result (take start (string_bytes text.new) ≡ take start (string_bytes text.old)) }
-    ensures path { OnOk result (drop start (string_bytes text.new) ≡ path_with (drop start (string_bytes text.old)) segment.now) }
+    ensures front { OnOk result (take start (string_bytes text.new) ≡ take start
+        (string_bytes text.old)) }
+    ensures path { OnOk result (drop start (string_bytes text.new) ≡ path_with
+        (drop start (string_bytes text.old)) segment.now) }
     ensures within { OnOk result (start ≤ length (string_bytes text.new)) }
 {
     if is_double_dot(segment) {
@@ -103,8 +113,10 @@ fn append_segment(text: &mut String, start: usize, segment: &str) -> Result<(), 
 fn append_last_segment(text: &mut String, start: usize, segment: &str) -> Result<(), Starved>
     requires within { start ≤ length (string_bytes text.old) }
     requires utf8 { IsUtf8 (take start (string_bytes text.old)) }
-    ensures front { OnOk result (take start (string_bytes text.new) ≡ take start (string_bytes text.old)) }
-    ensures path { OnOk result (drop start (string_bytes text.new) ≡ fold path_with (drop start (string_bytes text.old)) (resolution.with_closing_slash (segment.now ∷ []))) }
+    ensures front { OnOk result (take start (string_bytes text.new) ≡ take start
+        (string_bytes text.old)) }
+    ensures path { OnOk result (drop start (string_bytes text.new) ≡ fold path_with
+        (drop start (string_bytes text.old)) (resolution.with_closing_slash (segment.now ∷ []))) }
     ensures within { OnOk result (start ≤ length (string_bytes text.new)) }
 {
     append_segment(text, start, segment)?;
@@ -114,13 +126,16 @@ fn append_last_segment(text: &mut String, start: usize, segment: &str) -> Result
     Ok(())
 }
 
-/// Appends the segments of a path that is empty or begins with a slash, to the path that begins at `start`.
+/// Appends the segments of a path that is empty or begins with a slash, to the path that begins at
+/// `start`.
 fn append_segments(text: &mut String, start: usize, path: &str) -> Result<(), Starved>
     requires within { start ≤ length (string_bytes text.old) }
     requires utf8 { IsUtf8 (take start (string_bytes text.old)) }
     requires slash { (is_empty path.now || references.begins_with slash path.now) ≡ true }
-    ensures front { OnOk result (take start (string_bytes text.new) ≡ take start (string_bytes text.old)) }
-    ensures path { OnOk result (drop start (string_bytes text.new) ≡ fold path_with (drop start (string_bytes text.old)) (closed_segments path.now)) }
+    ensures front { OnOk result (take start (string_bytes text.new) ≡ take start
+        (string_bytes text.old)) }
+    ensures path { OnOk result (drop start (string_bytes text.new) ≡ fold path_with
+        (drop start (string_bytes text.old)) (closed_segments path.now)) }
 {
     let mut rest = path;
     'segments: while let Some(after) = after_first(rest, '/') {
@@ -167,7 +182,8 @@ fn has_no_dots(path: &str) -> bool
 
 /// Appends a path without its dot segments, segment by segment.
 fn append_by_segments(text: &mut String, path: &str) -> Result<(), Starved>
-    ensures { OnOk result (string_bytes text.new ≡ string_bytes text.old ++ resolution.remove_dot_segments path.now) }
+    ensures { OnOk result (string_bytes text.new ≡ string_bytes text.old ++
+        resolution.remove_dot_segments path.now) }
 {
     let path = without_leading_dots(path);
     let start = text.as_bytes().len();
@@ -179,7 +195,8 @@ fn append_by_segments(text: &mut String, path: &str) -> Result<(), Starved>
 /// Appends a path without its dot segments (RFC 3986 section 5.2.4).
 #[tactic(auto, using(crate::proofs::PlainPaths::nothing_removed))]
 pub(crate) fn append_without_dots(text: &mut String, path: &str) -> Result<(), Starved>
-    ensures { OnOk result (string_bytes text.new ≡ string_bytes text.old ++ resolution.remove_dot_segments path.now) }
+    ensures { OnOk result (string_bytes text.new ≡ string_bytes text.old ++
+        resolution.remove_dot_segments path.now) }
 {
     if has_no_dots(path) {
         text.push_str(path)?;

@@ -1,4 +1,5 @@
-//! How far the text of a component goes before an octet that cannot stand there (RFC 3986 section 3).
+//! How far the text of a component goes before an octet that cannot stand there (RFC 3986 section
+//! 3).
 ghost use Rattle.std.specs.Prelude.{◌≡◌, ◌≤◌, ◌+◌, ◌∷◌, length};
 ghost use Rattle.std.specs.List.{prefix_len, list_all};
 ghost use Rattle.std.specs.Char.{is_ascii_digit};
@@ -55,7 +56,8 @@ fn is_name_character(octet: u8) -> bool
         )
 }
 
-/// Whether an octet is a character of a path, beside percent escapes (RFC 3986 section 3.3). Small letters come first, since most are.
+/// Whether an octet is a character of a path, beside percent escapes (RFC 3986 section 3.3). Small
+/// letters come first, since most are.
 fn is_path_character(octet: u8) -> bool
     ensures { result ≡ characters.is_path_character octet }
 {
@@ -194,7 +196,8 @@ fn port_reach(text: &str) -> Reach
 /// An IP literal after its opening bracket, and a port or none (RFC 3986 section 3.2.2).
 #[tactic(auto, using(crate::proofs::ReachLaws::octet_after))]
 fn literal_reach(text: &str) -> Reach
-    ensures whole { result.whole ≡ references.is_literal_and_port (characters.left_bracket ∷ text.now) }
+    ensures whole { result.whole
+        ≡ references.is_literal_and_port (characters.left_bracket ∷ text.now) }
     ensures at { result.at + 1 ≡ faults.literal_prefix (characters.left_bracket ∷ text.now) }
     ensures bound { result.at ≤ length text.now }
 {

@@ -1,5 +1,7 @@
 //! A text read as a URI-reference, or the offset of its first fault (RFC 3986 section 4.1).
-ghost use Rattle.std.specs.Prelude.{◌≡◌, ◌+◌, ◌<◌, ◌≤◌, ◌^◌, ℕ, length, option_map, Some, is_some, IfSome, IfOk, IfErr, IsOkAnd, MatchOption, true, false};
+ghost use Rattle.std.specs.Prelude.{◌≡◌, ◌+◌, ◌<◌, ◌≤◌, ◌^◌, ℕ, length, option_map, Some};
+ghost use Rattle.std.specs.Prelude.{is_some, IfSome, IfOk, IfErr, IsOkAnd, MatchOption, true};
+ghost use Rattle.std.specs.Prelude.{false};
 ghost use Rattle.reference_model.specs.References as references;
 ghost use Rattle.reference_model.specs.ReferenceFaults as faults;
 ghost use Rattle.ref_resolve.specs.ComponentsOfParts.{components_of};
@@ -13,8 +15,8 @@ use crate::reach::{Class, are_path_characters, authority_reach, is_scheme, text_
 /// A text is no URI-reference.
 #[derive(Clone, Copy, Debug, PartialEq, Eq)]
 pub struct RefBad {
-    /// The offset of the first octet that no URI-reference with the same octets before it can have there, or the length
-    /// of the text.
+    /// The offset of the first octet that no URI-reference with the same octets before it can have
+    /// there, or the length of the text.
     pub at: usize,
 }
 
@@ -31,9 +33,12 @@ struct Span {
 
 /// The part that spells a scheme.
 fn scheme_span(scheme: Option<&str>) -> Span
-    ensures size { result.size ≡ length (faults.scheme_part (option_map (λ text. text.now) scheme.entry)).text }
-    ensures whole { result.whole ≡ (faults.scheme_part (option_map (λ text. text.now) scheme.entry)).allowed }
-    ensures at { result.at ≡ (faults.scheme_part (option_map (λ text. text.now) scheme.entry)).prefix }
+    ensures size { result.size
+        ≡ length (faults.scheme_part (option_map (λ text. text.now) scheme.entry)).text }
+    ensures whole { result.whole
+        ≡ (faults.scheme_part (option_map (λ text. text.now) scheme.entry)).allowed }
+    ensures at { result.at
+        ≡ (faults.scheme_part (option_map (λ text. text.now) scheme.entry)).prefix }
     ensures bound { result.at ≤ result.size }
 {
     match scheme {
@@ -52,9 +57,13 @@ fn scheme_span(scheme: Option<&str>) -> Span
 
 /// The part that spells an authority.
 fn authority_span(authority: Option<&str>) -> Span
-    ensures size { result.size ≡ length (faults.authority_part (option_map (λ text. text.now) authority.entry)).text }
-    ensures whole { result.whole ≡ (faults.authority_part (option_map (λ text. text.now) authority.entry)).allowed }
-    ensures at { result.whole ≡ false → result.at ≡ (faults.authority_part (option_map (λ text. text.now) authority.entry)).prefix }
+    ensures size { result.size
+        ≡ length (faults.authority_part (option_map (λ text. text.now) authority.entry)).text }
+    ensures whole { result.whole
+        ≡ (faults.authority_part (option_map (λ text. text.now) authority.entry)).allowed }
+    ensures at { result.whole ≡ false
+        → result.at
+        ≡ (faults.authority_part (option_map (λ text. text.now) authority.entry)).prefix }
     ensures bound { result.at ≤ result.size }
 {
     match authority {
@@ -76,10 +85,14 @@ fn authority_span(authority: Option<&str>) -> Span
 
 /// The part that spells a query or a fragment, after its mark.
 fn marked_span(text: Option<&str>) -> Span
-    ensures query { result.size ≡ length (faults.query_part (option_map (λ text. text.now) text.entry)).text }
-    ensures fragment { result.size ≡ length (faults.fragment_part (option_map (λ text. text.now) text.entry)).text }
-    ensures whole { result.whole ≡ (faults.query_part (option_map (λ text. text.now) text.entry)).allowed }
-    ensures at { result.whole ≡ false → result.at ≡ (faults.query_part (option_map (λ text. text.now) text.entry)).prefix }
+    ensures query { result.size
+        ≡ length (faults.query_part (option_map (λ text. text.now) text.entry)).text }
+    ensures fragment { result.size
+        ≡ length (faults.fragment_part (option_map (λ text. text.now) text.entry)).text }
+    ensures whole { result.whole
+        ≡ (faults.query_part (option_map (λ text. text.now) text.entry)).allowed }
+    ensures at { result.whole ≡ false
+        → result.at ≡ (faults.query_part (option_map (λ text. text.now) text.entry)).prefix }
     ensures bound { result.at ≤ result.size }
 {
     match text {
@@ -99,10 +112,13 @@ fn marked_span(text: Option<&str>) -> Span
     }
 }
 
-/// The offset of the first fault of the parts of a text of that many octets, if one may not stand there.
+/// The offset of the first fault of the parts of a text of that many octets, if one may not stand
+/// there.
 fn fault_of(parts: &Parts<'_>, size: usize) -> Option<usize>
     requires { size_of (components_of parts.now) ≡ size }
-    ensures { MatchOption result (have_no_fault (components_of parts.now) ≡ true) (λ at. (have_no_fault (components_of parts.now) ≡ false) × (at ≡ faults.prefix_of_parts (faults.parts_of (components_of parts.now)))) }
+    ensures { MatchOption result (have_no_fault (components_of parts.now) ≡ true)
+        (λ at. (have_no_fault (components_of parts.now) ≡ false) ×
+        (at ≡ faults.prefix_of_parts (faults.parts_of (components_of parts.now)))) }
 {
     let scheme = scheme_span(parts.scheme);
     if !scheme.whole {
@@ -129,7 +145,8 @@ fn fault_of(parts: &Parts<'_>, size: usize) -> Option<usize>
     None
 }
 
-/// Whether a text is a path that begins with one slash and has no percent escapes, and nothing else.
+/// Whether a text is a path that begins with one slash and has no percent escapes, and nothing
+/// else.
 fn is_path_alone(text: &str) -> bool
     ensures { result ≡ is_path_alone text.now }
 {
@@ -143,11 +160,14 @@ fn is_path_alone(text: &str) -> bool
 ///
 /// # Errors
 ///
-/// `RefBad` exactly where the text is no URI-reference: a colon stands before the first slash, question mark or number
-/// sign and what is before it is no scheme, or a component has a character that may not stand there.
+/// `RefBad` exactly where the text is no URI-reference: a colon stands before the first slash,
+/// question mark or number sign and what is before it is no scheme, or a component has a character
+/// that may not stand there.
 pub fn parts(text: &str) -> Result<Parts<'_>, RefBad>
     ensures found { IfOk result (λ read. references.IsReference text.now (components_of read)) }
-    ensures only { (c : references.Components) → references.IsReference text.now c → IsOkAnd result (λ read. components_of read ≡ c) }
+    ensures only { (c : references.Components)
+        → references.IsReference text.now c
+        → IsOkAnd result (λ read. components_of read ≡ c) }
     ensures offset { IfErr result (λ bad. faults.IsReferenceFault text.now bad.at) }
     ensures exact { IfErr result (λ bad. faults.reference_fault_at text.now ≡ Some bad.at) }
 {
@@ -168,8 +188,8 @@ pub fn is_uri(parts: &Parts<'_>) -> bool
     parts.scheme.is_some()
 }
 
-/// The host of a reference as it is spelled, an IP literal with its brackets, where there is an authority
-/// (RFC 3986 section 3.2.2). An empty host is the empty text.
+/// The host of a reference as it is spelled, an IP literal with its brackets, where there is an
+/// authority (RFC 3986 section 3.2.2). An empty host is the empty text.
 pub fn host<'a>(parts: &Parts<'a>) -> Option<&'a str>
     ensures { option_map (λ text. text.now) result ≡ references.host (components_of parts.now) }
 {

@@ -12,14 +12,15 @@ use crate::dot_segments::append_without_dots;
 use rd_base::{Starved, Text};
 use std::alloc::Global;
 
-/// How many octets stand between the components of a reference at most: a colon, two slashes, a slash of the path, a question mark and a
-/// number sign.
+/// How many octets stand between the components of a reference at most: a colon, two slashes, a
+/// slash of the path, a question mark and a number sign.
 const DELIMITERS: usize = 6;
 
 /// The scheme of the reference, or else that of the base.
 #[tactic(auto, unfolding(reference_model::specs::Resolution::resolution))]
 fn target_scheme<'a>(base: &Parts<'a>, reference: &Parts<'a>) -> Option<&'a str>
-    ensures { option_map (λ text. text.now) result ≡ (resolution.resolution (components_of base.now) (components_of reference.now)).scheme }
+    ensures { option_map (λ text. text.now) result
+        ≡ (resolution.resolution (components_of base.now) (components_of reference.now)).scheme }
 {
     if reference.scheme.is_some() {
         return reference.scheme;
@@ -30,7 +31,8 @@ fn target_scheme<'a>(base: &Parts<'a>, reference: &Parts<'a>) -> Option<&'a str>
 /// The authority of a reference that has a scheme or an authority, or else that of the base.
 #[tactic(auto, unfolding(reference_model::specs::Resolution::resolution))]
 fn target_authority<'a>(base: &Parts<'a>, reference: &Parts<'a>) -> Option<&'a str>
-    ensures { option_map (λ text. text.now) result ≡ (resolution.resolution (components_of base.now) (components_of reference.now)).authority }
+    ensures { option_map (λ text. text.now) result
+        ≡ (resolution.resolution (components_of base.now) (components_of reference.now)).authority }
 {
     if reference.scheme.is_some() {
         return reference.authority;
@@ -41,10 +43,12 @@ fn target_authority<'a>(base: &Parts<'a>, reference: &Parts<'a>) -> Option<&'a s
     }
 }
 
-/// The query of the reference, or that of the base where the reference has nothing before its fragment.
+/// The query of the reference, or that of the base where the reference has nothing before its
+/// fragment.
 #[tactic(auto, unfolding(reference_model::specs::Resolution::resolution))]
 fn target_query<'a>(base: &Parts<'a>, reference: &Parts<'a>) -> Option<&'a str>
-    ensures { option_map (λ text. text.now) result ≡ (resolution.resolution (components_of base.now) (components_of reference.now)).query }
+    ensures { option_map (λ text. text.now) result
+        ≡ (resolution.resolution (components_of base.now) (components_of reference.now)).query }
 {
     if reference.scheme.is_some() {
         return reference.query;
@@ -74,7 +78,8 @@ fn directory(path: &str) -> &str
 /// The path of a reference after that of the base (RFC 3986 section 5.2.3).
 #[tactic(auto, unfolding(reference_model::specs::Resolution::merged))]
 fn merged(alloc: Global, base: &Parts<'_>, path: &str) -> Result<String, Starved>
-    ensures { IfOk result (λ text. string_bytes text ≡ resolution.merged (components_of base.now) path.now) }
+    ensures { IfOk result (λ text. string_bytes text ≡ resolution.merged (components_of base.now)
+        path.now) }
 {
     let mut text = String::new(alloc);
     text.push_str(front_of_merged(base))?;
@@ -82,7 +87,8 @@ fn merged(alloc: Global, base: &Parts<'_>, path: &str) -> Result<String, Starved
     Ok(text)
 }
 
-/// What stands before the path of a reference when it is merged: a slash where the base has an authority and no path.
+/// What stands before the path of a reference when it is merged: a slash where the base has an
+/// authority and no path.
 fn front_of_merged<'a>(base: &Parts<'a>) -> &'a str
     ensures { result.now ≡ front_of (components_of base.now) }
 {
@@ -100,7 +106,8 @@ fn append_path(
     base: &Parts<'_>,
     reference: &Parts<'_>,
 ) -> Result<(), Starved>
-    ensures { OnOk result (string_bytes text.new ≡ string_bytes text.old ++ (resolution.resolution (components_of base.now) (components_of reference.now)).path) }
+    ensures { OnOk result (string_bytes text.new ≡ string_bytes text.old ++
+        (resolution.resolution (components_of base.now) (components_of reference.now)).path) }
 {
     if reference.scheme.is_some() {
         return append_without_dots(text, reference.path);
@@ -121,7 +128,8 @@ fn append_path(
 
 /// Appends a scheme with its colon, where there is one.
 fn append_scheme(text: &mut String, scheme: Option<&str>) -> Result<(), Starved>
-    ensures { OnOk result (string_bytes text.new ≡ string_bytes text.old ++ references.scheme_text (option_map (λ part. part.now) scheme.entry)) }
+    ensures { OnOk result (string_bytes text.new ≡ string_bytes text.old ++ references.scheme_text
+        (option_map (λ part. part.now) scheme.entry)) }
 {
     if let Some(part) = scheme {
         text.push_str(part)?;
@@ -132,7 +140,8 @@ fn append_scheme(text: &mut String, scheme: Option<&str>) -> Result<(), Starved>
 
 /// Appends an authority after two slashes, where there is one.
 fn append_authority(text: &mut String, authority: Option<&str>) -> Result<(), Starved>
-    ensures { OnOk result (string_bytes text.new ≡ string_bytes text.old ++ references.authority_text (option_map (λ part. part.now) authority.entry)) }
+    ensures { OnOk result (string_bytes text.new ≡ string_bytes text.old ++
+        references.authority_text (option_map (λ part. part.now) authority.entry)) }
 {
     if let Some(part) = authority {
         text.push_str("//")?;
@@ -147,7 +156,9 @@ fn append_front(
     scheme: Option<&str>,
     authority: Option<&str>,
 ) -> Result<(), Starved>
-    ensures { OnOk result (string_bytes text.new ≡ string_bytes text.old ++ (references.scheme_text (option_map (λ part. part.now) scheme.entry) ++ references.authority_text (option_map (λ part. part.now) authority.entry))) }
+    ensures { OnOk result (string_bytes text.new ≡ string_bytes text.old ++
+        (references.scheme_text (option_map (λ part. part.now) scheme.entry) ++
+        references.authority_text (option_map (λ part. part.now) authority.entry))) }
 {
     if let (Some(before), Some(after)) = (scheme, authority) {
         text.push_str(before)?;
@@ -161,7 +172,8 @@ fn append_front(
 
 /// Appends a query after its question mark, where there is one.
 fn append_query(text: &mut String, query: Option<&str>) -> Result<(), Starved>
-    ensures { OnOk result (string_bytes text.new ≡ string_bytes text.old ++ references.query_text (option_map (λ part. part.now) query.entry)) }
+    ensures { OnOk result (string_bytes text.new ≡ string_bytes text.old ++ references.query_text
+        (option_map (λ part. part.now) query.entry)) }
 {
     if let Some(part) = query {
         text.push_str("?")?;
@@ -172,7 +184,8 @@ fn append_query(text: &mut String, query: Option<&str>) -> Result<(), Starved>
 
 /// Appends a fragment after its number sign, where there is one.
 fn append_fragment(text: &mut String, fragment: Option<&str>) -> Result<(), Starved>
-    ensures { OnOk result (string_bytes text.new ≡ string_bytes text.old ++ references.fragment_text (option_map (λ part. part.now) fragment.entry)) }
+    ensures { OnOk result (string_bytes text.new ≡ string_bytes text.old ++ references.fragment_text
+        (option_map (λ part. part.now) fragment.entry)) }
 {
     if let Some(part) = fragment {
         text.push_str("#")?;
@@ -186,7 +199,8 @@ fn octets_of(part: Option<&str>) -> usize {
     part.map_or(0, |text| text.len())
 }
 
-/// How much room a path takes at most, with that of the base before it where it does not begin with a slash.
+/// How much room a path takes at most, with that of the base before it where it does not begin with
+/// a slash.
 fn room_for_path(base: &str, path: &str) -> usize {
     if path.as_bytes().starts_with(b"/") {
         return path.len();
@@ -194,7 +208,8 @@ fn room_for_path(base: &str, path: &str) -> usize {
     usize::saturating_add(base.len(), path.len())
 }
 
-/// How much room parts and a path take, with their delimiters. It is asked for at once, and changes no text.
+/// How much room parts and a path take, with their delimiters. It is asked for at once, and changes
+/// no text.
 fn room_for(parts: [Option<&str>; 4], path: usize) -> usize {
     let mut room = usize::saturating_add(path, DELIMITERS);
     for part in parts {
@@ -243,8 +258,12 @@ pub fn resolve_into(
 ///
 /// `Starved` where memory runs out, and for nothing else.
 pub fn resolve(alloc: Global, base: &Parts<'_>, reference: &Parts<'_>) -> Result<Text, Starved>
-    ensures value { IfOk result (λ text. text ≡ references.recomposed (resolution.resolution (components_of base.now) (components_of reference.now))) }
-    ensures texts { IfOk result (λ text. (b r : List ℕ) → references.IsReference b (components_of base.now) → references.IsReference r (components_of reference.now) → text ≡ resolution.resolved b r) }
+    ensures value { IfOk result (λ text. text ≡ references.recomposed
+        (resolution.resolution (components_of base.now) (components_of reference.now))) }
+    ensures texts { IfOk result (λ text. (b r : List ℕ)
+        → references.IsReference b (components_of base.now)
+        → references.IsReference r (components_of reference.now)
+        → text ≡ resolution.resolved b r) }
 {
     let mut text = String::new(alloc);
     resolve_into(alloc, base, reference, &mut text)?;

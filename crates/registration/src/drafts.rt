@@ -1,5 +1,7 @@
-//! Drafts of registrations: what one is, how a body makes one, and why a body makes none (RFC 9176 section 5).
-ghost use Rattle.std.specs.Prelude.{◌≡◌, ℕ, true, Some, None, IfOk, IfErr, IfSome, OnOk, false, option_map};
+//! Drafts of registrations: what one is, how a body makes one, and why a body makes none (RFC 9176
+//! section 5).
+ghost use Rattle.std.specs.Prelude.{◌≡◌, ℕ, true, Some, None, IfOk, IfErr, IfSome, OnOk, false};
+ghost use Rattle.std.specs.Prelude.{option_map};
 ghost use Rattle.std.specs.List.{list_all};
 ghost use Rattle.rd_base.specs.declared.moments.Moment.{Moment};
 ghost use Rattle.rd_base.specs.Peers.{IsHost};
@@ -39,13 +41,14 @@ pub struct Draft {
 /// Why a body gives no draft. What comes first in this order is answered, over the whole body.
 #[derive(Clone, Copy, Debug, PartialEq, Eq)]
 pub enum DraftFault {
-    /// The body is no link document (RFC 6690 section 2): the length of its longest prefix that begins one, in octets.
+    /// The body is no link document (RFC 6690 section 2): the length of its longest prefix that
+    /// begins one, in octets.
     Links(usize),
-    /// A target or an anchor is no URI-reference (RFC 3986 section 4.1): the octet of the body where the first such one
-    /// begins.
+    /// A target or an anchor is no URI-reference (RFC 3986 section 4.1): the octet of the body
+    /// where the first such one begins.
     Reference(usize),
-    /// A link's anchor has a scheme and its target has none (RFC 9176 appendix C): the index of the first such link,
-    /// counted from 0.
+    /// A link's anchor has a scheme and its target has none (RFC 9176 appendix C): the index of the
+    /// first such link, counted from 0.
     Limited(usize),
     /// Out of memory.
     Starved,
@@ -107,20 +110,24 @@ fn items_of(alloc: Global, base: &str, body: &[u8]) -> Result<Items, DraftFault>
     }
 }
 
-/// The draft of a registration (RFC 9176 section 5): its links against its base, which is the one that is given, else that
-/// of the peer. A target or an anchor with a scheme stays as it was written; any other one is resolved (RFC 3986 section
-/// 5.2). The base of the parameters is one that a registration may give; where all of them are allowed, the draft is one
-/// that a directory takes.
+/// The draft of a registration (RFC 9176 section 5): its links against its base, which is the one
+/// that is given, else that of the peer. A target or an anchor with a scheme stays as it was
+/// written; any other one is resolved (RFC 3986 section 5.2). The base of the parameters is one
+/// that a registration may give; where all of them are allowed, the draft is one that a directory
+/// takes.
 ///
 /// # Errors
 ///
-/// `Links` exactly where the body is no link document; else `Reference` exactly where a target or an anchor is no
-/// URI-reference; else `Limited` exactly where a link without a scheme in its target has one in its anchor. `Starved` may
-/// come instead of each, and leaves nothing.
+/// `Links` exactly where the body is no link document; else `Reference` exactly where a target or
+/// an anchor is no URI-reference; else `Limited` exactly where a link without a scheme in its
+/// target has one in its anchor. `Starved` may come instead of each, and leaves nothing.
 pub fn build(alloc: Global, params: RegParams, peer: Peer, body: &[u8]) -> Result<Draft, DraftFault>
     requires { IfSome params.base (λ base. is_base base ≡ true) }
-    ensures draft { IfOk result (λ draft. option_map (drafted peer params) (linked_references body.now) ≡ Some draft) }
-    ensures record_of { (number : ℕ) (now : Moment) → IfOk result (λ draft. option_map (registered number now peer params) (linked_references body.now) ≡ Some (recorded number now draft)) }
+    ensures draft { IfOk result (λ draft. option_map (drafted peer params)
+        (linked_references body.now) ≡ Some draft) }
+    ensures record_of { (number : ℕ) (now : Moment)
+        → IfOk result (λ draft. option_map (registered number now peer params)
+        (linked_references body.now) ≡ Some (recorded number now draft)) }
     ensures good { IfOk result (λ draft. body_fault body.now ≡ None) }
     ensures limited { OnOk result (is_refused_as_limited body.now ≡ false) }
     ensures is_draft { AreAllowed params → IfOk result IsDraft }

@@ -1,4 +1,5 @@
-//! What a registration is before it stands: its links resolved against its base, and what it weighs (RFC 9176 section 5).
+//! What a registration is before it stands: its links resolved against its base, and what it weighs
+//! (RFC 9176 section 5).
 #![tactic(auto)]
 
 mod drafts;

@@ -47,7 +47,8 @@ fn refer_anchor(
     }
 }
 
-/// Whether a link is in the Limited Link Format: a target without a scheme has no anchor with one (RFC 9176 appendix C).
+/// Whether a link is in the Limited Link Format: a target without a scheme has no anchor with one
+/// (RFC 9176 appendix C).
 fn is_limited(target: bool, anchor: Option<bool>) -> bool
     ensures { result ≡ is_limited_as_referred target anchor }
 {
@@ -143,8 +144,8 @@ fn noted(unlimited: Option<usize>, is_limited: bool, index: usize) -> Option<usi
     Some(index)
 }
 
-/// The links of a document against a base, or the first fault of their references, and else that of the Limited Link Format.
-/// The builder has no link yet.
+/// The links of a document against a base, or the first fault of their references, and else that of
+/// the Limited Link Format. The builder has no link yet.
 pub fn read_links(
     alloc: Global,
     base: &Parts<'_>,

@@ -86,9 +86,9 @@ fn with_rebased(
     Ok(builder)
 }
 
-/// The links against another base: each target and anchor as it was submitted, resolved anew where it has no scheme. The
-/// links are such as [`build`](crate::build) gives, and the base is one: any that may be given, and any of a peer, is. An
-/// error is running out of memory.
+/// The links against another base: each target and anchor as it was submitted, resolved anew where
+/// it has no scheme. The links are such as [`build`](crate::build) gives, and the base is one: any
+/// that may be given, and any of a peer, is. An error is running out of memory.
 pub fn rebased(alloc: Global, items: &Items, base: &Text) -> Result<Items, Starved>
     requires references { list_all has_references items.now ≡ true }
     requires base { is_base base.now ≡ true }

@@ -43,9 +43,12 @@ fn add_quoted(weight: u64, text: &str) -> u64
     sum
 }
 
-/// With a name of so many octets and a value in quotes: a semicolon stands before the name and an equals sign after it.
+/// With a name of so many octets and a value in quotes: a semicolon stands before the name and an
+/// equals sign after it.
 fn add_attribute(weight: u64, name: &str, value: &str) -> u64
-    ensures { result ≡ capped (weight + length (listing_model.quoted_attribute (record { name = name.now; value = value.now }))) }
+    ensures { result
+        ≡ capped (weight + length (listing_model.quoted_attribute
+        (record { name = name.now; value = value.now }))) }
 {
     add_quoted(add(weight, 2 + name.len()), value)
 }
@@ -73,7 +76,9 @@ fn add_extras(weight: u64, pairs: &[Pair]) -> u64
 
 /// With the sector of an endpoint, where it has one.
 fn add_sector(weight: u64, sector: &Option<Text>) -> u64
-    ensures { result ≡ capped (weight + length (flat_map listing_model.quoted_attribute (matching.sector_pairs sector.now))) }
+    ensures { result
+        ≡ capped (weight + length (flat_map listing_model.quoted_attribute
+        (matching.sector_pairs sector.now))) }
 {
     match sector {
         None => weight,
@@ -92,7 +97,10 @@ fn digits(number: u64) -> usize
 
 /// With the line of an endpoint.
 fn add_endpoint(weight: u64, draft: &Draft, number: u64) -> u64
-    ensures { (now : Moment) → result ≡ capped (weight + length (listing_model.endpoint_line (recorded number now draft.now))) }
+    ensures { (now : Moment)
+        → result
+        ≡ capped (weight + length (listing_model.endpoint_line
+        (recorded number now draft.now))) }
 {
     let sum = add(weight, "</rd/>".len() + digits(number));
     let sum = add_attribute(sum, "base", draft.base.as_str());
@@ -104,7 +112,8 @@ fn add_endpoint(weight: u64, draft: &Draft, number: u64) -> u64
 
 /// With the lines of links, each with one octet more: all of them, with a comma after each.
 fn add_links(weight: u64, items: &Items) -> u64
-    ensures { result ≡ capped (weight + sum_by (λ item. length (listing_model.link_line item) + 1) items.now) }
+    ensures { result
+        ≡ capped (weight + sum_by (λ item. length (listing_model.link_line item) + 1) items.now) }
 {
     if items.is_empty() {
         return weight;
@@ -112,11 +121,13 @@ fn add_links(weight: u64, items: &Items) -> u64
     add(add(weight, items.listed().len()), 1)
 }
 
-/// What a draft weighs under a number, in octets: its endpoint line and each of its link lines, each with one octet more
-/// (RFC 9176 sections 6.3 and 6.4). No listing is longer than what its registrations weigh. It is the greatest number of
-/// 64 bits where it would be more. Takes no memory.
+/// What a draft weighs under a number, in octets: its endpoint line and each of its link lines,
+/// each with one octet more (RFC 9176 sections 6.3 and 6.4). No listing is longer than what its
+/// registrations weigh. It is the greatest number of 64 bits where it would be more. Takes no
+/// memory.
 pub fn weight(draft: &Draft, number: u64) -> u64
-    ensures { (now : Moment) → result ≡ capped (listing_model.weight (recorded number now draft.now)) }
+    ensures { (now : Moment)
+        → result ≡ capped (listing_model.weight (recorded number now draft.now)) }
 {
     let sum = add(add_endpoint(0, draft, number), 1);
     add_links(sum, &draft.items)

@@ -48,10 +48,8 @@ impl Model for Publisher {
     ghost view = { λ p. record {
       name = name_of p.front.book;
       told = p.front.log;
-      published =
-          option_map (λ writer. arc_value writer.desk.shown.value.version) p.writer;
-      staged =
-          option_map arc_value p.staged;
+      published = option_map (λ writer. arc_value writer.desk.shown.value.version) p.writer;
+      staged = option_map arc_value p.staged;
     } };
 
     ghost invariant = { λ p. IsSome p.writer

@@ -36,8 +36,7 @@ impl Model for Watch {
       query = w.query;
       watchers = w.watchers;
       marked = w.marked;
-      body =
-          option_map arc_value w.body;
+      body = option_map arc_value w.body;
     } };
 }
 
