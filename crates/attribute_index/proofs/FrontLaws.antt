@@ -1,5 +1,30 @@
 -- Fronts: where those of two names and values differ, they are ordered as these are.
-use Rattle.std.proofs.Common.{◌≡◌, ℕ, zero, suc, ◌+◌, ◌*◌, ◌%◌, ◌<◌, ◌≤◌, ◌-◌, arith, drop, length, get_or, List, [], ◌∷◌, map, nat_cmp, refl, sym, ap, ◌∙◌, subst}
+use Rattle.std.proofs.Common.{
+  ◌≡◌,
+  ℕ,
+  zero,
+  suc,
+  ◌+◌,
+  ◌*◌,
+  ◌%◌,
+  ◌<◌,
+  ◌≤◌,
+  ◌-◌,
+  arith,
+  drop,
+  length,
+  get_or,
+  List,
+  [],
+  ◌∷◌,
+  map,
+  nat_cmp,
+  refl,
+  sym,
+  ap,
+  ◌∙◌,
+  subst,
+}
 use Rattle.std.proofs.Math.Seq.{drop-drop, drop-nil}
 use Rattle.std.specs.declared.cmp.Ordering.{Ordering}
 use Rattle.std.specs.declared.cmp.Ordering.TheVariants.{Less, Equal, Greater}

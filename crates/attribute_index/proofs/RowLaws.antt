@@ -1,5 +1,33 @@
 -- What rows say of entries: which there are, that they ascend, and whom a pattern finds.
-use Rattle.std.proofs.Common.{◌≡◌, ℕ, Bool, true, false, cond, ◌&&◌, ◌||◌, List, [], ◌∷◌, ◌++◌, Option, Some, None, IfSome, map, filter, nat_eq, nat_cmp, bytes_eq, refl, sym, ap, ◌∙◌, subst, not}
+use Rattle.std.proofs.Common.{
+  ◌≡◌,
+  ℕ,
+  Bool,
+  true,
+  false,
+  cond,
+  ◌&&◌,
+  ◌||◌,
+  List,
+  [],
+  ◌∷◌,
+  ◌++◌,
+  Option,
+  Some,
+  None,
+  IfSome,
+  map,
+  filter,
+  nat_eq,
+  nat_cmp,
+  bytes_eq,
+  refl,
+  sym,
+  ap,
+  ◌∙◌,
+  subst,
+  not,
+}
 use Rattle.std.specs.declared.cmp.Ordering.{Ordering}
 use Rattle.std.specs.declared.cmp.Ordering.TheVariants.{Less, Equal, Greater}
 use Rattle.std.specs.Ordering.{is_eq, is_lt, ordering_then, match_ordering}
@@ -19,7 +47,16 @@ use Rattle.chunk_map.specs.Changes.{IsChanged, with_value}
 use Rattle.chunk_map.specs.Sorted as sorted
 use Rattle.attribute_index.specs.declared.rows.Edit.{Edit}
 use Rattle.attribute_index.specs.declared.rows.Edit.TheVariants.{Put, Take}
-use Rattle.attribute_index.specs.Entries.{Entry, IsAscending, entry_cmp, has_entry, has_number, is_same, is_carrier, carriers_of}
+use Rattle.attribute_index.specs.Entries.{
+  Entry,
+  IsAscending,
+  entry_cmp,
+  has_entry,
+  has_number,
+  is_same,
+  is_carrier,
+  carriers_of,
+}
 use Rattle.attribute_index.specs.Rows.{
   Row,
   AreRows,

@@ -1,6 +1,12 @@
 use Rattle.std.proofs.Common.{◌≡◌, ◌<◌, ◌+◌, ◌*◌, suc, arith, subst}
 use Rattle.attribute_index.specs.Fronts.{symbols_of}
-use Rattle.attribute_index.proofs.FrontLaws.{limit, limit_room, spelled_more, spelled_none, spelled_past}
+use Rattle.attribute_index.proofs.FrontLaws.{
+  limit,
+  limit_room,
+  spelled_more,
+  spelled_none,
+  spelled_past,
+}
 use Rattle.attribute_index.proofs.fronts.number_at.Goals as goal
 
 pub loop-i-init : goal.loop-i-init
