@@ -1,8 +1,8 @@
 //! Which records carry which values of which attributes, as versions that never change.
 #![tactic(auto)]
 
+mod abbreviations;
 mod carriers;
-mod fronts;
 mod index;
 mod numbers;
 mod rows;

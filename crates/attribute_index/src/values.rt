@@ -12,10 +12,10 @@ ghost use Rattle.std.proofs.lemmas.Cmp.{
   and_equiv,
   on_equiv,
 };
-ghost use Rattle.attribute_index.specs.Fronts.{IsFront};
+ghost use Rattle.attribute_index.specs.Abbreviations.{IsAbbreviation};
 ghost use Rattle.attribute_index.specs.Rows.{value_cmp, is_same_value};
 
-use crate::fronts::Front;
+use crate::abbreviations::Abbreviation;
 use chunk_map::Shared;
 use rd_base::{Pair, Starved, Text};
 use std::alloc::Global;
@@ -25,9 +25,9 @@ use std::sync::Arc;
 
 /// A name and a value, with what orders them among most others without a look at their texts.
 #[derive(Drop)]
-struct Fronted {
-    /// The front of the two.
-    front: Front,
+struct Abbreviated {
+    /// The abbreviation of the two.
+    abbreviation: Abbreviation,
     /// The name and the value.
     pair: Pair,
 }
@@ -38,20 +38,23 @@ struct Fronted {
 #[derive(Drop)]
 pub struct Value {
     /// The name and the value, which no version copies.
-    fronted: Arc<Fronted>,
+    abbreviated: Arc<Abbreviated>,
 }
 
 impl Model for Value {
     ghost use Rattle.std.specs.Prelude.{ℕ, List};
     ghost use Rattle.std.specs.Arc.{arc_value};
-    ghost use Rattle.attribute_index.specs.Fronts.{IsFront};
+    ghost use Rattle.attribute_index.specs.Abbreviations.{IsAbbreviation};
 
     ghost Value = { List ℕ × List ℕ };
 
-    ghost view = { λ v. ((arc_value v.fronted).pair.name, (arc_value v.fronted).pair.value) };
+    ghost view = { λ v. (
+      (arc_value v.abbreviated).pair.name,
+      (arc_value v.abbreviated).pair.value,
+    ) };
 
-    ghost invariant = { λ v. IsFront (arc_value v.fronted).front
-        ((arc_value v.fronted).pair.name, (arc_value v.fronted).pair.value) };
+    ghost invariant = { λ v. IsAbbreviation (arc_value v.abbreviated).abbreviation
+        ((arc_value v.abbreviated).pair.name, (arc_value v.abbreviated).pair.value) };
 }
 
 impl Value {
@@ -59,36 +62,36 @@ impl Value {
     pub(crate) fn of(alloc: Global, name: &str, value: &str) -> Result<Value, Starved>
         ensures { IfOk result (λ v. v ≡ (name.now, value.now)) }
     {
-        let front = Front::of(name.as_bytes(), value.as_bytes());
+        let abbreviation = Abbreviation::of(name.as_bytes(), value.as_bytes());
         let name = Text::copy_of(alloc, name)?;
         let value = Text::copy_of(alloc, value)?;
         let pair = Pair { name, value };
-        let fronted = Arc::new(alloc, Fronted { front, pair })?;
-        Ok(Value { fronted })
+        let abbreviated = Arc::new(alloc, Abbreviated { abbreviation, pair })?;
+        Ok(Value { abbreviated })
     }
 
     /// The name.
     pub(crate) fn name(&self) -> &str
         ensures { result.now ≡ self.now.0 }
     {
-        let fronted: &Fronted = &*self.fronted;
-        fronted.pair.name.as_str()
+        let abbreviated: &Abbreviated = &*self.abbreviated;
+        abbreviated.pair.name.as_str()
     }
 
     /// The value without its name.
     pub(crate) fn value(&self) -> &str
         ensures { result.now ≡ self.now.1 }
     {
-        let fronted: &Fronted = &*self.fronted;
-        fronted.pair.value.as_str()
+        let abbreviated: &Abbreviated = &*self.abbreviated;
+        abbreviated.pair.value.as_str()
     }
 
-    /// The front of its name and its value.
-    fn front(&self) -> &Front
-        ensures { IsFront result.now self.now }
+    /// The abbreviation of its name and its value.
+    fn abbreviation(&self) -> &Abbreviation
+        ensures { IsAbbreviation result.now self.now }
     {
-        let fronted: &Fronted = &*self.fronted;
-        &fronted.front
+        let abbreviated: &Abbreviated = &*self.abbreviated;
+        &abbreviated.abbreviation
     }
 
     /// How it is ordered by its texts.
@@ -101,15 +104,15 @@ impl Value {
         }
     }
 
-    /// How it is ordered: as its front, and by its texts where the fronts are equal and leave some
-    /// of them out.
+    /// How it is ordered: as its abbreviation, and by its texts where the abbreviations are equal
+    /// and leave some of them out.
     fn order(&self, other: &Value) -> Ordering
         ensures { result ≡ value_cmp self.now other.now }
     {
-        let front = self.front();
-        match front.cmp(other.front()) {
+        let abbreviation = self.abbreviation();
+        match abbreviation.cmp(other.abbreviation()) {
             Ordering::Equal => {
-                if front.is_whole() {
+                if abbreviation.is_whole() {
                     return Ordering::Equal;
                 }
                 self.order_of_texts(other)
@@ -122,8 +125,8 @@ impl Value {
 /// An equal value, which shares the texts.
 impl Shared for Value {
     fn share(&self) -> Result<Value, Starved> {
-        let fronted = Arc::try_clone(&self.fronted)?;
-        Ok(Value { fronted })
+        let abbreviated = Arc::try_clone(&self.abbreviated)?;
+        Ok(Value { abbreviated })
     }
 }
 

@@ -1,6 +1,6 @@
 use Rattle.std.proofs.Common.{rules, ◌≡◌, ◌+◌, ◌-◌, length, get_or, sym, ap, ◌∙◌, arith}
-use Rattle.attribute_index.proofs.FrontLaws.{name_digit, value_digit}
-use Rattle.attribute_index.proofs.fronts.digit_at.Goals as goal
+use Rattle.attribute_index.proofs.AbbreviationLaws.{name_digit, value_digit}
+use Rattle.attribute_index.proofs.abbreviations.digit_at.Goals as goal
 
 pub returns-then-at-name-clause-digit : goal.returns-then-at-name-clause-digit
 returns-then-at-name-clause-digit c =

@@ -1,6 +1,7 @@
 //! Numbers that order most names and values before their texts are looked at.
 ghost use Rattle.std.specs.Prelude.{◌≡◌, ◌<◌, ◌≤◌, ℕ, List, [], IsTrue, drop};
-ghost use Rattle.attribute_index.specs.Fronts.{AreOctets, IsFront, digit_of, spelled, symbols_of};
+ghost use Rattle.attribute_index.specs.Abbreviations.{AreOctets, IsAbbreviation, digit_of};
+ghost use Rattle.attribute_index.specs.Abbreviations.{spelled, symbols_of};
 
 /// How many symbols stand in a number.
 const SYMBOLS: usize = 7;
@@ -8,10 +9,10 @@ const SYMBOLS: usize = 7;
 /// The base in which a number spells them: above all digits.
 const BASE: u64 = 512;
 
-/// The first 21 symbols of a name and its value, seven in each number. Fronts are ordered as the
-/// names and values are whose fronts they are, where they differ.
+/// The first 21 symbols of a name and its value, seven in each number. Abbreviations are ordered as
+/// the names and values are whose abbreviations they are, where they differ.
 #[derive(Clone, Copy, Drop, PartialEq, Eq, PartialOrd, Ord)]
-pub(crate) struct Front {
+pub(crate) struct Abbreviation {
     /// The first seven symbols.
     first: u64,
     /// The next seven.
@@ -53,12 +54,12 @@ fn number_at(name: &[u8], value: &[u8], from: usize) -> u64
     number
 }
 
-impl Front {
-    /// The front of a name and a value.
-    pub(crate) fn of(name: &[u8], value: &[u8]) -> Front
-        ensures { IsFront result (name.now, value.now) }
+impl Abbreviation {
+    /// The abbreviation of a name and a value.
+    pub(crate) fn of(name: &[u8], value: &[u8]) -> Abbreviation
+        ensures { IsAbbreviation result (name.now, value.now) }
     {
-        Front {
+        Abbreviation {
             first: number_at(name, value, 0),
             second: number_at(name, value, SYMBOLS),
             third: number_at(name, value, 2 * SYMBOLS),
@@ -67,7 +68,7 @@ impl Front {
 
     /// Whether it spells the whole of its name and its value.
     pub(crate) fn is_whole(&self) -> bool
-        ensures { (value : List ℕ × List ℕ) → IsFront self.now value → IsTrue result
+        ensures { (value : List ℕ × List ℕ) → IsAbbreviation self.now value → IsTrue result
             → drop 21 (symbols_of value) ≡ [] }
     {
         self.third % BASE == 0

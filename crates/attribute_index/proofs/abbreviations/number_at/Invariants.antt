@@ -1,7 +1,7 @@
 use Rattle.std.proofs.Common.{◌≡◌, ◌<◌, drop}
-use Rattle.attribute_index.specs.Fronts.{spelled, symbols_of}
-use Rattle.attribute_index.proofs.FrontLaws.{limit}
-use Rattle.attribute_index.proofs.fronts.number_at.Given as goal
+use Rattle.attribute_index.specs.Abbreviations.{spelled, symbols_of}
+use Rattle.attribute_index.proofs.AbbreviationLaws.{limit}
+use Rattle.attribute_index.proofs.abbreviations.number_at.Given as goal
 
 abbrev pub invariant-loop-i : goal.invariant-loop-i
 invariant-loop-i l = record {

@@ -1,13 +1,13 @@
 use Rattle.std.proofs.Common.{◌≡◌, ◌<◌, ◌+◌, ◌*◌, suc, arith, subst}
-use Rattle.attribute_index.specs.Fronts.{symbols_of}
-use Rattle.attribute_index.proofs.FrontLaws.{
+use Rattle.attribute_index.specs.Abbreviations.{symbols_of}
+use Rattle.attribute_index.proofs.AbbreviationLaws.{
   limit,
   limit_room,
   spelled_more,
   spelled_none,
   spelled_past,
 }
-use Rattle.attribute_index.proofs.fronts.number_at.Goals as goal
+use Rattle.attribute_index.proofs.abbreviations.number_at.Goals as goal
 
 pub loop-i-init : goal.loop-i-init
 loop-i-init c = record { spells = spelled_none _; below = omega arith }

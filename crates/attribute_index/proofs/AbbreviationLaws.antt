@@ -1,4 +1,4 @@
--- Fronts: where those of two names and values differ, they are ordered as these are.
+-- Abbreviations: where those of two names and values differ, they are ordered as these are.
 use Rattle.std.proofs.Common.{
   ◌≡◌,
   ℕ,
@@ -32,8 +32,8 @@ use Rattle.std.specs.Ordering.{ordering_then, MatchOrdering}
 use Rattle.std.specs.Cmp.{ranks}
 use Rattle.std.specs.Cmp.Lexicographic.{slice_cmp}
 use Rattle.std.specs.List.{AllByRecursion}
-use Rattle.attribute_index.specs.declared.fronts.Front.{Front}
-use Rattle.attribute_index.specs.Fronts.{IsFront, symbols_of, digit_of, spelled, AreOctets}
+use Rattle.attribute_index.specs.declared.abbreviations.Abbreviation.{Abbreviation}
+use Rattle.attribute_index.specs.Abbreviations.{IsAbbreviation, symbols_of, digit_of, spelled, AreOctets}
 use Rattle.attribute_index.specs.Rows.{value_cmp}
 
 -- ---- numbers
@@ -214,11 +214,11 @@ none_behind n symbols fits zero_is =
     none [] a small h = refl
     none (s ∷ ss) a small h = absurd (omega arith)
 
--- ---- fronts
+-- ---- abbreviations
 
--- fronts are ordered by their first numbers, then by their second, then by their third
-abbrev pub front_cmp : Front → Front → Ordering
-front_cmp f g =
+-- abbreviations are ordered by their first numbers, then by their second, then by their third
+abbrev pub abbreviation_cmp : Abbreviation → Abbreviation → Ordering
+abbreviation_cmp f g =
     ordering_then (nat_cmp f.first g.first)
     (ordering_then (nat_cmp f.second g.second) (nat_cmp f.third g.third))
 
@@ -244,12 +244,12 @@ says_part a b from xs ys x_fits y_fits a_is b_is =
     (n ≡ spelled 7 (drop from ys)) (spelled 7 (drop from ys) < n)) a_is
     (subst (λ (n : ℕ). MatchOrdering (nat_cmp a b) (a < n) (a ≡ n) (n < a)) b_is (ranks a b)))))
 
-module _ (f g : Front) (v w : List ℕ × List ℕ) (left : IsFront f v) (right : IsFront g w) where
+module _ (f g : Abbreviation) (v w : List ℕ × List ℕ) (left : IsAbbreviation f v) (right : IsAbbreviation g w) where
   abbrev behind : List ℕ × List ℕ → List ℕ
   behind value = drop 21 (symbols_of value)
 
-  by_fronts : Says (front_cmp f g) (symbols_of v) (symbols_of w) (behind v) (behind w)
-  by_fronts =
+  by_abbreviations : Says (abbreviation_cmp f g) (symbols_of v) (symbols_of w) (behind v) (behind w)
+  by_abbreviations =
       let xs = symbols_of v in
       let ys = symbols_of w in
       let x_fits = are_symbols v.0 v.1 left.name_octets left.value_octets in
@@ -263,11 +263,11 @@ module _ (f g : Front) (v w : List ℕ × List ℕ) (left : IsFront f v) (right 
       (says_part f.second g.second 7 xs ys x_fits y_fits left.second right.second)
       (says_part f.third g.third 14 xs ys x_fits y_fits left.third right.third))
 
-  -- where fronts differ, values are ordered as they are
-  pub by_fronts_apart : (r : Ordering) → r ≡ front_cmp f g → (r ≡ Equal → ⊥) → r ≡ value_cmp v w
-  by_fronts_apart r is apart =
+  -- where abbreviations differ, values are ordered as they are
+  pub by_abbreviations_apart : (r : Ordering) → r ≡ abbreviation_cmp f g → (r ≡ Equal → ⊥) → r ≡ value_cmp v w
+  by_abbreviations_apart r is apart =
       by r (subst (λ (q : Ordering). Says q (symbols_of v) (symbols_of w) (behind v) (behind w))
-      (sym is) by_fronts) apart ∙ symbols_cmp v.0 v.1 w.0 w.1
+      (sym is) by_abbreviations) apart ∙ symbols_cmp v.0 v.1 w.0 w.1
     where
       by : (q : Ordering) → Says q (symbols_of v) (symbols_of w) (behind v) (behind w)
           → (q ≡ Equal → ⊥) → q ≡ slice_cmp nat_cmp (symbols_of v) (symbols_of w)
@@ -276,17 +276,17 @@ module _ (f g : Front) (v w : List ℕ × List ℕ) (left : IsFront f v) (right 
       by Greater h k = sym h
 
   -- where they are equal, and nothing is left out of them, values are equal
-  pub by_fronts_whole : Equal ≡ front_cmp f g
-      → ((value : List ℕ × List ℕ) → IsFront f value → behind value ≡ []) → Equal ≡ value_cmp v w
-  by_fronts_whole is whole =
+  pub by_abbreviations_whole : Equal ≡ abbreviation_cmp f g
+      → ((value : List ℕ × List ℕ) → IsAbbreviation f value → behind value ≡ []) → Equal ≡ value_cmp v w
+  by_abbreviations_whole is whole =
       let says : slice_cmp nat_cmp (symbols_of v) (symbols_of w)
       ≡ slice_cmp nat_cmp (behind v) (behind w) =
       subst (λ (q : Ordering). Says q (symbols_of v) (symbols_of w) (behind v) (behind w))
-      (sym is) by_fronts in
+      (sym is) by_abbreviations in
       let first = equal_parts (nat_cmp f.first g.first)
       (ordering_then (nat_cmp f.second g.second) (nat_cmp f.third g.third)) (sym is) in
       let second = equal_parts (nat_cmp f.second g.second) (nat_cmp f.third g.third) first.1 in
-      let same : IsFront f w = record {
+      let same : IsAbbreviation f w = record {
         first =
             equal_numbers f.first g.first (nat_cmp f.first g.first) (ranks f.first g.first) first.0
             ∙ right.first;
@@ -315,9 +315,9 @@ module _ (f g : Front) (v w : List ℕ × List ℕ) (left : IsFront f v) (right 
       equal_numbers x y Greater h k = absurd cc
 
 -- where the last digit is 0, nothing is left out
-pub whole_front : (f : Front) (value : List ℕ × List ℕ) → IsFront f value → f.third % 512 ≡ 0
+pub whole_abbreviation : (f : Abbreviation) (value : List ℕ × List ℕ) → IsAbbreviation f value → f.third % 512 ≡ 0
     → drop 21 (symbols_of value) ≡ []
-whole_front f value is h =
+whole_abbreviation f value is h =
     let fits = are_symbols value.0 value.1 is.name_octets is.value_octets in
     sym (drop-drop 7 14 (symbols_of value))
     ∙ none_behind 6 (drop 14 (symbols_of value)) (symbols_behind 14 (symbols_of value) fits)

@@ -1,7 +1,7 @@
 -- Numbers that order most names and values before their texts are looked at.
 use Rattle.std.specs.Prelude.{◌≡◌, ℕ, zero, suc, ◌+◌, ◌*◌, ◌<◌, List, [], ◌∷◌, ◌++◌, map, drop}
 use Rattle.std.specs.List.{AllByRecursion}
-use Rattle.attribute_index.specs.declared.fronts.Front.{Front}
+use Rattle.attribute_index.specs.declared.abbreviations.Abbreviation.{Abbreviation}
 
 -- a name and a value as one list of symbols: an octet is its number and one more, and 0 stands
 -- between the two
@@ -22,10 +22,10 @@ spelled (suc n) symbols = spelled n symbols * 512 + digit_of (drop n symbols)
 abbrev pub AreOctets : List ℕ → Type 0
 AreOctets text = AllByRecursion (λ octet. octet < 256) text
 
--- the front's numbers spell the first 21 symbols of the name and the value
-pub record IsFront (front : Front) (value : List ℕ × List ℕ) : Type 0 where
-  pub first : front.first ≡ spelled 7 (symbols_of value)
-  pub second : front.second ≡ spelled 7 (drop 7 (symbols_of value))
-  pub third : front.third ≡ spelled 7 (drop 14 (symbols_of value))
+-- the abbreviation's numbers spell the first 21 symbols of the name and the value
+pub record IsAbbreviation (abbreviation : Abbreviation) (value : List ℕ × List ℕ) : Type 0 where
+  pub first : abbreviation.first ≡ spelled 7 (symbols_of value)
+  pub second : abbreviation.second ≡ spelled 7 (drop 7 (symbols_of value))
+  pub third : abbreviation.third ≡ spelled 7 (drop 14 (symbols_of value))
   pub name_octets : AreOctets value.0
   pub value_octets : AreOctets value.1
